@@ -1,6 +1,6 @@
--- What was read before a service was opened changes nothing of how its session ended.
-use Rattle.std.proofs.Common.{◌≡◌, ◌∙◌, ℕ, ◌+◌, ◌≤◌, List, [], ◌∷◌, length, Bool, true, false, if◌then◌else◌, IsTrue, Option, Some, None, inl, inr, refl, sym, ap, subst, arith}
-use Rattle.std.specs.Prelude.{◌⊎◌, IfSome}
+-- What was read before a service was opened changes nothing of how it ended.
+use Rattle.std.proofs.Common.{◌≡◌, ◌∙◌, ℕ, List, Bool, true, false, if◌then◌else◌, IsTrue, inl, inr, refl, sym, ap, subst, arith}
+use Rattle.std.specs.Prelude.{◌⊎◌}
 use Rattle.cc_disk.specs.Images.{OnlyReads}
 use Rattle.cc_library.specs.Answers.{OpenFaults}
 use Rattle.cc_library.specs.Apply.{Units}
@@ -21,7 +21,7 @@ use Rattle.cc_service.specs.Serving.{IsNotEnded, IsNotOpened}
 use Rattle.cc_service.specs.declared.fault.BookFault.{BookFault}
 use Rattle.cc_service.specs.declared.fault.ServiceFault.{ServiceFault}
 use Rattle.cc_service.specs.declared.fault.ServiceFault.TheVariants as service
-use Rattle.cc_session.specs.Session.{EndsSince, HaveCalled, IsEnded, IsLeft, IsUnopened, SessionEnds, told_after}
+use Rattle.cc_session.specs.Session.{EndsSince, IsEnded, IsLeft, IsUnopened, ServiceEnds, told_after}
 use Rattle.cc_session.specs.declared.end.SessionEnd.{SessionEnd}
 use Rattle.cc_session.specs.declared.end.SessionEnd.TheVariants.{Finished, Fault}
 
@@ -137,34 +137,39 @@ module _ {D : Type 0} (seen : D → List ℕ) (may_leave : D → List ℕ → Ty
     moments = λ t image early left. one.moments t image early (two.moments t image (omega (arith, one.later, early)) left);
   }
 
-  -- how a session ended, said of the disk before it was looked at
-  on_first : (honest : Bool) (failures : D → ℕ) (script now : Option (List ℕ)) (from : ℕ) (begins : List ℕ → Type 0) (a b : D) (left : Option D) (end : SessionEnd)
-      → now ≡ script → failures b ≡ failures a → (IsTrue honest → OnlyReads seen may_leave moment left_since a b)
-      → EndsSince honest seen may_leave moment left_since failures from begins now b left end
-      → EndsSince honest seen may_leave moment left_since failures from begins script a left end
-  on_first honest failures script now from begins a b None end heard sound reads it = absurd it
-  on_first honest failures script now from begins a b (Some d) end heard sound reads (inl (unopened, later)) =
+  -- how a service ended, said of the disk before it was looked at
+  on_first : (honest : Bool) (failures : D → ℕ) (from : ℕ) (begins : List ℕ → Type 0) (Untouched : Type 0) (HaveDone : List Holder → SessionEnd → Type 0) (a b after : D) (end : SessionEnd)
+      → failures b ≡ failures a → (IsTrue honest → OnlyReads seen may_leave moment left_since a b)
+      → EndsSince honest seen may_leave moment left_since failures from begins Untouched HaveDone b after end
+      → EndsSince honest seen may_leave moment left_since failures from begins Untouched HaveDone a after end
+  on_first honest failures from begins Untouched HaveDone a b after end sound reads (inl (unopened, later, untouched)) =
       inl (
-        subst (λ (n : ℕ). IsUnopened honest (seen a) n (failures d) end) sound
-            (unopened_on honest (seen a) (seen b) (failures b) (failures d) end (λ h. (reads h).same) unopened),
-        λ h. reads_on a b d (reads h) (later h),
+        subst (λ (n : ℕ). IsUnopened honest (seen a) n (failures after) end) sound
+            (unopened_on honest (seen a) (seen b) (failures b) (failures after) end (λ h. (reads h).same) unopened),
+        λ h. reads_on a b after (reads h) (later h),
+        untouched,
       )
-  on_first honest failures script now from begins a b (Some d) end heard sound reads (inr ended) =
-      inr (
-        ended.0,
-        ended.1,
-        subst (λ (o : Option (List ℕ)). HaveCalled o ended.0 ended.1) heard ended.2,
-        ended_on honest (seen a) (seen b) may_leave left_since from begins ended.0 ended.1 end d (λ h. (reads h).same) ended.3,
-      )
+  on_first honest failures from begins Untouched HaveDone a b after end sound reads (inr ended) =
+      inr (ended.0, ended.1, ended.2, ended_on honest (seen a) (seen b) may_leave left_since from begins ended.0 ended.1 end after (λ h. (reads h).same) ended.3)
 
   -- the disk as it was at the beginning
-  pub ends_on : (honest : Bool) (failures : D → ℕ) (script now : Option (List ℕ)) (first a b : D) (left : Option D) (end : SessionEnd)
-      → first ≡ a → now ≡ script → failures b ≡ failures a → (IsTrue honest → OnlyReads seen may_leave moment left_since a b)
-      → EndsSince honest seen may_leave moment left_since failures (moment first) (may_leave first) now b left end
-      → SessionEnds honest seen may_leave moment left_since failures script a left end
-  ends_on honest failures script now first a b left end is heard sound reads it =
-      subst (λ (d : D). EndsSince honest seen may_leave moment left_since failures (moment d) (may_leave d) script a left end) is
-      (on_first honest failures script now (moment first) (may_leave first) a b left end heard sound reads it)
+  pub ends_on : (honest : Bool) (failures : D → ℕ) (Untouched : Type 0) (HaveDone : List Holder → SessionEnd → Type 0) (first a b after : D) (end : SessionEnd)
+      → first ≡ a → failures b ≡ failures a → (IsTrue honest → OnlyReads seen may_leave moment left_since a b)
+      → EndsSince honest seen may_leave moment left_since failures (moment first) (may_leave first) Untouched HaveDone b after end
+      → ServiceEnds honest seen may_leave moment left_since failures Untouched HaveDone a after end
+  ends_on honest failures Untouched HaveDone first a b after end is sound reads it =
+      subst (λ (d : D). EndsSince honest seen may_leave moment left_since failures (moment d) (may_leave d) Untouched HaveDone a after end) is
+      (on_first honest failures (moment first) (may_leave first) Untouched HaveDone a b after end sound reads it)
+
+  -- none was opened, for this reason, which is told
+  pub unserved_by : (honest : Bool) (failures : D → ℕ) (from : ℕ) (begins : List ℕ → Type 0) (Untouched : Type 0) (HaveDone : List Holder → SessionEnd → Type 0) (base : Units)
+      (fault : ServiceFault) (a b after : D) (end : SessionEnd) → after ≡ b → end ≡ Fault (fault_number fault) → IsNotOpened honest (seen a) base (failures a) (failures b) fault
+      → (IsTrue honest → OnlyReads seen may_leave moment left_since a b) → Untouched
+      → EndsSince honest seen may_leave moment left_since failures from begins Untouched HaveDone a after end
+  unserved_by honest failures from begins Untouched HaveDone base fault a b after end is told why reads untouched =
+      subst (λ (d : D). EndsSince honest seen may_leave moment left_since failures from begins Untouched HaveDone a d end) (sym is)
+      (subst (λ (e : SessionEnd). EndsSince honest seen may_leave moment left_since failures from begins Untouched HaveDone a b e) (sym told)
+      (inl ((base, fault, refl, why), reads, untouched)))
 
   -- what a crash may have left at its beginning
   pub past_at : (first a b : D) → ((image : List ℕ) → left_since a (moment a) image → may_leave a image) → first ≡ a → OnlyReads seen may_leave moment left_since a b

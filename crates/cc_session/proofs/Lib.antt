@@ -5,3 +5,4 @@ pub mod Lines
 pub mod Obeying
 pub mod Playing
 pub mod Putting
+pub mod Spooling

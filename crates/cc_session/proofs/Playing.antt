@@ -1,8 +1,7 @@
 -- What is known of the rest of a script is carried from step to step.
-use Rattle.std.proofs.Common.{◌≡◌, ◌∙◌, ℕ, ◌+◌, ◌<◌, ◌≤◌, Bool, true, false, List, [], ◌∷◌, ◌++◌, length, take, Option, Some, None, Result, Ok, Err, Vec, Global, refl, sym, ap, subst, append_assoc, arith, inl, inr}
-use Rattle.std.specs.Prelude.{◌⊎◌, ◌≢◌, All, IfErr, IfSome, OnOk, nat_le}
+use Rattle.std.proofs.Common.{◌≡◌, ◌∙◌, ℕ, ◌+◌, ◌<◌, ◌≤◌, Bool, true, false, List, [], ◌∷◌, ◌++◌, length, Option, Some, None, Result, Ok, Err, Vec, Global, refl, sym, ap, subst, append_assoc, arith, inl, inr}
+use Rattle.std.specs.Prelude.{◌⊎◌, ◌≢◌, All, IfErr, IfSome, OnOk}
 use Rattle.std.specs.Option.{option_map}
-use Rattle.std.proofs.lemmas.Grind.{common_steps}
 use Rattle.std.proofs.lemmas.List.{length-append}
 use Rattle.std.proofs.lemmas.List.Elements.{All-append}
 use Rattle.std.proofs.lemmas.Bool.Decides.{nat_tests}
@@ -10,9 +9,10 @@ use Rattle.cc_script.specs.Line.{Asked, asked_of}
 use Rattle.cc_script.specs.Reading.{Ahead, Between, HasMore, IsLine, IsLineEnd, IsNext, IsNoSource, IsNotRead, IsRead, IsSource, Known, rest_from}
 use Rattle.cc_script.specs.declared.fault.ScriptFault.{ScriptFault}
 use Rattle.cc_script.specs.declared.fault.ScriptFault.TheVariants.{BadLine, EndOfScript, ScriptTooLong, ReadFault, WriteFault}
-use Rattle.cc_script.specs.declared.script.Next.TheVariants.{TooLong}
+use Rattle.cc_script.specs.declared.script.Next.{Next}
+use Rattle.cc_script.specs.declared.script.Next.TheVariants.{End, Line, TooLong}
 use Rattle.cc_history.specs.History.{Holder}
-use Rattle.cc_session.specs.Playing.{IsPlayed, IsPlayedInPart, IsStep, IsTooLong, Obeys, Plays, Turn, asked_by_line}
+use Rattle.cc_session.specs.Playing.{IsPlayed, IsPlayedInPart, IsStep, IsWithin, Obeys, Plays, Turn, asked_by_line}
 use Rattle.cc_session.specs.internal.Steps.{HasSent, IsDone, IsNotDone, IsSentAs, IsShortOf}
 use Rattle.cc_session.specs.declared.talk.Sent.{Sent}
 
@@ -101,8 +101,8 @@ pub more_before : (x y : Ahead) (P : List ℕ → List ℕ → Type 0) → Betwe
 more_before x y P one more = more_read x.rest y.rest x.left y.left P one more
 
 -- so the script is too long
-pub too_long : (x : Ahead) → x.left ≡ 16777216 → HasMore x → IfSome x.rest IsTooLong
-too_long x whole more = known_map x.rest (λ b. x.left < length b) IsTooLong more (λ b few. omega (arith, whole, few))
+pub too_long : (x : Ahead) → x.left ≡ 16777216 → HasMore x → IfSome x.rest (λ b. 16777216 < length b)
+too_long x whole more = known_map x.rest (λ b. x.left < length b) (λ b. 16777216 < length b) more (λ b few. omega (arith, whole, few))
 
 -- ---- whether a step was done
 
@@ -197,17 +197,27 @@ plays_on before old [] between client after new it step =
 plays_on before old (turn ∷ turns) between client after new it step = (it.0, plays_on turn.rest turn.client turns between client after new it.1 step)
 
 -- the whole script
-pub played : (script : List ℕ) (first : Holder) (turns : List Turn) (rest : List ℕ) (last : Holder) → Plays script first turns rest last → rest ≡ [] → IsPlayed script first last
-played script first turns rest last plays over = record { turns = turns; plays = subst (λ (l : List ℕ). Plays script first turns l last) over plays }
-
--- a prefix of it, and nothing of the next step
-pub played_before : (script : List ℕ) (first : Holder) (turns : List Turn) (rest : List ℕ) (last : Holder) → Plays script first turns rest last → IsPlayedInPart script first last
-played_before script first turns rest last plays = record { turns = turns; rest = rest; client = last; plays = plays; then_is = inl refl }
+pub played : (most : Option ℕ) (script : List ℕ) (first : Holder) (turns : List Turn) (rest : List ℕ) (last : Holder) → IsWithin most (length turns)
+    → Plays script first turns rest last → rest ≡ [] → IsPlayed most script first last
+played most script first turns rest last few plays over =
+    record { turns = turns; few = few; plays = subst (λ (l : List ℕ). Plays script first turns l last) over plays }
 
 -- a prefix of it, and perhaps the next step
-pub played_up_to : (script : List ℕ) (first : Holder) (turns : List Turn) (rest : List ℕ) (client last : Holder) → Plays script first turns rest client
-    → (last ≡ client) ⊎ ((after : List ℕ) × IsStep rest after client last) → IsPlayedInPart script first last
-played_up_to script first turns rest client last plays it = record { turns = turns; rest = rest; client = client; plays = plays; then_is = it }
+pub played_up_to : (most : Option ℕ) (script : List ℕ) (first : Holder) (turns : List Turn) (rest : List ℕ) (client last : Holder) → IsWithin most (length turns)
+    → Plays script first turns rest client → (last ≡ client) ⊎ (IsWithin most (length turns + 1) × (after : List ℕ) × IsStep rest after client last) → IsPlayedInPart most script first last
+played_up_to most script first turns rest client last few plays it = record { turns = turns; few = few; rest = rest; client = client; plays = plays; then_is = it }
+
+-- a line is there, where one came
+line_left : (before after line : List ℕ) (next : Next) → IsNext before next line after → next ≢ End → before ≢ []
+line_left before after line End is other = absurd (other refl)
+line_left before after line (Line n) is other = is.0
+line_left before after line TooLong is other = λ none.
+    let both = length-append is.0 after in
+    let whole = ap (λ (l : List ℕ). length l) (sym is.1 ∙ none) in
+    absurd (omega (arith, both, whole, is.2))
+
+pub some_left : (x y : Ahead) (next : Next) (line : List ℕ) → Between x y (λ b a. IsNext b next line a) → next ≢ End → IfSome x.rest (λ b. b ≢ [])
+some_left x y next line it other = known_by x y (λ b a. IsNext b next line a) (λ b. b ≢ []) it (λ b a is. line_left b a line next is other)
 
 -- ---- lines that are refused, and sources
 

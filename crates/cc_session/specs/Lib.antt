@@ -2,5 +2,7 @@
 pub mod Playing
 -- How sessions end.
 pub mod Session
+-- Many clients, each with the scripts that its spool gives.
+pub mod Spooling
 -- What only private contracts speak of.
 pub mod internal

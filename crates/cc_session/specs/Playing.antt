@@ -1,5 +1,5 @@
 -- What a script is to the client that does it: line by line a call of the service, and what its answer makes of the client.
-use Rattle.std.specs.Prelude.{◌≡◌, ◌⊎◌, ◌<◌, ℕ, Bool, true, false, List, [], ◌∷◌, ◌++◌, length, take, nat_le, if◌then◌else◌, Option, Some, None, Result, Ok, Err}
+use Rattle.std.specs.Prelude.{◌≡◌, ◌≢◌, ◌⊎◌, ◌+◌, ◌<◌, ◌≤◌, ℕ, Bool, true, false, List, [], ◌∷◌, ◌++◌, length, take, nat_le, if◌then◌else◌, Option, Some, None, IfSome, Result, Ok, Err}
 use Rattle.cc_script.specs.Line.{Asked, Add, Replace, Withdraw, Names, Run, Compact, Audit, asked_of}
 use Rattle.cc_script.specs.Reading.{IsLine}
 use Rattle.cc_script.specs.declared.fault.ScriptFault.{ScriptFault}
@@ -81,18 +81,25 @@ abbrev pub Plays : (before : List ℕ) (old : Holder) → List Turn → (after :
 Plays before old [] after new = (after ≡ before) × (new ≡ old)
 Plays before old (turn ∷ turns) after new = IsStep before turn.rest old turn.client × Plays turn.rest turn.client turns after new
 
+-- no more lines than the bound, where there is one
+abbrev pub IsWithin : (most : Option ℕ) (lines : ℕ) → Type 0
+IsWithin None lines = Unit {0}
+IsWithin (Some most) lines = lines ≤ most
+
 -- the whole script is done
-pub record IsPlayed (script : List ℕ) (first last : Holder) : Type 0 where
+pub record IsPlayed (most : Option ℕ) (script : List ℕ) (first last : Holder) : Type 0 where
   pub turns : List Turn
+  pub few : IsWithin most (length turns)
   pub plays : Plays script first turns [] last
 
 -- a prefix of it is done; of the step behind it perhaps the call, whose answer could not be written (of an audit the calls up to such a one)
-pub record IsPlayedInPart (script : List ℕ) (first last : Holder) : Type 0 where
+pub record IsPlayedInPart (most : Option ℕ) (script : List ℕ) (first last : Holder) : Type 0 where
   pub turns : List Turn
+  pub few : IsWithin most (length turns)
   pub rest : List ℕ
   pub client : Holder
   pub plays : Plays script first turns rest client
-  pub then_is : (last ≡ client) ⊎ ((after : List ℕ) × IsStep rest after client last)
+  pub then_is : (last ≡ client) ⊎ (IsWithin most (length turns + 1) × (after : List ℕ) × IsStep rest after client last)
 
 -- ---- scripts that a fault ends
 
@@ -109,16 +116,18 @@ pub record EndsInSource (before : List ℕ) : Type 0 where
   pub is_line : IsLine before line rest
   pub short : IsCutShort (asked_by_line line) rest
 
--- why 52: the script has more bytes than it may have
-abbrev pub IsTooLong : (script : List ℕ) → Type 0
-IsTooLong script = 16777216 < length script
+-- Why 52: the script has more bytes than it may have; or, where there is a bound on its lines, so many are done, and more of it is left.
+abbrev pub IsTooLong : (most : Option ℕ) (script : List ℕ) (lines : ℕ) (rest : List ℕ) → Type 0
+IsTooLong None script lines rest = 16777216 < length script
+IsTooLong (Some most) script lines rest = (16777216 < length script) ⊎ ((lines ≡ most) × (rest ≢ []))
 
--- a prefix of the script is done and nothing of what is behind it, of which this holds
-pub record IsPlayedUpTo (script : List ℕ) (Stops : (rest : List ℕ) → Type 0) (first last : Holder) : Type 0 where
+-- a prefix of the script is done and nothing of what is behind it; `Stops` holds of the number of lines done and of what is left
+pub record IsPlayedUpTo (most : Option ℕ) (script : List ℕ) (Stops : (lines : ℕ) (rest : List ℕ) → Type 0) (first last : Holder) : Type 0 where
   pub turns : List Turn
+  pub few : IsWithin most (length turns)
   pub rest : List ℕ
   pub plays : Plays script first turns rest last
-  pub stops : Stops rest
+  pub stops : Stops (length turns) rest
 
 -- the faults that end a script: 51 to 54
 abbrev pub IsEnding : ScriptFault → Type 0
@@ -127,9 +136,20 @@ IsEnding fault = Unit {0}
 
 -- How far a script was done that such a fault ended. That it could not be read, 53, or that an answer could not be written, 54, is known to
 -- its reader and its writer alone.
-abbrev pub IsStoppedBy : ScriptFault → (script : List ℕ) (first last : Holder) → Type 0
-IsStoppedBy BadLine script first last = ⊥
-IsStoppedBy EndOfScript script first last = IsPlayedUpTo script EndsInSource first last
-IsStoppedBy ScriptTooLong script first last = IsTooLong script × IsPlayedUpTo script (λ rest. Unit {0}) first last
-IsStoppedBy ReadFault script first last = IsPlayedUpTo script (λ rest. Unit {0}) first last
-IsStoppedBy WriteFault script first last = IsPlayedInPart script first last
+abbrev pub IsStoppedBy : (most : Option ℕ) → ScriptFault → (script : List ℕ) (first last : Holder) → Type 0
+IsStoppedBy most BadLine script first last = ⊥
+IsStoppedBy most EndOfScript script first last = IsPlayedUpTo most script (λ lines rest. IsWithin most (lines + 1) × EndsInSource rest) first last
+IsStoppedBy most ScriptTooLong script first last = IsPlayedUpTo most script (IsTooLong most script) first last
+IsStoppedBy most ReadFault script first last = IsPlayedUpTo most script (λ lines rest. Unit {0}) first last
+IsStoppedBy most WriteFault script first last = IsPlayedInPart most script first last
+
+-- ---- scripts whose bytes are known to their readers
+
+-- a fault that ends scripts ended it, and it is done as far as that says
+abbrev pub IsStopped : (most : Option ℕ) (script : Option (List ℕ)) (old new : Holder) → ScriptFault → Type 0
+IsStopped most script old new fault = IsEnding fault × IfSome script (λ bytes. IsStoppedBy most fault bytes old new)
+
+-- it is done whole; or a fault ended it, and it is done as far as that says
+abbrev pub IsPlayedBy : {T : Type 0} → (most : Option ℕ) (script : Option (List ℕ)) (old new : Holder) → Result T ScriptFault → Type 0
+IsPlayedBy most script old new (Ok done) = IfSome script (λ bytes. IsPlayed most bytes old new)
+IsPlayedBy most script old new (Err fault) = IsStopped most script old new fault

@@ -1,5 +1,5 @@
 -- How sessions end, and what a crash leaves of their disks.
-use Rattle.std.specs.Prelude.{◌≡◌, ◌⊎◌, ◌≤◌, ℕ, Bool, IsTrue, List, [], ◌∷◌, Option, Some, None, IfSome}
+use Rattle.std.specs.Prelude.{◌≡◌, ◌⊎◌, ℕ, Bool, IsTrue, List, [], ◌∷◌, Option, Some, None, IfSome}
 use Rattle.cc_disk.specs.Images.{OnlyReads}
 use Rattle.cc_library.specs.Apply.{Units}
 use Rattle.cc_library.specs.Recovered.{Recovers}
@@ -34,17 +34,17 @@ pub record HasCalled (script : Option (List ℕ)) (clients : List Holder) (Plays
 -- How the script of a session ended, and what it made of the clients: it was done; or the service has no client for it, 30; or one of 51 to 54
 -- ended it.
 abbrev pub HaveCalled : (script : Option (List ℕ)) (clients : List Holder) → (played : SessionEnd) → Type 0
-HaveCalled script clients Finished = HasCalled script clients IsPlayed
+HaveCalled script clients Finished = HasCalled script clients (IsPlayed None)
 HaveCalled script clients (Fault number) =
     ((number ≡ 30) × (clients ≡ []))
-    ⊎ ((fault : ScriptFault) × IsEnding fault × (number ≡ faults.fault_number fault) × HasCalled script clients (IsStoppedBy fault))
+    ⊎ ((fault : ScriptFault) × IsEnding fault × (number ≡ faults.fault_number fault) × HasCalled script clients (IsStoppedBy None fault))
 
--- what is told where the service's end is refused by this number: the fault that ended the script, where one did, else the number
+-- what is told where the service's end is refused by this number: the fault that ended the clients' work, where one did, else the number
 abbrev pub told_after : (number : ℕ) → (played : SessionEnd) → SessionEnd
 told_after number Finished = Fault number
 told_after number (Fault first) = Fault first
 
--- What is left of a session whose service was opened: its library, with the history of its calls, from the map on to which the bytes recover.
+-- What is left of a service that was opened: its library, with the history of its calls, from the map on to which the bytes recover.
 -- Its clients have receipts of their own calls, in their order, and this holds of the history and of them.
 -- Whatever a crash then leaves of the disk recovers to that library's map, or to that with or without the change in which the device failed: so
 -- it holds each change that was acknowledged, in order. Whatever one left since this moment it left before the opening, or it recovers to the
@@ -59,33 +59,41 @@ pub record IsLeft {D : Type 0} (honest : Bool) (bytes : List ℕ) (may_leave : D
   pub own : AreOwn clients
   pub holds : Holds book.history clients
 
--- A service of these clients was ended: all their receipts stand in the history, and it has no other entries. How the script ended is told; or
--- 40, where it was done and the service had no memory to end.
--- Or it was given up: a receipt does not stand in the history, or that has more entries. How the script ended is told, where a fault ended it;
--- else 39, or 40 where there was no memory to see that.
+-- A service of these clients, whose work ended so (a session's script), was ended: all their receipts stand in the history, and it has no other
+-- entries. How the work ended is told; or 40, where it was done and the service had no memory to end.
+-- Or it was given up: a receipt does not stand in the history, or that has more entries, or two clients have one number. How the work ended is
+-- told, where a fault ended it; else 39, or 40 where there was no memory to see that.
 abbrev pub IsEnded : {D : Type 0} (honest : Bool) (bytes : List ℕ) (may_leave : D → List ℕ → Type 0) (left_since : D → ℕ → List ℕ → Type 0) (from : ℕ) (left : List ℕ → Type 0)
     (clients : List Holder) (played end : SessionEnd) (after : D) → Type 0
 IsEnded honest bytes may_leave left_since from left clients played end after =
     (((end ≡ played) ⊎ (end ≡ told_after 40 played)) × IsLeft honest bytes may_leave left_since from left IsClosed clients after)
     ⊎ (((end ≡ told_after 39 played) ⊎ (end ≡ told_after 40 played)) × IsLeft honest bytes may_leave left_since from left IsNotWhole clients after)
 
--- so of the client that the script made, which ended in some way
+-- so of clients that worked so, by how their work ended
 abbrev pub HasEnded : {D : Type 0} (honest : Bool) (bytes : List ℕ) (may_leave : D → List ℕ → Type 0) (left_since : D → ℕ → List ℕ → Type 0) (from : ℕ) (left : List ℕ → Type 0)
-    (script : Option (List ℕ)) → SessionEnd → (after : D) → Type 0
-HasEnded honest bytes may_leave left_since from left script end after =
-    (clients : List Holder) × (played : SessionEnd) × HaveCalled script clients played × IsEnded honest bytes may_leave left_since from left clients played end after
+    (Worked : (clients : List Holder) (played : SessionEnd) → Type 0) → SessionEnd → (after : D) → Type 0
+HasEnded honest bytes may_leave left_since from left Worked end after =
+    (clients : List Holder) × (played : SessionEnd) × Worked clients played × IsEnded honest bytes may_leave left_since from left clients played end after
 
--- How a session ends that began with this disk, where until then a crash had left this since a moment; the disk is always handed back. The
--- service was not opened, and then an honest disk was read at most; or it was ended or given up.
+-- How a service ends that began with this disk, where until then a crash had left this since a moment. It was not opened, an honest disk was
+-- read at most, and `Untouched` holds; or it was ended or given up, with clients that worked so.
 abbrev pub EndsSince : {D : Type 0} (honest : Bool) (seen : D → List ℕ) (may_leave : D → List ℕ → Type 0) (moment : D → ℕ)
-    (left_since : D → ℕ → List ℕ → Type 0) (failures : D → ℕ) (from : ℕ) (left : List ℕ → Type 0) (script : Option (List ℕ)) (before : D) → Option D → SessionEnd → Type 0
-EndsSince honest seen may_leave moment left_since failures from left script before None end = ⊥
-EndsSince honest seen may_leave moment left_since failures from left script before (Some after) end =
-    (IsUnopened honest (seen before) (failures before) (failures after) end × (IsTrue honest → OnlyReads seen may_leave moment left_since before after))
-    ⊎ HasEnded honest (seen before) may_leave left_since from left script end after
+    (left_since : D → ℕ → List ℕ → Type 0) (failures : D → ℕ) (from : ℕ) (left : List ℕ → Type 0)
+    (Untouched : Type 0) (Worked : (clients : List Holder) (played : SessionEnd) → Type 0) (before after : D) → SessionEnd → Type 0
+EndsSince honest seen may_leave moment left_since failures from left Untouched Worked before after end =
+    (IsUnopened honest (seen before) (failures before) (failures after) end × (IsTrue honest → OnlyReads seen may_leave moment left_since before after) × Untouched)
+    ⊎ HasEnded honest (seen before) may_leave left_since from left Worked end after
 
--- How a session ends that began with this disk, and what a crash at any moment of it has left, beside what it may have left at its beginning.
+-- so of one that began with this disk, and what a crash at any moment of it has left, beside what it may have left at its beginning
+abbrev pub ServiceEnds : {D : Type 0} (honest : Bool) (seen : D → List ℕ) (may_leave : D → List ℕ → Type 0) (moment : D → ℕ)
+    (left_since : D → ℕ → List ℕ → Type 0) (failures : D → ℕ) (Untouched : Type 0) (Worked : (clients : List Holder) (played : SessionEnd) → Type 0)
+    (before after : D) → SessionEnd → Type 0
+ServiceEnds honest seen may_leave moment left_since failures Untouched Worked before after end =
+    EndsSince honest seen may_leave moment left_since failures (moment before) (may_leave before) Untouched Worked before after end
+
+-- How a session ends that began with this disk: as the service ends whose one client does the script. The disk is always handed back.
 abbrev pub SessionEnds : {D : Type 0} (honest : Bool) (seen : D → List ℕ) (may_leave : D → List ℕ → Type 0) (moment : D → ℕ)
     (left_since : D → ℕ → List ℕ → Type 0) (failures : D → ℕ) (script : Option (List ℕ)) (before : D) → Option D → SessionEnd → Type 0
-SessionEnds honest seen may_leave moment left_since failures script before left end =
-    EndsSince honest seen may_leave moment left_since failures (moment before) (may_leave before) script before left end
+SessionEnds honest seen may_leave moment left_since failures script before None end = ⊥
+SessionEnds honest seen may_leave moment left_since failures script before (Some after) end =
+    ServiceEnds honest seen may_leave moment left_since failures (Unit {0}) (HaveCalled script) before after end

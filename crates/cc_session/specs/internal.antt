@@ -3,3 +3,5 @@
 pub mod Steps
 -- what is said of units that are found
 pub mod Auditing
+-- how a script from a spool ended
+pub mod Ends

@@ -5,8 +5,8 @@ ghost use Rattle.cc_script.specs.Line.{asked_of};
 ghost use Rattle.cc_script.specs.declared.fault.ScriptFault.TheVariants.{WriteFault};
 ghost use Rattle.cc_history.specs.declared.entry.Receipt.{Receipt};
 ghost use Rattle.cc_service.specs.Serving.{Adds, GetAnswers, ListAnswers, PutAnswers, Replaces, WithdrawAnswers};
-ghost use Rattle.cc_session.specs.Playing.{Audits, Calls, FetchesEach, IsCutShort, IsSent, Obeys};
-ghost use Rattle.cc_session.specs.internal.Steps.{IsDone, IsPlayedBy, IsShortOf, asking};
+ghost use Rattle.cc_session.specs.Playing.{Audits, Calls, FetchesEach, IsCutShort, IsPlayedBy, IsSent, Obeys};
+ghost use Rattle.cc_session.specs.internal.Steps.{IsDone, IsShortOf, asking};
 
 use crate::auditing::audit_found;
 use crate::talk::{Sent, Talk};
@@ -19,54 +19,46 @@ use std::alloc::Global;
 use std::io::{Read, Write};
 use std::sync::Wait;
 
-// A client of a service.
+// What the clients of a service call it with.
 #[derive(Drop)]
 pub(crate) struct Caller<'a, N: Named, H, D: Disk> {
     pub(crate) rt: &'a H,
     pub(crate) alloc: Global,
     pub(crate) service: &'a Service<N, D>,
-    pub(crate) client: Client<N>,
 }
 
 impl<'a, N: Named + Send + Sync + 'static, H: Wait, D: Disk> Caller<'a, N, H, D> {
-    // The client, which makes no more calls here.
-    pub(crate) fn into_client(self) -> Client<N>
-        ensures { result ≡ self.entry.client }
-    {
-        self.client
-    }
-
     fn add<R: Read, W: Write, E: Write>(
-        &mut self,
+        &self,
+        client: &mut Client<N>,
         talk: &mut Talk<R, W, E>,
         name: &[u8],
         source: &[u8],
     ) -> Result<(), ScriptFault>
         ensures ending { IfErr result (λ fault. fault ≡ WriteFault) }
         ensures rest { talk.new ≡ talk.old }
-        ensures called { Calls (PutAnswers (Adds name.now source.now) name.now source.now self.old.client.holder self.new.client.holder) }
+        ensures called { Calls (PutAnswers (Adds name.now source.now) name.now source.now client.old.holder client.new.holder) }
     {
-        let answer = self
-            .service
-            .add(self.rt, self.alloc, &mut self.client, name, source);
+        let answer = self.service.add(self.rt, self.alloc, client, name, source);
         let told = talk.tell_change(self.alloc, &answer, source);
         drop(answer);
         told
     }
 
     fn replace<R: Read, W: Write, E: Write>(
-        &mut self,
+        &self,
+        client: &mut Client<N>,
         talk: &mut Talk<R, W, E>,
         name: &[u8],
         source: &[u8],
     ) -> Result<(), ScriptFault>
         ensures ending { IfErr result (λ fault. fault ≡ WriteFault) }
         ensures rest { talk.new ≡ talk.old }
-        ensures called { Calls (PutAnswers (Replaces name.now source.now) name.now source.now self.old.client.holder self.new.client.holder) }
+        ensures called { Calls (PutAnswers (Replaces name.now source.now) name.now source.now client.old.holder client.new.holder) }
     {
         let answer = self
             .service
-            .replace(self.rt, self.alloc, &mut self.client, name, source);
+            .replace(self.rt, self.alloc, client, name, source);
         let told = talk.tell_change(self.alloc, &answer, source);
         drop(answer);
         told
@@ -74,21 +66,22 @@ impl<'a, N: Named + Send + Sync + 'static, H: Wait, D: Disk> Caller<'a, N, H, D>
 
     // Adds or replaces a unit whose source comes next.
     fn put<R: Read, W: Write, E: Write>(
-        &mut self,
+        &self,
+        client: &mut Client<N>,
         talk: &mut Talk<R, W, E>,
         name: &[u8],
         length: usize,
         is_new: bool,
     ) -> Result<(), ScriptFault>
         ensures { IsDone (λ before after old new. IsSent (asking is_new) name.now length before after old new) (IsShortOf length) talk.old talk.new
-            self.old.client.holder self.new.client.holder result }
+            client.old.holder client.new.holder result }
     {
         match talk.source(self.alloc, length)? {
             Sent::Source(source) => {
                 let told = if is_new {
-                    self.add(talk, name, source.as_slice())
+                    self.add(client, talk, name, source.as_slice())
                 } else {
-                    self.replace(talk, name, source.as_slice())
+                    self.replace(client, talk, name, source.as_slice())
                 };
                 drop(source);
                 told
@@ -99,31 +92,31 @@ impl<'a, N: Named + Send + Sync + 'static, H: Wait, D: Disk> Caller<'a, N, H, D>
     }
 
     fn withdraw<R: Read, W: Write, E: Write>(
-        &mut self,
+        &self,
+        client: &mut Client<N>,
         talk: &mut Talk<R, W, E>,
         name: &[u8],
     ) -> Result<(), ScriptFault>
         ensures ending { IfErr result (λ fault. fault ≡ WriteFault) }
         ensures rest { talk.new ≡ talk.old }
-        ensures called { Calls (WithdrawAnswers name.now self.old.client.holder self.new.client.holder) }
+        ensures called { Calls (WithdrawAnswers name.now client.old.holder client.new.holder) }
     {
-        let answer = self
-            .service
-            .withdraw(self.rt, self.alloc, &mut self.client, name);
+        let answer = self.service.withdraw(self.rt, self.alloc, client, name);
         let told = talk.tell_change(self.alloc, &answer, &[]);
         drop(answer);
         told
     }
 
     fn list<R: Read, W: Write, E: Write>(
-        &mut self,
+        &self,
+        client: &mut Client<N>,
         talk: &mut Talk<R, W, E>,
     ) -> Result<(), ScriptFault>
         ensures ending { IfErr result (λ fault. fault ≡ WriteFault) }
         ensures rest { talk.new ≡ talk.old }
-        ensures called { Calls (ListAnswers self.old.client.holder self.new.client.holder) }
+        ensures called { Calls (ListAnswers client.old.holder client.new.holder) }
     {
-        let answer = self.service.list(self.rt, self.alloc, &mut self.client);
+        let answer = self.service.list(self.rt, self.alloc, client);
         let told = match &answer {
             Ok(listing) => talk.tell_names(listing),
             Err(fault) => talk.tell_refusal(self.alloc, fault, &[]),
@@ -150,18 +143,17 @@ impl<'a, N: Named + Send + Sync + 'static, H: Wait, D: Disk> Caller<'a, N, H, D>
 
     // Runs the image of a name's unit.
     fn run<R: Read, W: Write, E: Write>(
-        &mut self,
+        &self,
+        client: &mut Client<N>,
         talk: &mut Talk<R, W, E>,
         name: &[u8],
         steps: u64,
     ) -> Result<(), ScriptFault>
         ensures ending { IfErr result (λ fault. fault ≡ WriteFault) }
         ensures rest { talk.new ≡ talk.old }
-        ensures called { Calls (GetAnswers name.now self.old.client.holder self.new.client.holder) }
+        ensures called { Calls (GetAnswers name.now client.old.holder client.new.holder) }
     {
-        let answer = self
-            .service
-            .get(self.rt, self.alloc, &mut self.client, name);
+        let answer = self.service.get(self.rt, self.alloc, client, name);
         let told = match &answer {
             Ok(found) => self.run_found(talk, found, steps),
             Err(fault) => talk.tell_refusal(self.alloc, fault, &[]),
@@ -171,12 +163,11 @@ impl<'a, N: Named + Send + Sync + 'static, H: Wait, D: Disk> Caller<'a, N, H, D>
     }
 
     fn compact<R: Read, W: Write, E: Write>(
-        &mut self,
+        &self,
         talk: &mut Talk<R, W, E>,
     ) -> Result<(), ScriptFault>
         ensures ending { IfErr result (λ fault. fault ≡ WriteFault) }
         ensures rest { talk.new ≡ talk.old }
-        ensures client { self.new.client.holder ≡ self.old.client.holder }
     {
         let answer = self.service.compact(self.rt, self.alloc);
         let told = talk.tell_done(self.alloc, &answer);
@@ -208,18 +199,17 @@ impl<'a, N: Named + Send + Sync + 'static, H: Wait, D: Disk> Caller<'a, N, H, D>
 
     // Audits the unit of a name: whether it was found and the audit said anything.
     fn audit_name<R: Read, W: Write, E: Write>(
-        &mut self,
+        &self,
+        client: &mut Client<N>,
         talk: &mut Talk<R, W, E>,
         name: &[u8],
     ) -> Result<bool, ScriptFault>
         ensures ending { IfErr result (λ fault. fault ≡ WriteFault) }
         ensures rest { talk.new ≡ talk.old }
-        ensures called { Calls (GetAnswers name.now self.old.client.holder self.new.client.holder) }
-        ensures found { IfOk result (λ is_audited. IsTrue is_audited → (receipt : Receipt) × GetAnswers name.now self.old.client.holder self.new.client.holder (Ok receipt)) }
+        ensures called { Calls (GetAnswers name.now client.old.holder client.new.holder) }
+        ensures found { IfOk result (λ is_audited. IsTrue is_audited → (receipt : Receipt) × GetAnswers name.now client.old.holder client.new.holder (Ok receipt)) }
     {
-        let answer = self
-            .service
-            .get(self.rt, self.alloc, &mut self.client, name);
+        let answer = self.service.get(self.rt, self.alloc, client, name);
         let told = match &answer {
             Ok(found) => self.tell_audit(talk, name, found),
             Err(fault) => match talk.tell_refusal(self.alloc, fault, &[]) {
@@ -233,17 +223,18 @@ impl<'a, N: Named + Send + Sync + 'static, H: Wait, D: Disk> Caller<'a, N, H, D>
 
     // Audits the units of these names, up to the first that is not found or whose audit says nothing: whether none was.
     fn audit_names<R: Read, W: Write, E: Write>(
-        &mut self,
+        &self,
+        client: &mut Client<N>,
         talk: &mut Talk<R, W, E>,
         names: &[Name],
     ) -> Result<bool, ScriptFault>
         ensures ending { IfErr result (λ fault. fault ≡ WriteFault) }
         ensures rest { talk.new ≡ talk.old }
-        ensures whole { IfOk result (λ all. FetchesEach names.now all self.old.client.holder self.new.client.holder) }
-        ensures part { IfErr result (λ fault. FetchesEach names.now false self.old.client.holder self.new.client.holder) }
+        ensures whole { IfOk result (λ all. FetchesEach names.now all client.old.holder client.new.holder) }
+        ensures part { IfErr result (λ fault. FetchesEach names.now false client.old.holder client.new.holder) }
     {
         for name in names {
-            if !self.audit_name(talk, name.bytes())? {
+            if !self.audit_name(client, talk, name.bytes())? {
                 return Ok(false);
             }
         }
@@ -252,16 +243,17 @@ impl<'a, N: Named + Send + Sync + 'static, H: Wait, D: Disk> Caller<'a, N, H, D>
 
     // Audits all units.
     fn audit<R: Read, W: Write, E: Write>(
-        &mut self,
+        &self,
+        client: &mut Client<N>,
         talk: &mut Talk<R, W, E>,
     ) -> Result<(), ScriptFault>
         ensures ending { IfErr result (λ fault. fault ≡ WriteFault) }
         ensures rest { talk.new ≡ talk.old }
-        ensures called { Audits self.old.client.holder self.new.client.holder }
+        ensures called { Audits client.old.holder client.new.holder }
     {
-        let answer = self.service.list(self.rt, self.alloc, &mut self.client);
+        let answer = self.service.list(self.rt, self.alloc, client);
         let told = match &answer {
-            Ok(listing) => match self.audit_names(talk, listing.names().as_slice()) {
+            Ok(listing) => match self.audit_names(client, talk, listing.names().as_slice()) {
                 Ok(true) => talk.tell_ok(),
                 Ok(false) => Ok(()),
                 Err(fault) => Err(fault),
@@ -274,38 +266,41 @@ impl<'a, N: Named + Send + Sync + 'static, H: Wait, D: Disk> Caller<'a, N, H, D>
 
     // Does what a line asks for.
     fn obey<R: Read, W: Write, E: Write>(
-        &mut self,
+        &self,
+        client: &mut Client<N>,
         talk: &mut Talk<R, W, E>,
         line: &[u8],
     ) -> Result<(), ScriptFault>
         ensures { IsDone (λ before after old new. Obeys (asked_of line.now) before after old new) (λ rest. IsCutShort (asked_of line.now) rest) talk.old talk.new
-            self.old.client.holder self.new.client.holder result }
+            client.old.holder client.new.holder result }
     {
         match command_of(line) {
-            Some(Command::Add { name, length }) => self.put(talk, name, length, true),
-            Some(Command::Replace { name, length }) => self.put(talk, name, length, false),
-            Some(Command::Withdraw { name }) => self.withdraw(talk, name),
-            Some(Command::List) => self.list(talk),
-            Some(Command::Run { name, steps }) => self.run(talk, name, steps),
+            Some(Command::Add { name, length }) => self.put(client, talk, name, length, true),
+            Some(Command::Replace { name, length }) => self.put(client, talk, name, length, false),
+            Some(Command::Withdraw { name }) => self.withdraw(client, talk, name),
+            Some(Command::List) => self.list(client, talk),
+            Some(Command::Run { name, steps }) => self.run(client, talk, name, steps),
             Some(Command::Compact) => self.compact(talk),
-            Some(Command::Audit) => self.audit(talk),
+            Some(Command::Audit) => self.audit(client, talk),
             None => talk.refuse_line(),
         }
     }
 
-    // Does what a script asks for, up to its end or a fault that ends it.
+    // Does what a script asks for, up to its end or a fault that ends it; where there is a bound, so many lines at most.
     pub(crate) fn play<R: Read, W: Write, E: Write>(
-        &mut self,
+        &self,
+        client: &mut Client<N>,
         talk: &mut Talk<R, W, E>,
+        most: Option<usize>,
     ) -> Result<(), ScriptFault>
         requires { talk.old.left ≡ 16777216 }
-        ensures { IsPlayedBy talk.old.rest self.old.client.holder self.new.client.holder result }
+        ensures { IsPlayedBy most talk.old.rest client.old.holder client.new.holder result }
     {
         let mut line = [0u8; LINE_BYTES];
         // Each line but the last takes a byte at least.
-        for _ in 0..=MOST_BYTES {
-            match talk.next_line(&mut line)? {
-                Next::Line(length) => self.obey(talk, &line[..length])?,
+        for lines in 0..=MOST_BYTES {
+            match talk.next_line(&mut line, most, lines)? {
+                Next::Line(length) => self.obey(client, talk, &line[..length])?,
                 Next::TooLong => talk.refuse_and_skip()?,
                 Next::End => return Ok(()),
             }

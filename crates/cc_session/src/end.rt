@@ -1,10 +1,10 @@
-// How a session ended.
+// How a session, or serving, ended.
 
-/// How a session ended.
+/// How a session, or serving, ended.
 #[derive(Clone, Copy, Debug, Drop, PartialEq, Eq)]
 pub enum SessionEnd {
-    /// The script was read to its end, and the service was ended.
+    /// The script, or each spool, was done to its end, and the service was ended.
     Finished,
-    /// The number of the first fault: of the opening, of the script (51 to 54), or of the service's end.
+    /// The number of the first fault: of the opening, 30, of the script (51 to 54; of `session` alone), or of the service's end (39, 40).
     Fault(u32),
 }

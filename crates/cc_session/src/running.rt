@@ -28,15 +28,15 @@ use std::thread::Threads;
 
 // What a service begins with: its disk, which is known as it was before, the map that it recovers to, and what no type names yet.
 #[derive(Drop)]
-struct Begun<D: Disk> {
-    disk: D,
-    before: Snapshot<D>,
-    base: Snapshot<UnitMap>,
-    fresh: Fresh,
+pub(crate) struct Begun<D: Disk> {
+    pub(crate) disk: D,
+    pub(crate) before: Snapshot<D>,
+    pub(crate) base: Snapshot<UnitMap>,
+    pub(crate) fresh: Fresh,
 }
 
 // What a service on this disk begins with. The library is opened to learn what the disk recovers to, which a service's type names.
-fn begin<D: Disk + Drop>(alloc: Global, disk: D) -> Result<Begun<D>, (LibraryFault, D)>
+pub(crate) fn begin<D: Disk + Drop>(alloc: Global, disk: D) -> Result<Begun<D>, (LibraryFault, D)>
     ensures base { IfOk result (λ b. IsTrue D.honest → (units : Units) → Recovers (D.seen b.disk) units → units ≡ b.base.value) }
     ensures sound { IfOk result (λ b. D.failures b.disk ≡ D.failures disk) }
     ensures refused { IfErr result (λ e. OpenFaults D.honest (D.seen disk) (D.failures disk) (D.failures e.1) e.0) }
@@ -63,7 +63,7 @@ fn begin<D: Disk + Drop>(alloc: Global, disk: D) -> Result<Begun<D>, (LibraryFau
     }
 }
 
-// What is told where the service's end was refused by this number: the fault that ended the script, where one did, else the number. Where
+// What is told where the service's end was refused by this number: the fault that ended its work, where one did, else the number. Where
 // all receipts stand it is 40, for there was no memory to say so.
 fn told_after(are_all: bool, number: u32, played: SessionEnd) -> SessionEnd
     ensures { result ≡ told_after (if are_all then 40 else number) played }
@@ -76,7 +76,7 @@ fn told_after(are_all: bool, number: u32, played: SessionEnd) -> SessionEnd
 }
 
 // Writes a refusal of the service's opening or end; answers its number.
-fn refused<R: Read, W: Write, E: Write>(
+pub(crate) fn refused<R: Read, W: Write, E: Write>(
     alloc: Global,
     talk: &mut Talk<R, W, E>,
     fault: ServiceFault,
@@ -107,7 +107,7 @@ fn ended<R: Read, W: Write, E: Write>(
 
 // Does a script by one client of a service.
 #[tactic(auto, using(crate::proofs::Calling::called_by))]
-fn play<N, H, R, W, E, D>(
+fn play_alone<N, H, R, W, E, D>(
     rt: &H,
     alloc: Global,
     talk: &mut Talk<R, W, E>,
@@ -127,15 +127,10 @@ where
     ensures { HaveCalled talk.old.rest (holders clients.new.items) result }
 {
     match service.client(rt, alloc) {
-        Ok(client) => {
-            let mut caller = Caller {
-                rt,
-                alloc,
-                service,
-                client,
-            };
-            let played = caller.play(talk);
-            clients.push_reserved(caller.into_client());
+        Ok(mut client) => {
+            let caller = Caller { rt, alloc, service };
+            let played = caller.play(&mut client, talk, None);
+            clients.push_reserved(client);
             ended(talk, played)
         }
         Err(fault) => SessionEnd::Fault(refused(alloc, talk, fault)),
@@ -159,8 +154,8 @@ fn disk_of<D: Disk>(closed: Closed<D>) -> D
     library.into_disk()
 }
 
-// Ends a service whose script ended so; where its end is refused, it is given up.
-fn finish<N, H, R, W, E, D>(
+// Ends a service whose clients' work ended so; where its end is refused, it is given up.
+pub(crate) fn finish<N, H, R, W, E, D>(
     rt: &H,
     alloc: Global,
     talk: &mut Talk<R, W, E>,
@@ -190,14 +185,14 @@ where
 }
 
 // Opens a service, does a script and ends the service.
-fn serve<N, H, R, W, E, D, G>(
+fn do_script<N, H, R, W, E, D, G>(
     rt: &H,
     alloc: Global,
     talk: &mut Talk<R, W, E>,
     begun: Begun<D>,
     workers: usize,
     gate: G,
-) -> (Option<D>, SessionEnd)
+) -> (D, SessionEnd)
 where
     N: Named + Send + Sync + 'static,
     H: Threads + Wait + Copy + Send + 'static,
@@ -214,7 +209,7 @@ where
     requires some { 1 ≤ workers }
     requires few { workers ≤ 8 }
     requires fresh { talk.old.left ≡ 16777216 }
-    ensures { EndsSince D.honest D.seen D.may_leave D.moment D.left_since D.failures N.from N.left talk.old.rest begun.disk result.0 result.1 }
+    ensures { EndsSince D.honest D.seen D.may_leave D.moment D.left_since D.failures N.from N.left (Unit {0}) (HaveCalled talk.old.rest) begun.disk result.0 result.1 }
 {
     let Begun {
         disk,
@@ -230,18 +225,17 @@ where
             talk,
             ServiceFault::Opening(LibraryFault::OutOfMemory),
         );
-        return (Some(disk), SessionEnd::Fault(number));
+        return (disk, SessionEnd::Fault(number));
     };
     match Service::<N, D>::open(rt, alloc, fresh, disk, workers, gate) {
         Ok(service) => {
-            let played = play(rt, alloc, talk, &service, &mut clients);
-            let (disk, end) = finish(rt, alloc, talk, service, clients, played);
-            (Some(disk), end)
+            let played = play_alone(rt, alloc, talk, &service, &mut clients);
+            finish(rt, alloc, talk, service, clients, played)
         }
         Err((fault, disk)) => {
             drop(clients);
             let number = refused(alloc, talk, fault);
-            (Some(disk), SessionEnd::Fault(number))
+            (disk, SessionEnd::Fault(number))
         }
     }
 }
@@ -268,9 +262,12 @@ where
 {
     let mut talk = Talk::new(reader, writer, explanations);
     match begin(alloc, disk) {
-        Ok(begun) => serve::<Brand, H, &mut R, &mut W, &mut E, D, G>(
-            rt, alloc, &mut talk, begun, workers, gate,
-        ),
+        Ok(begun) => {
+            let (disk, end) = do_script::<Brand, H, &mut R, &mut W, &mut E, D, G>(
+                rt, alloc, &mut talk, begun, workers, gate,
+            );
+            (Some(disk), end)
+        }
         Err((fault, disk)) => {
             drop(gate);
             let number = refused(alloc, &mut talk, ServiceFault::Opening(fault));

@@ -3,7 +3,7 @@
 ghost use Rattle.std.specs.Prelude.{◌≡◌, ◌⊎◌, ◌≤◌, ℕ, List, IfErr, IfOk, OnOk};
 ghost use Rattle.cc_script.specs.Reading.{Between, IsLine, IsNext, IsNoSource, IsNotRead, IsWithinLine};
 ghost use Rattle.cc_script.specs.declared.fault.ScriptFault.TheVariants.{WriteFault};
-ghost use Rattle.cc_session.specs.internal.Steps.{HasSent, IsSentAs};
+ghost use Rattle.cc_session.specs.internal.Steps.{HasSent, IsNoLine, IsSentAs, MayFollow};
 
 use crate::words::{explain_refusal, explain_words};
 use cc_history::Receipt;
@@ -138,13 +138,30 @@ impl<R: Read, W: Write, E: Write> Talk<R, W, E> {
         }
     }
 
-    // The script's next line.
-    pub(crate) fn next_line(&mut self, line: &mut [u8; LINE_BYTES]) -> Result<Next, ScriptFault>
+    // The script's next line, behind so many that are done; 52 where these are all that may be, and one more comes.
+    #[tactic(auto, using(crate::proofs::Playing::some_left))]
+    pub(crate) fn next_line(
+        &mut self,
+        line: &mut [u8; LINE_BYTES],
+        most: Option<usize>,
+        lines: usize,
+    ) -> Result<Next, ScriptFault>
         ensures within { IfOk result IsWithinLine }
-        ensures refused { IfErr result (IsNotRead self.old self.new.left) }
+        ensures few { IfOk result (MayFollow most lines) }
+        ensures refused { IfErr result (IsNoLine most lines self.old self.new.left) }
         ensures bytes { IfOk result (λ next. Between self.old self.new (λ before after. IsNext before next line.new after)) }
     {
-        self.script.next_line(&mut self.reader, line)
+        let next = self.script.next_line(&mut self.reader, line)?;
+        match next {
+            Next::End => Ok(next),
+            Next::Line(_) | Next::TooLong => {
+                if most == Some(lines) {
+                    Err(ScriptFault::ScriptTooLong)
+                } else {
+                    Ok(next)
+                }
+            }
+        }
     }
 
     // The source that comes next.

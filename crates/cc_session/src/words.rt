@@ -27,7 +27,7 @@ pub fn words_of(number: u32) -> Option<&'static str> {
              a newline follows the LEN bytes of a source",
         ),
         51 => Some("the script ends within a source"),
-        52 => Some("the script has more than 16777216 bytes"),
+        52 => Some("the script has more bytes (16777216) or lines than it may have"),
         53 => Some("the script could not be read"),
         54 => Some("an answer could not be written"),
         _ => None,

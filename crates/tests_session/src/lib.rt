@@ -1,7 +1,7 @@
 //! Tests of sessions, from outside: scripts with their answers, scripts that are refused, streams and disks that fail.
 //!
 //! `helpers` runs a script on a formatted disk, `scripts` has the worked scripts, `audits` those that audit, `refusals` what is refused,
-//! `failing` readers and writers that fail, `files` a library in a file.
+//! `failing` readers and writers that fail, `files` a library in a file, `serving` many clients at once.
 #![tactic(auto)]
 
 #[cfg(test)]
@@ -16,3 +16,5 @@ mod helpers;
 mod refusals;
 #[cfg(test)]
 mod scripts;
+#[cfg(test)]
+mod serving;

@@ -2,17 +2,29 @@
 use Rattle.std.specs.Prelude.{◌≡◌, ◌≢◌, ◌⊎◌, ◌<◌, ℕ, Bool, true, false, List, [], ◌∷◌, ◌++◌, length, take, Option, Some, None, IfSome, Result, Ok, Err, Vec}
 use Rattle.std.specs.declared.alloc.Global.{Global}
 use Rattle.cc_script.specs.Fault.{fault_number}
-use Rattle.cc_script.specs.Reading.{Ahead, Between, HasMore, IsLine}
+use Rattle.cc_script.specs.Reading.{Ahead, Between, HasMore, IsLine, IsNotRead}
+use Rattle.cc_script.specs.declared.script.Next.{Next}
+use Rattle.cc_script.specs.declared.script.Next.TheVariants.{Line, TooLong, End}
 use Rattle.cc_script.specs.declared.fault.ScriptFault.{ScriptFault}
 use Rattle.cc_script.specs.declared.fault.ScriptFault.TheVariants.{BadLine, EndOfScript, ScriptTooLong, ReadFault, WriteFault}
 use Rattle.cc_history.specs.declared.command.Command.{Command}
 use Rattle.cc_history.specs.History.{Holder}
 use Rattle.cc_service.specs.Serving.{Adds, Replaces}
-use Rattle.cc_session.specs.Playing.{IsEnding, IsPlayed, IsStoppedBy}
 use Rattle.cc_session.specs.declared.end.SessionEnd.{SessionEnd}
 use Rattle.cc_session.specs.declared.end.SessionEnd.TheVariants.{Finished, Fault}
 use Rattle.cc_session.specs.declared.talk.Sent.{Sent}
 use Rattle.cc_session.specs.declared.talk.Sent.TheVariants.{Source, NoRoom, Unended}
+
+-- no line comes behind so many: it can't be read; or as many are done as may be, 52, and more of the script is left
+abbrev pub IsNoLine : (most : Option ℕ) (lines : ℕ) (before : Ahead) (left : ℕ) → ScriptFault → Type 0
+IsNoLine most lines before left fault =
+    IsNotRead before left fault ⊎ ((fault ≡ ScriptTooLong) × (most ≡ Some lines) × IfSome before.rest (λ bytes. bytes ≢ []))
+
+-- a line that comes behind so many may be done
+abbrev pub MayFollow : (most : Option ℕ) (lines : ℕ) → Next → Type 0
+MayFollow most lines (Line length) = most ≢ Some lines
+MayFollow most lines TooLong = most ≢ Some lines
+MayFollow most lines End = Unit {0}
 
 -- this many bytes are taken from what is left, and the line's end behind them; or a byte more, which is no line's end
 abbrev pub HasSent : (before : List ℕ) (count : ℕ) → Sent → (after : List ℕ) → Type 0
@@ -50,16 +62,7 @@ abbrev pub IsDone : {T : Type 0} → (Does : List ℕ → List ℕ → Holder �
 IsDone Does IsShort before after old new (Ok done) = Between before after (λ b a. Does b a old new)
 IsDone Does IsShort before after old new (Err fault) = IsNotDone Does IsShort before old new fault
 
--- the script is done by this client as far as the fault let it be
-abbrev pub IsStopped : (script : Option (List ℕ)) (old new : Holder) → ScriptFault → Type 0
-IsStopped script old new fault = IsEnding fault × IfSome script (λ bytes. IsStoppedBy fault bytes old new)
-
--- it is done whole, or so
-abbrev pub IsPlayedBy : {T : Type 0} → (script : Option (List ℕ)) (old new : Holder) → Result T ScriptFault → Type 0
-IsPlayedBy script old new (Ok done) = IfSome script (λ bytes. IsPlayed bytes old new)
-IsPlayedBy script old new (Err fault) = IsStopped script old new fault
-
--- how a session ends whose script was done so
+-- how a session ends whose script was answered so
 abbrev pub EndsFor : {T : Type 0} → Result T ScriptFault → SessionEnd → Type 0
 EndsFor (Ok done) end = end ≡ Finished
 EndsFor (Err fault) end = end ≡ Fault (fault_number fault)

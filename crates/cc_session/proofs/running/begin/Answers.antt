@@ -1,5 +1,5 @@
 -- What the disk shows is an image, and every image of a library just opened recovers to its map alone.
-use Rattle.std.proofs.Common.{◌≡◌, ◌∙◌, sym, subst}
+use Rattle.std.proofs.Common.{◌∙◌, sym, subst}
 use Rattle.cc_disk.specs.Images.{OnlyReads}
 use Rattle.cc_library.specs.Recovered.{Recovers}
 use Rattle.cc_session.proofs.Ends.{past_at}

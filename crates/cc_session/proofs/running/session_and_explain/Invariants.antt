@@ -1,11 +1,11 @@
 -- The service's type names the ledger and the queue that were made for it, the map to which the disk recovers, and what a crash may leave at the session's beginning.
 use Rattle.cc_session.proofs.running.session_and_explain.Given as goal
 
-abbrev pub ghosts-serve-N-Ledger : goal.ghosts-serve-N-Ledger
-ghosts-serve-N-Ledger g a = record { name = a.begun.fresh.ledger; parts = 1025 }
+abbrev pub ghosts-do_script-N-Ledger : goal.ghosts-do_script-N-Ledger
+ghosts-do_script-N-Ledger g a = record { name = a.begun.fresh.ledger; parts = 1025 }
 
-abbrev pub ghosts-serve-N-Queued : goal.ghosts-serve-N-Queued
-ghosts-serve-N-Queued g a = record { queue = a.begun.fresh.queue }
+abbrev pub ghosts-do_script-N-Queued : goal.ghosts-do_script-N-Queued
+ghosts-do_script-N-Queued g a = record { queue = a.begun.fresh.queue }
 
-abbrev pub ghosts-serve-N-Named : goal.ghosts-serve-N-Named
-ghosts-serve-N-Named g a = record { base = a.begun.base.value; from = g.D.Disk.moment a.begun.before.value; left = g.D.Disk.may_leave a.begun.before.value }
+abbrev pub ghosts-do_script-N-Named : goal.ghosts-do_script-N-Named
+ghosts-do_script-N-Named g a = record { base = a.begun.base.value; from = g.D.Disk.moment a.begun.before.value; left = g.D.Disk.may_leave a.begun.before.value }

@@ -1,7 +1,7 @@
--- The lines so far are done, each of a byte at least.
+-- The lines so far are done, each of a byte at least, and no more than may be.
 use Rattle.cc_script.specs.Reading.{Between}
 use Rattle.cc_session.proofs.Lines.{Played}
 use Rattle.cc_session.proofs.calls.Caller.play.Given as goal
 
-abbrev pub invariant-loop : goal.invariant-loop
-invariant-loop g l = Between l.initial.talk l.talk (Played l.counter l.initial.self.client.holder l.self.client.holder)
+abbrev pub invariant-loop-lines : goal.invariant-loop-lines
+invariant-loop-lines g l = Between l.initial.talk l.talk (Played l.most l.lines l.initial.client.holder l.client.holder)

@@ -1,0 +1,67 @@
+-- Many clients of one service, each of which does the scripts that its spool gives.
+use Rattle.std.specs.Prelude.{◌≡◌, ℕ, Bool, List, [], ◌∷◌, ◌++◌, length, Option, Some, None, IfSome, slice_get}
+use Rattle.cc_history.specs.History.{Holder}
+use Rattle.cc_script.specs.Fault as faults
+use Rattle.cc_script.specs.declared.fault.ScriptFault.{ScriptFault}
+use Rattle.cc_session.specs.Playing.{IsPlayed, IsStopped}
+use Rattle.cc_session.specs.Session.{ServiceEnds}
+use Rattle.cc_session.specs.declared.end.SessionEnd.{SessionEnd}
+use Rattle.cc_session.specs.declared.end.SessionEnd.TheVariants.{Finished, Fault}
+
+-- ---- the scripts of one client
+
+-- the most lines of a script from a spool that are done
+abbrev pub most_lines : Option ℕ
+most_lines = Some 65536
+
+-- What the client made of a script, where its bytes are known, by how it is told that it ended: all of it is done; or a fault that ends scripts
+-- ended it, whose number is told, and it is done as far as that says.
+abbrev pub IsDoneBy : (script : Option (List ℕ)) (end : Option ℕ) (old new : Holder) → Type 0
+IsDoneBy script None old new = IfSome script (λ bytes. IsPlayed most_lines bytes old new)
+IsDoneBy script (Some number) old new = (fault : ScriptFault) × (number ≡ faults.fault_number fault) × IsStopped most_lines script old new fault
+
+-- scripts in turn, each with how it ended
+abbrev pub AreDoneBy : (scripts : List (Option (List ℕ))) (ends : List (Option ℕ)) (old new : Holder) → Type 0
+AreDoneBy [] [] old new = new ≡ old
+AreDoneBy (script ∷ scripts) (end ∷ ends) old new = (between : Holder) × IsDoneBy script end old between × AreDoneBy scripts ends between new
+AreDoneBy [] (end ∷ ends) old new = ⊥
+AreDoneBy (script ∷ scripts) [] old new = ⊥
+
+-- what a spool has given so far, and how those ended whose answers were handed over to it
+pub record Given : Type 0 where
+  pub taken : List (Option (List ℕ))
+  pub ended : List (Option ℕ)
+
+abbrev pub given_by : {S : Type 0} (taken : S → List (Option (List ℕ))) (ended : S → List (Option ℕ)) → S → Given
+given_by taken ended spool = record { taken = taken spool; ended = ended spool }
+
+-- From one moment to the next a spool gave some scripts, and was handed an answer for each, in turn. A client did them, and called nothing else.
+pub record HasDone (before : Given) (old : Holder) (after : Given) (new : Holder) : Type 0 where
+  pub scripts : List (Option (List ℕ))
+  pub ends : List (Option ℕ)
+  pub taken : after.taken ≡ before.taken ++ scripts
+  pub ended : after.ended ≡ before.ended ++ ends
+  pub done : AreDoneBy scripts ends old new
+
+-- ---- all clients
+
+-- Each spool has a client, the one at its place, which began without a receipt and did what its own spool gave.
+pub record HaveDone (before after : List Given) (clients : List Holder) : Type 0 where
+  pub many : length after ≡ length before
+  pub all : length clients ≡ length before
+  pub each : (i : ℕ) (old new : Given) (last : Holder) → slice_get before i ≡ Some old → slice_get after i ≡ Some new → slice_get clients i ≡ Some last
+      → (first : Holder) × (first.receipts ≡ []) × HasDone old first new last
+
+-- What the clients of the spools did, by how their work ended: all that these gave; or nothing, where the service has no client for a spool, 30:
+-- then no script was taken and no answer handed over.
+abbrev pub HaveServed : (before after : List Given) (clients : List Holder) → SessionEnd → Type 0
+HaveServed before after clients Finished = HaveDone before after clients
+HaveServed before after clients (Fault number) =
+    (number ≡ 30) × (after ≡ before) × ((i : ℕ) (client : Holder) → slice_get clients i ≡ Some client → client.receipts ≡ [])
+
+-- How serving ends that began with this disk and these spools: as the service ends whose clients do what the spools give, and where it was not
+-- opened no script was taken and no answer handed over.
+abbrev pub ServingEnds : {D : Type 0} (honest : Bool) (seen : D → List ℕ) (may_leave : D → List ℕ → Type 0) (moment : D → ℕ)
+    (left_since : D → ℕ → List ℕ → Type 0) (failures : D → ℕ) (spools_before spools_after : List Given) (before after : D) → SessionEnd → Type 0
+ServingEnds honest seen may_leave moment left_since failures spools_before spools_after before after end =
+    ServiceEnds honest seen may_leave moment left_since failures (spools_after ≡ spools_before) (HaveServed spools_before spools_after) before after end

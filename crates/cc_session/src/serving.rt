@@ -1,0 +1,371 @@
+// Many clients of one service, each in a thread of its own with the scripts that its spool gives, from the opening of the service to its end.
+//
+// All memory that this needs beside the clients' is taken before the service is opened, so that no client is lost once it works. The disk
+// and the spools are handed back, so a next service can go on with them.
+ghost use Rattle.std.specs.Prelude.{◌≡◌, ◌≤◌, ◌<◌, ℕ, All, List, [], IsTrue, IfOk, IfErr, OnOk, length, map, slice_index_or, vec_len};
+ghost use Rattle.std.specs.Vec.{vec_capacity};
+ghost use Rattle.cc_library.specs.Apply.{Units};
+ghost use Rattle.cc_library.specs.Recovered.{Recovers};
+ghost use Rattle.cc_service.specs.Client.{holders};
+ghost use Rattle.cc_service.specs.Fault.{fault_number};
+ghost use Rattle.cc_service.specs.Since.{IsPast};
+ghost use Rattle.cc_service.specs.declared.fault.ServiceFault.TheVariants.{TooManyClients};
+ghost use Rattle.cc_session.specs.Session.{EndsSince, HasEnded};
+ghost use Rattle.cc_session.specs.declared.end.SessionEnd.TheVariants.{Fault};
+ghost use Rattle.cc_session.specs.Spooling.{HasDone, HaveServed, ServingEnds, given_by};
+
+use crate::attending::attend;
+use crate::end::SessionEnd;
+use crate::running::{Begun, begin, finish, refused};
+use crate::talk::Talk;
+use cc_disk::Disk;
+use cc_library::LibraryFault;
+use cc_pool::Gate;
+use cc_service::{Client, Named, Service, ServiceFault};
+use cc_spool::Spool;
+use std::alloc::{AllocError, Global};
+use std::io::{self, Write};
+use std::marker::Brand;
+use std::sync::Wait;
+use std::thread;
+use std::thread::Threads;
+
+// A client with its spool.
+#[derive(Drop)]
+struct Post<N: Named, S> {
+    client: Client<N>,
+    spool: S,
+}
+
+// Room for the clients and the spools, while they work and behind it.
+#[derive(Drop)]
+struct Room<N: Named, S> {
+    posts: Vec<Post<N, S>>,
+    clients: Vec<Client<N>>,
+    spools: Vec<S>,
+}
+
+fn room_for<N: Named, S: Drop>(alloc: Global, count: usize) -> Result<Room<N, S>, AllocError>
+    ensures posts { IfOk result (λ room. (room.posts.items ≡ []) × (count ≤ vec_capacity room.posts)) }
+    ensures clients { IfOk result (λ room. (room.clients.items ≡ []) × (count ≤ vec_capacity room.clients)) }
+    ensures spools { IfOk result (λ room. (room.spools.items ≡ []) × (count ≤ vec_capacity room.spools)) }
+{
+    let posts = Vec::with_capacity(alloc, count)?;
+    let clients = Vec::with_capacity(alloc, count)?;
+    let spools = Vec::with_capacity(alloc, count)?;
+    Ok(Room {
+        posts,
+        clients,
+        spools,
+    })
+}
+
+// Makes so many clients of a service; 30 where it has fewer.
+fn hire<N, H, D>(
+    rt: &H,
+    alloc: Global,
+    service: &Service<N, D>,
+    count: usize,
+    clients: &mut Vec<Client<N>>,
+) -> Result<(), ServiceFault>
+where
+    N: Named + Send + Sync + 'static,
+    H: Wait,
+    D: Disk,
+    requires room { count ≤ vec_capacity clients.old }
+    requires none { clients.old.items ≡ [] }
+    ensures fresh { All (λ c. c.holder.receipts ≡ []) clients.new.items }
+    ensures all { OnOk result (vec_len clients.new ≡ count) }
+    ensures capacity { vec_capacity clients.new ≡ vec_capacity clients.old }
+    ensures refused { IfErr result (λ fault. fault ≡ TooManyClients) }
+{
+    for _ in 0..count {
+        clients.push_reserved(service.client(rt, alloc)?);
+    }
+    Ok(())
+}
+
+// Puts each spool beside a client of its own.
+fn pair<N: Named, S: Drop>(
+    clients: &mut Vec<Client<N>>,
+    spools: Vec<S>,
+    posts: &mut Vec<Post<N, S>>,
+)
+    requires many { vec_len clients.old ≡ vec_len spools }
+    requires fresh { All (λ c. c.holder.receipts ≡ []) clients.old.items }
+    requires room { vec_len spools ≤ vec_capacity posts.old }
+    requires none { posts.old.items ≡ [] }
+    ensures spools { map (λ p. p.spool) posts.new.items ≡ spools.items }
+    ensures fresh { All (λ p. p.client.holder.receipts ≡ []) posts.new.items }
+    ensures paired { clients.new.items ≡ [] }
+    ensures capacity { vec_capacity clients.new ≡ vec_capacity clients.old }
+{
+    for spool in spools {
+        match clients.pop() {
+            Some(client) => posts.push_reserved(Post { client, spool }),
+            None => unreachable!(),
+        }
+    }
+}
+
+// Takes the clients and the spools apart.
+fn dismiss<N: Named, S: Drop>(
+    posts: Vec<Post<N, S>>,
+    clients: &mut Vec<Client<N>>,
+    spools: &mut Vec<S>,
+)
+    requires room { vec_len posts ≤ vec_capacity clients.old }
+    requires none { clients.old.items ≡ [] }
+    requires room_for_spools { vec_len posts ≤ vec_capacity spools.old }
+    requires no_spools { spools.old.items ≡ [] }
+    ensures clients { clients.new.items ≡ map (λ p. p.client) posts.items }
+    ensures spools { spools.new.items ≡ map (λ p. p.spool) posts.items }
+{
+    for post in posts {
+        let Post { client, spool } = post;
+        clients.push_reserved(client);
+        spools.push_reserved(spool);
+    }
+}
+
+fn attend_post<N, H, S, D>(rt: &H, alloc: Global, service: &Service<N, D>, post: &mut Post<N, S>)
+where
+    N: Named + Send + Sync + 'static,
+    H: Wait,
+    S: Spool,
+    D: Disk,
+    ensures { HasDone (given_by S.taken S.ended post.old.spool) post.old.client.holder (given_by S.taken S.ended post.new.spool) post.new.client.holder }
+{
+    attend(rt, alloc, service, &mut post.client, &mut post.spool);
+}
+
+// Each client does the scripts of its spool, in a thread of its own where one can be made. Those for which none can be made begin when others
+// have ended.
+fn attend_all<N, H, S, D>(rt: &H, alloc: Global, service: &Service<N, D>, posts: &mut [Post<N, S>])
+where
+    N: Named + Send + Sync + 'static,
+    H: Threads + Wait + Send + Sync,
+    S: Spool + Send,
+    D: Disk + Send,
+    ensures { (i : ℕ) (d : _) → i < length posts.old → HasDone
+        (given_by S.taken S.ended (slice_index_or posts.old i d).spool) (slice_index_or posts.old i d).client.holder
+        (given_by S.taken S.ended (slice_index_or posts.new i d).spool) (slice_index_or posts.new i d).client.holder }
+{
+    let count = posts.len();
+    if count == 0 {
+        return;
+    }
+    thread::for_each_mut(
+        rt,
+        posts,
+        count,
+        &|_, post| attend_post(rt, alloc, service, post),
+    );
+}
+
+// What is there when the clients have ended their work: they, their spools, and how it ended.
+#[derive(Drop)]
+struct Worked<N: Named, S> {
+    clients: Vec<Client<N>>,
+    spools: Vec<S>,
+    end: SessionEnd,
+}
+
+// A client for each spool does what this gives. Where the service has too few of them nothing is done.
+fn work<N, H, S, W, E, D>(
+    rt: &H,
+    alloc: Global,
+    talk: &mut Talk<io::Empty, W, E>,
+    service: &Service<N, D>,
+    room: Room<N, S>,
+    spools: Vec<S>,
+) -> Worked<N, S>
+where
+    N: Named + Send + Sync + 'static,
+    H: Threads + Wait + Send + Sync,
+    S: Spool + Send + Drop,
+    W: Write,
+    E: Write,
+    D: Disk + Send,
+    requires posts { (room.posts.items ≡ []) × (vec_len spools ≤ vec_capacity room.posts) }
+    requires clients { (room.clients.items ≡ []) × (vec_len spools ≤ vec_capacity room.clients) }
+    requires spools { (room.spools.items ≡ []) × (vec_len spools ≤ vec_capacity room.spools) }
+    ensures { HaveServed (map (given_by S.taken S.ended) spools.items) (map (given_by S.taken S.ended) result.spools.items) (holders result.clients.items) result.end }
+{
+    let Room {
+        mut posts,
+        mut clients,
+        spools: mut left,
+    } = room;
+    match hire(rt, alloc, service, spools.len(), &mut clients) {
+        Ok(()) => {
+            pair(&mut clients, spools, &mut posts);
+            attend_all(rt, alloc, service, posts.as_mut_slice());
+            dismiss(posts, &mut clients, &mut left);
+            Worked {
+                clients,
+                spools: left,
+                end: SessionEnd::Finished,
+            }
+        }
+        Err(fault) => {
+            let number = refused(alloc, talk, fault);
+            Worked {
+                clients,
+                spools,
+                end: SessionEnd::Fault(number),
+            }
+        }
+    }
+}
+
+/// What is left of serving: the disk; the spools, in their order; how it ended.
+#[derive(Drop)]
+pub struct Served<D: Drop, S: Drop> {
+    pub disk: D,
+    pub spools: Vec<S>,
+    pub end: SessionEnd,
+}
+
+// What is left where no service was opened, for this reason.
+fn unserved<S: Spool + Drop, W: Write, E: Write, D: Disk + Drop>(
+    alloc: Global,
+    talk: &mut Talk<io::Empty, W, E>,
+    spools: Vec<S>,
+    disk: D,
+    fault: ServiceFault,
+) -> Served<D, S>
+    ensures disk { result.disk ≡ disk }
+    ensures spools { result.spools ≡ spools }
+    ensures end { result.end ≡ Fault (fault_number fault) }
+{
+    let number = refused(alloc, talk, fault);
+    Served {
+        disk,
+        spools,
+        end: SessionEnd::Fault(number),
+    }
+}
+
+// The clients of a service do what the spools give, and it is ended.
+fn serve_opened<N, H, S, W, E, D>(
+    rt: &H,
+    alloc: Global,
+    talk: &mut Talk<io::Empty, W, E>,
+    service: Service<N, D>,
+    room: Room<N, S>,
+    spools: Vec<S>,
+) -> Served<D, S>
+where
+    N: Named + Send + Sync + 'static,
+    H: Threads + Wait + Send + Sync,
+    S: Spool + Send + Drop,
+    W: Write,
+    E: Write,
+    D: Disk + Send + Drop,
+    requires posts { (room.posts.items ≡ []) × (vec_len spools ≤ vec_capacity room.posts) }
+    requires clients { (room.clients.items ≡ []) × (vec_len spools ≤ vec_capacity room.clients) }
+    requires spools { (room.spools.items ≡ []) × (vec_len spools ≤ vec_capacity room.spools) }
+    // Whatever bytes those were that recover to the map that the service's type names.
+    ensures { (bytes : List ℕ) → (IsTrue D.honest → Recovers bytes N.base) → HasEnded D.honest bytes D.may_leave D.left_since N.from N.left
+        (HaveServed (map (given_by S.taken S.ended) spools.items) (map (given_by S.taken S.ended) result.spools.items)) result.end result.disk }
+{
+    let Worked {
+        clients,
+        spools,
+        end: worked,
+    } = work(rt, alloc, talk, &service, room, spools);
+    let (disk, end) = finish(rt, alloc, talk, service, clients, worked);
+    Served { disk, spools, end }
+}
+
+// Opens a service for the spools, where there is room for them.
+fn serve_begun<N, H, S, W, E, D, G>(
+    rt: &H,
+    alloc: Global,
+    talk: &mut Talk<io::Empty, W, E>,
+    begun: Begun<D>,
+    spools: Vec<S>,
+    workers: usize,
+    gate: G,
+) -> Served<D, S>
+where
+    N: Named + Send + Sync + 'static,
+    H: Threads + Wait + Copy + Send + Sync + 'static,
+    S: Spool + Send + Drop,
+    W: Write,
+    E: Write,
+    D: Disk + Send + Drop,
+    G: Gate + Drop + Send + Sync + 'static,
+    requires ledger { begun.fresh.ledger ≡ N.name }
+    requires parts { N.parts ≡ 1025 }
+    requires queue { begun.fresh.queue ≡ N.queue }
+    requires named { IsTrue D.honest → (units : Units) → Recovers (D.seen begun.disk) units → units ≡ N.base }
+    requires past { IsTrue D.honest → IsPast D.moment D.left_since N.from N.left begun.disk }
+    requires some { 1 ≤ workers }
+    requires few { workers ≤ 8 }
+    ensures { let before = map (given_by S.taken S.ended) spools.items in let after = map (given_by S.taken S.ended) result.spools.items in
+        EndsSince D.honest D.seen D.may_leave D.moment D.left_since D.failures N.from N.left (after ≡ before) (HaveServed before after) begun.disk result.disk result.end }
+{
+    let Begun {
+        disk,
+        before: _,
+        base: _,
+        fresh,
+    } = begun;
+    let Ok(room) = room_for(alloc, spools.len()) else {
+        drop(fresh);
+        drop(gate);
+        let fault = ServiceFault::Opening(LibraryFault::OutOfMemory);
+        return unserved(alloc, talk, spools, disk, fault);
+    };
+    match Service::<N, D>::open(rt, alloc, fresh, disk, workers, gate) {
+        Ok(service) => serve_opened(rt, alloc, talk, service, room, spools),
+        Err((fault, disk)) => {
+            drop(room);
+            unserved(alloc, talk, spools, disk, fault)
+        }
+    }
+}
+
+/// Opens the library on a disk as a service with this many workers, 1 to 8, and a client for each spool, 1,024 at most. Each client does
+/// the scripts that its spool gives, as `attend` says, until this is over; then the service is ended. It does so in a thread of its own
+/// where one can be made; those for which none can be made begin when others have ended. The workers pass `gate`, so that who waits can be
+/// told how far a long `add` is.
+///
+/// The line of a fault of the opening (35, 37, 38, 40, 41; 30 where there are too many spools) or of the end (39, 40) goes to `writer`,
+/// and what helps a person with it to `explanations`. Each is written; `end` is the first. A fault that ends a script is told in its answer
+/// alone. Disk and spools are handed back after each.
+pub fn serve<H, S, W, E, D, G>(
+    rt: &H,
+    alloc: Global,
+    spools: Vec<S>,
+    writer: &mut W,
+    explanations: &mut E,
+    disk: D,
+    workers: usize,
+    gate: G,
+) -> Served<D, S>
+where
+    H: Threads + Wait + Copy + Send + Sync + 'static,
+    S: Spool + Send + Drop,
+    W: Write,
+    E: Write,
+    D: Disk + Send + Drop,
+    G: Gate + Drop + Send + Sync + 'static,
+    requires some { 1 ≤ workers }
+    requires few { workers ≤ 8 }
+    ensures answers { ServingEnds D.honest D.seen D.may_leave D.moment D.left_since D.failures
+        (map (given_by S.taken S.ended) spools.items) (map (given_by S.taken S.ended) result.spools.items) disk result.disk result.end }
+{
+    let mut talk = Talk::new(io::empty(), writer, explanations);
+    match begin(alloc, disk) {
+        Ok(begun) => serve_begun::<Brand, H, S, &mut W, &mut E, D, G>(
+            rt, alloc, &mut talk, begun, spools, workers, gate,
+        ),
+        Err((fault, disk)) => {
+            drop(gate);
+            unserved(alloc, &mut talk, spools, disk, ServiceFault::Opening(fault))
+        }
+    }
+}

@@ -1,0 +1,101 @@
+// The spool in memory.
+ghost use Rattle.std.specs.Prelude.{◌≡◌, ◌≢◌, ◌<◌, ◌≤◌, ◌++◌, ◌∷◌, [], true, false, IfOk, IfNone, IfSome, map, vec_len};
+ghost use Rattle.std.specs.Vec.{vec_capacity};
+
+use crate::spool::Spool;
+use cc_disk::History;
+use std::alloc::{AllocError, Global};
+use std::collections::VecDeque;
+use std::io::{Read, Write};
+
+/// An answer that was handed over, and the number of the fault that ended its script, 51 to 54, where one did. At 54 the answer may be cut
+/// anywhere, and has no line of it.
+#[derive(Drop)]
+pub struct Answered<W: Drop> {
+    pub answer: W,
+    pub fault: Option<u32>,
+}
+
+/// A spool in memory, for tests and for runs that need no folder: the scripts of a list, each behind a reader, with the writer of its
+/// answer. It is over when all are taken.
+#[derive(Drop)]
+pub struct MemorySpool<R: Drop, W: Drop> {
+    waiting: VecDeque<(R, W)>,
+    answered: Vec<Answered<W>>,
+    taken: History<R>,
+    ended: History<Option<u32>>,
+}
+
+impl<R: Read + Drop + Send, W: Write + Drop + Send> MemorySpool<R, W> {
+    /// A spool with these scripts, the first of which is taken first. It has room for as many answers from the beginning on, and fails only
+    /// where there is none (40).
+    pub fn new(alloc: Global, scripts: Vec<(R, W)>) -> Result<MemorySpool<R, W>, AllocError>
+        ensures waiting { IfOk result (λ spool. spool.waiting.items ≡ scripts.items) }
+        ensures taken { IfOk result (λ spool. spool.taken.items ≡ []) }
+        ensures ended { IfOk result (λ spool. spool.ended.items ≡ []) }
+        ensures none { IfOk result (λ spool. spool.answered.items ≡ []) }
+        ensures room { IfOk result (λ spool. vec_len scripts ≤ vec_capacity spool.answered) }
+    {
+        let answered = Vec::with_capacity(alloc, scripts.len())?;
+        Ok(MemorySpool {
+            waiting: VecDeque::from(scripts),
+            answered,
+            taken: History::new(),
+            ended: History::new(),
+        })
+    }
+
+    /// The answers so far, in turn.
+    pub fn answered(&self) -> &[Answered<W>]
+        ensures { result.now ≡ self.now.answered.items }
+    {
+        self.answered.as_slice()
+    }
+}
+
+impl<R: Read + Drop + Send, W: Write + Drop + Send> Spool for MemorySpool<R, W> {
+    type Script = R;
+
+    type Answer = W;
+
+    ghost taken = { λ s. map R.remaining s.taken.items };
+
+    ghost ended = { λ s. s.ended.items };
+
+    fn is_over(&mut self) -> bool
+        ensures taken { map R.remaining self.new.taken.items ≡ map R.remaining self.old.taken.items }
+        ensures ended { self.new.ended.items ≡ self.old.ended.items }
+        ensures same { self.new ≡ self.old }
+        ensures over { result ≡ true → self.old.waiting.items ≡ [] }
+        ensures more { result ≡ false → self.old.waiting.items ≢ [] }
+    {
+        self.waiting.is_empty()
+    }
+
+    fn next(&mut self) -> Option<(R, W)>
+        ensures taken { IfSome result (λ job. map R.remaining self.new.taken.items ≡ map R.remaining self.old.taken.items ++ R.remaining job.0 ∷ []) }
+        ensures none { IfNone result (map R.remaining self.new.taken.items ≡ map R.remaining self.old.taken.items) }
+        ensures ended { self.new.ended.items ≡ self.old.ended.items }
+        ensures first { IfSome result (λ job. self.old.waiting.items ≡ job ∷ self.new.waiting.items) }
+        ensures over { IfNone result (self.old.waiting.items ≡ []) }
+        ensures answered { self.new.answered ≡ self.old.answered }
+    {
+        let (script, answer) = self.waiting.pop_front()?;
+        self.taken = self.taken.and(&script);
+        Some((script, answer))
+    }
+
+    fn deliver(&mut self, script: R, answer: W, fault: Option<u32>)
+        ensures taken { map R.remaining self.new.taken.items ≡ map R.remaining self.old.taken.items }
+        ensures ended { self.new.ended.items ≡ self.old.ended.items ++ fault ∷ [] }
+        ensures waiting { self.new.waiting ≡ self.old.waiting }
+        ensures answered { vec_len self.old.answered < vec_capacity self.old.answered
+            → self.new.answered.items ≡ self.old.answered.items ++ record { answer = answer; fault = fault } ∷ [] }
+        ensures capacity { vec_capacity self.old.answered ≤ vec_capacity self.new.answered }
+    {
+        drop(script);
+        self.ended = self.ended.and(&fault);
+        // There is room for as many answers as there were scripts. One more than that is dropped where memory is refused.
+        let _ = self.answered.push(Answered { answer, fault });
+    }
+}

@@ -1,0 +1,39 @@
+// What serving needs of a spool.
+ghost use Rattle.std.specs.Prelude.{◌≡◌, ◌++◌, ◌∷◌, [], ℕ, List, Option, IfSome, IfNone};
+
+use std::io::{Read, Write};
+
+/// Where the scripts of one client come from, and where their answers go.
+///
+/// The client asks whether more is to be taken, takes a script, writes its answer, hands the answer over, and asks again. Each method
+/// returns after a moment: `next` waits where no script is there, for 64 ms at most, and the others do not wait.
+pub trait Spool {
+    /// What a script is read from.
+    type Script: Read + Drop + Send;
+
+    /// What its answer is written to.
+    type Answer: Write + Drop + Send;
+
+    /// The scripts that were taken so far, in turn: the bytes of each, where they are known.
+    ghost taken: { Self → List (Option (List ℕ)) };
+
+    /// How the scripts ended whose answers were handed over, in turn: the number of the fault that ended it, 51 to 54, where one did.
+    ghost ended: { Self → List (Option ℕ) };
+
+    /// Whether no more is to be taken.
+    fn is_over(&mut self) -> bool
+        ensures taken { taken self.new ≡ taken self.old }
+        ensures ended { ended self.new ≡ ended self.old };
+
+    /// The next script, and what its answer is to be written to; none where none came within 64 ms.
+    fn next(&mut self) -> Option<(Self::Script, Self::Answer)>
+        ensures taken { IfSome result (λ job. taken self.new ≡ taken self.old ++ Self.Script.remaining job.0 ∷ []) }
+        ensures none { IfNone result (taken self.new ≡ taken self.old) }
+        ensures ended { ended self.new ≡ ended self.old };
+
+    /// Hands the answer of the script over, which a fault of this number ended, 51 to 54, where one did. At 54 the answer may be cut
+    /// anywhere, and has no line of it.
+    fn deliver(&mut self, script: Self::Script, answer: Self::Answer, fault: Option<u32>)
+        ensures taken { taken self.new ≡ taken self.old }
+        ensures ended { ended self.new ≡ ended self.old ++ fault ∷ [] };
+}

@@ -1,0 +1,378 @@
+// Many clients at once: the scripts of spools in memory are done as a session does them, whatever the other clients do.
+
+use crate::helpers::{answers_on, formatted};
+use cc_disk::MemoryDisk;
+use cc_pool::NoGate;
+use cc_session::{Served, SessionEnd, serve, session};
+use cc_spool::MemorySpool;
+use std::alloc::{AllocError, Global};
+use std::collections::VecDeque;
+use std::io::{self, ErrorKind, Read, Write};
+use std::sync::Wait;
+use std::test::Fail;
+use std::thread::Threads;
+
+// The scripts of a client, in turn, with the lines of their answers: `@` stands for the client's letter, `#` for a receipt's number.
+static SCRIPTS: [(&str, &str); 14] = [
+    (
+        "add @ 16\nint main(void){}\nrun @ 1000\n",
+        "ok #\nexited 0\n",
+    ),
+    ("add @ 16\nint main(void){}\n", "fault 31 Exists\n"),
+    (
+        "add @2 40\nint main(void){write_word(7);return -2;}\nrun @2 1000\nrun @2 1\n",
+        "ok #\n7\nexited -2\ngoing\n",
+    ),
+    (
+        "replace @ 40\nint main(void){write_word(7);return -2;}\nrun @ 1000\n",
+        "ok #\n7\nexited -2\n",
+    ),
+    ("withdraw @2\nwithdraw @2\n", "ok #\nfault 32 Absent\n"),
+    (
+        "hello\nadd @3 26\nint main(void){return 1 2}\n",
+        "fault 50 BadLine\nfault 5 Unexpected at 1:25\n",
+    ),
+    ("compact\n", "ok\n"),
+    (
+        "add @3 19\nint main(void)\n{x;}\nrun @3 5\n",
+        "fault 11 Unknown at 2:2\nfault 32 Absent\n",
+    ),
+    ("", ""),
+    ("replace @9 16\nint main(void){}\n", "fault 32 Absent\n"),
+    ("add @4 0\n\n", "fault 5 Unexpected at 1:1\n"),
+    (
+        "add A 4\nlist\nrun @ 1000\n",
+        "fault 33 BadName\n7\nexited -2\n",
+    ),
+    ("withdraw @\n", "ok #\n"),
+    ("add @ 16\nint main(void){}\n", "ok #\n"),
+];
+
+// The clients, each with how many of the scripts it does: forty in all.
+const CLIENTS: [(u8, usize); 3] = [(b'a', 14), (b'b', 13), (b'c', 13)];
+
+/// A script. One that is torn can't be read behind its bytes.
+#[derive(Drop)]
+struct Paper {
+    bytes: VecDeque<u8>,
+    is_torn: bool,
+}
+
+impl Read for Paper {
+    fn read(&mut self, buf: &mut [u8]) -> io::Result<usize> {
+        if self.is_torn && self.bytes.is_empty() {
+            return Err(io::Error::from(ErrorKind::BrokenPipe));
+        }
+        self.bytes.read(buf)
+    }
+}
+
+/// What an answer is written to. A write of more bytes than there is room for fails.
+#[derive(Drop)]
+struct Page {
+    bytes: Vec<u8>,
+    room: usize,
+}
+
+impl Write for Page {
+    fn write(&mut self, buf: &[u8]) -> io::Result<usize> {
+        if buf.len() > self.room {
+            return Err(io::Error::from(ErrorKind::StorageFull));
+        }
+        self.room -= buf.len();
+        self.bytes.write(buf)
+    }
+
+    fn flush(&mut self) -> io::Result<()> {
+        Ok(())
+    }
+}
+
+// The most bytes of an answer that has all the room that it needs.
+const ROOM: usize = 4_000_000;
+
+fn page_of(alloc: Global, room: usize) -> Page {
+    Page {
+        bytes: Vec::new(alloc),
+        room,
+    }
+}
+
+// A text with the client's letter in it.
+fn of_client(alloc: Global, text: &str, letter: u8) -> Result<Vec<u8>, AllocError> {
+    let mut bytes = Vec::new(alloc);
+    for byte in text.bytes() {
+        bytes.push(if byte == b'@' { letter } else { byte })?;
+    }
+    Ok(bytes)
+}
+
+// The lines with `#` for the number of each receipt.
+fn without_numbers(alloc: Global, lines: &[u8]) -> Result<Vec<u8>, AllocError> {
+    let mut kept = Vec::new(alloc);
+    for line in lines.split_inclusive(|byte| *byte == b'\n') {
+        let is_receipt = line.starts_with(b"ok ".as_slice());
+        kept.extend_from_slice(if is_receipt {
+            b"ok #\n".as_slice()
+        } else {
+            line
+        })?;
+    }
+    Ok(kept)
+}
+
+fn spool_of(
+    alloc: Global,
+    letter: u8,
+    count: usize,
+) -> Result<MemorySpool<Paper, Page>, AllocError> {
+    let mut scripts = Vec::new(alloc);
+    for (script, _) in SCRIPTS.iter().take(count) {
+        let paper = Paper {
+            bytes: VecDeque::from(of_client(alloc, script, letter)?),
+            is_torn: false,
+        };
+        scripts.push((paper, page_of(alloc, ROOM)))?;
+    }
+    MemorySpool::new(alloc, scripts)
+}
+
+fn served<H>(
+    rt: &H,
+    alloc: Global,
+    spools: Vec<MemorySpool<Paper, Page>>,
+    disk: MemoryDisk,
+    written: &mut Vec<u8>,
+) -> Served<MemoryDisk, MemorySpool<Paper, Page>>
+where
+    H: Threads + Wait + Copy + Send + Sync + 'static,
+{
+    serve(rt, alloc, spools, written, &mut io::sink(), disk, 2, NoGate)
+}
+
+// What a session answers to the scripts of a client, one behind the other.
+fn answered_alone<H>(rt: &H, alloc: Global, letter: u8, count: usize) -> Result<Vec<u8>, Fail>
+where
+    H: Threads + Wait + Copy + Send + 'static,
+{
+    let mut scripts = Vec::new(alloc);
+    for (script, _) in SCRIPTS.iter().take(count) {
+        scripts.extend_from_slice(of_client(alloc, script, letter)?.as_slice())?;
+    }
+    let mut reader = scripts.as_slice();
+    let mut written = Vec::new(alloc);
+    let disk = formatted(alloc, 65536)?;
+    let (disk, end) = session(rt, alloc, &mut reader, &mut written, disk, 1);
+    drop(disk);
+    if end != SessionEnd::Finished {
+        return Err(Fail::from("not finished"));
+    }
+    Ok(written)
+}
+
+#[test]
+fn three_clients_with_forty_scripts(rt: HostRuntime) -> Result<(), Fail> {
+    let alloc = rt.alloc();
+    let mut spools = Vec::new(alloc);
+    for (letter, count) in CLIENTS {
+        spools.push(spool_of(alloc, letter, count)?)?;
+    }
+    let mut written = Vec::new(alloc);
+    let left = served(&rt, alloc, spools, formatted(alloc, 65536)?, &mut written);
+    assert!(rt; left.end == SessionEnd::Finished && written.is_empty());
+    assert!(rt; left.spools.len() == 3);
+    for ((letter, count), spool) in CLIENTS.iter().zip(left.spools.as_slice()) {
+        let mut all = Vec::new(alloc);
+        assert!(rt; spool.answered().len() == *count);
+        for ((script, lines), done) in SCRIPTS.iter().zip(spool.answered()) {
+            let wanted = of_client(alloc, lines, *letter)?;
+            let kept = without_numbers(alloc, done.answer.bytes.as_slice())?;
+            assert!(rt;
+                done.fault.is_none() && kept.as_slice() == wanted.as_slice(),
+                "for {script}"
+            );
+            all.extend_from_slice(kept.as_slice())?;
+        }
+        let alone = answered_alone(&rt, alloc, *letter, *count)?;
+        assert!(rt; without_numbers(alloc, alone.as_slice())?.as_slice() == all.as_slice());
+    }
+    // What is left of the forty: the last script of the first client.
+    let right = answers_on(
+        &rt,
+        alloc,
+        b"list\n",
+        left.disk,
+        "unit a\nok 1\n",
+        SessionEnd::Finished,
+    )?;
+    assert!(rt; right);
+    Ok(())
+}
+
+// So many empty lines, then this.
+fn blank(alloc: Global, count: usize, end: &[u8]) -> Result<Vec<u8>, AllocError> {
+    let mut bytes = Vec::with_capacity(alloc, count)?;
+    for _ in 0..count {
+        bytes.push(b'\n')?;
+    }
+    bytes.extend_from_slice(end)?;
+    Ok(bytes)
+}
+
+// What is answered to so many empty lines, then this.
+fn refused(alloc: Global, count: usize, end: &[u8]) -> Result<Vec<u8>, AllocError> {
+    let mut lines = Vec::new(alloc);
+    for _ in 0..count {
+        lines.extend_from_slice(b"fault 50 BadLine\n")?;
+    }
+    lines.extend_from_slice(end)?;
+    Ok(lines)
+}
+
+fn script_of(alloc: Global, script: &[u8], is_torn: bool) -> Result<Paper, AllocError> {
+    let mut bytes = Vec::new(alloc);
+    bytes.extend_from_slice(script)?;
+    Ok(Paper {
+        bytes: VecDeque::from(bytes),
+        is_torn,
+    })
+}
+
+/// A script, whether it is torn, and the room for its answer; its answer, and the fault that ends it.
+type Case<'a> = (&'a [u8], bool, usize, &'a [u8], Option<u32>);
+
+// Whether the scripts of one client are answered so, in turn.
+fn are_answered<H>(rt: &H, alloc: Global, cases: &[Case<'_>]) -> Result<bool, Fail>
+where
+    H: Threads + Wait + Copy + Send + Sync + 'static,
+{
+    let mut scripts = Vec::new(alloc);
+    for (script, is_torn, room, _, _) in cases {
+        scripts.push((script_of(alloc, script, *is_torn)?, page_of(alloc, *room)))?;
+    }
+    let mut spools = Vec::new(alloc);
+    spools.push(MemorySpool::new(alloc, scripts)?)?;
+    let mut written = Vec::new(alloc);
+    let left = served(rt, alloc, spools, formatted(alloc, 4096)?, &mut written);
+    let Some(spool) = left.spools.as_slice().first() else {
+        return Ok(false);
+    };
+    let mut right = left.end == SessionEnd::Finished && written.is_empty();
+    right = right && spool.answered().len() == cases.len();
+    for ((_, _, _, lines, fault), done) in cases.iter().zip(spool.answered()) {
+        right = right && done.answer.bytes.as_slice() == *lines && done.fault == *fault;
+    }
+    Ok(right)
+}
+
+// A script that 51, 52 or 53 ends ends alone: the next is answered as if it had not been. 52 comes behind 65,536 lines, sources not counted.
+#[test]
+fn a_fault_ends_its_script_alone(rt: HostRuntime) -> Result<(), Fail> {
+    let alloc = rt.alloc();
+    let many = blank(alloc, 65_535, b"add b 16\nint main(void){}\n\n")?;
+    let more = blank(alloc, 65_536, b"add a 99\nint")?;
+    let all = blank(alloc, 65_536, b"")?;
+    let too_many = refused(alloc, 65_535, b"ok 2\nfault 52 ScriptTooLong\n")?;
+    let too_more = refused(alloc, 65_536, b"fault 52 ScriptTooLong\n")?;
+    let enough = refused(alloc, 65_536, b"")?;
+    let cases: [Case<'_>; 8] = [
+        (
+            b"add a 99\nint main(v",
+            false,
+            ROOM,
+            b"fault 51 EndOfScript\n",
+            Some(51),
+        ),
+        (
+            b"add a 16\nint main(void){}\n",
+            false,
+            ROOM,
+            b"ok 1\n",
+            None,
+        ),
+        (many.as_slice(), false, ROOM, too_many.as_slice(), Some(52)),
+        (b"list\n", false, ROOM, b"unit a\nunit b\nok 3\n", None),
+        (more.as_slice(), false, ROOM, too_more.as_slice(), Some(52)),
+        (
+            b"list\nadd c 16\nint ma",
+            true,
+            ROOM,
+            b"unit a\nunit b\nok 4\nfault 53 ReadFault\n",
+            Some(53),
+        ),
+        (b"run a 1000\n", false, ROOM, b"exited 0\n", None),
+        (all.as_slice(), false, ROOM, enough.as_slice(), None),
+    ];
+    assert!(rt; are_answered(&rt, alloc, cases.as_slice())?);
+    Ok(())
+}
+
+// An answer that has no room for a line, and one that has none for the line of the fault itself.
+#[test]
+fn an_answer_without_room(rt: HostRuntime) -> Result<(), Fail> {
+    let cases: [Case<'_>; 3] = [
+        (
+            b"add a 16\nint main(void){}\nlist\n",
+            false,
+            5,
+            b"ok 1\n",
+            Some(54),
+        ),
+        (b"add a 99\nint", false, 0, b"", Some(54)),
+        (b"list\n", false, ROOM, b"unit a\nok 3\n", None),
+    ];
+    assert!(rt; are_answered(&rt, rt.alloc(), cases.as_slice())?);
+    Ok(())
+}
+
+// Where no service is opened no script is taken, and disk and spools come back.
+#[test]
+fn a_disk_that_is_no_library(rt: HostRuntime) -> Result<(), Fail> {
+    let alloc = rt.alloc();
+    let mut spools = Vec::new(alloc);
+    spools.push(spool_of(alloc, b'a', 1)?)?;
+    let mut written = Vec::new(alloc);
+    let left = served(
+        &rt,
+        alloc,
+        spools,
+        MemoryDisk::new(alloc, 64)?,
+        &mut written,
+    );
+    assert!(rt; left.end == SessionEnd::Fault(38));
+    assert!(rt; written.as_slice() == b"fault 38 NotALibrary\n".as_slice());
+    assert!(rt; left.spools.len() == 1 && left.spools[0].answered().is_empty());
+    // They are done on a disk that has one.
+    let left = served(
+        &rt,
+        alloc,
+        left.spools,
+        formatted(alloc, 4096)?,
+        &mut written,
+    );
+    assert!(rt; left.end == SessionEnd::Finished && left.spools.len() == 1);
+    let done = left.spools[0].answered();
+    assert!(rt;
+        done.len() == 1 && done[0].answer.bytes.as_slice() == b"ok 1\nexited 0\n".as_slice()
+    );
+    Ok(())
+}
+
+// A service has 1,024 clients. Where there are more spools no script is taken of any.
+#[test]
+fn more_spools_than_clients(rt: HostRuntime) -> Result<(), Fail> {
+    let alloc = rt.alloc();
+    let mut spools = Vec::new(alloc);
+    for _ in 0..1025 {
+        spools.push(spool_of(alloc, b'a', 1)?)?;
+    }
+    let mut written = Vec::new(alloc);
+    let left = served(&rt, alloc, spools, formatted(alloc, 4096)?, &mut written);
+    assert!(rt; left.end == SessionEnd::Fault(30));
+    assert!(rt; written.as_slice() == b"fault 30 TooManyClients\n".as_slice());
+    assert!(rt; left.spools.len() == 1025);
+    for spool in left.spools.as_slice() {
+        assert!(rt; spool.answered().is_empty());
+    }
+    Ok(())
+}
