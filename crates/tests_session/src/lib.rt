@@ -1,11 +1,14 @@
 //! Tests of sessions, from outside: scripts with their answers, scripts that are refused, streams and disks that fail.
 //!
-//! `helpers` runs a script on a formatted disk, `scripts` has the worked scripts, `audits` those that audit, `refusals` what is refused,
-//! `failing` readers and writers that fail, `files` a library in a file, `serving` many clients at once.
+//! `helpers` runs a script on a formatted disk, `scripts` has the worked scripts, `audits` those that audit, `earlier` a library of before
+//! selection, `refusals` what is refused, `failing` readers and writers that fail, `files` a library in a file, `serving` many clients at
+//! once.
 #![tactic(auto)]
 
 #[cfg(test)]
 mod audits;
+#[cfg(test)]
+mod earlier;
 #[cfg(test)]
 mod failing;
 #[cfg(test)]
