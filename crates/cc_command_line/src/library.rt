@@ -18,13 +18,13 @@ pub const MOST_AREA: u64 = 1_073_741_824;
 /// The most workers of a service.
 pub const MOST_WORKERS: u64 = 8;
 
-const FORMAT: &str = "format";
+pub(crate) const FORMAT: &str = "format";
 
-const AREA_RULE: &str = "AREA is a decimal number of bytes from 64 to 1073741824";
+pub(crate) const AREA_RULE: &str = "AREA is a decimal number of bytes from 64 to 1073741824";
 
-const WORKERS: &str = "workers";
+pub(crate) const WORKERS: &str = "workers";
 
-const WORKERS_RULE: &str = "N is a decimal number from 1 to 8";
+pub(crate) const WORKERS_RULE: &str = "N is a decimal number from 1 to 8";
 
 // What a person reads below the options of the command.
 const LIBRARY_HELP: &str = "\

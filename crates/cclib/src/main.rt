@@ -1,24 +1,33 @@
 // The program `cclib`: reads a C program from standard input, and checks, interprets, runs or lists it, or does a script over a library.
 // How a command line is read is the matter of `cc_command_line`, how a task is done that of `cc_program`, a script that of `cc_session`, the
-// file of a library that of `filing`, a device in its place that of `device`, what the stack needs that of `stack`.
+// file of a library that of `filing`, a device in its place that of `device`, a server that of `serving`, its clients that of `submitting`,
+// what a person is told that of `telling`, what the stack needs that of `stack`.
 #![tactic(auto)]
+
+ghost use Rattle.cc_command_line.specs.Task.{IsAllowed};
 
 mod device;
 mod filing;
+mod serving;
 mod stack;
+mod submitting;
+mod telling;
 
 use cc_command_line::{Request, Task, Work, read_request, refused_bytes};
 use cc_program::{Fault, perform, perform_and_explain};
 use clap::Error;
 use clap::error::ErrorKind;
 use filing::{Asked, library};
+use serving::{Serving, serve_folder};
 use stack::reserve_stack;
 use std::alloc::AllocError;
+use std::fs::File;
 use std::io::{self, BufWriter, IsTerminal, Write};
-use std::process::ExitCode;
-use std::rt::Env;
+use std::process::{self, ExitCode};
+use std::rt::{Clock, Env, Files};
 use std::sync::Wait;
 use std::thread::Threads;
+use submitting::{Submitting, submit_script};
 
 // Where a person sits: who writes standard input, and who sees standard error.
 #[derive(Clone, Copy)]
@@ -72,7 +81,7 @@ fn refuse<R: Eprint + Print>(rt: &R, error: Error) -> Result<u8, AllocError> {
     Ok(if error.exit_code() == 0 { 0 } else { 2 })
 }
 
-// The status; the error is lack of memory before the work began. Files are opened by a handle of their own.
+// Does what the command line asks; the status. The error is lack of memory before the work began. Files are opened by a handle of their own.
 fn run<R, E: Write + Drop>(
     rt: &R,
     files: &HostRuntime,
@@ -80,7 +89,21 @@ fn run<R, E: Write + Drop>(
     persons: Persons,
 ) -> Result<u8, AllocError>
 where
-    R: AllocGlobal + Env + Input + Print + Eprint + Threads + Wait + Copy + Send + Sync + 'static,
+    R: AllocGlobal
+        + Env
+        + Files<File = File>
+        + Clock
+        + Input
+        + Print
+        + Eprint
+        + Threads
+        + Wait
+        + Copy
+        + Clone
+        + Send
+        + Sync
+        + Drop
+        + 'static,
 {
     reserve_stack(rt.alloc())?;
     let words = match std::env::args(rt) {
@@ -97,6 +120,35 @@ where
         Ok(request) => request,
         Err(error) => return refuse(rt, error),
     };
+    do_work(rt, files, errors, persons, work, is_quiet)
+}
+
+// Does a work.
+fn do_work<R, E: Write + Drop>(
+    rt: &R,
+    files: &HostRuntime,
+    errors: E,
+    persons: Persons,
+    work: Work,
+    is_quiet: bool,
+) -> Result<u8, AllocError>
+where
+    R: AllocGlobal
+        + Files<File = File>
+        + Clock
+        + Input
+        + Print
+        + Eprint
+        + Threads
+        + Wait
+        + Copy
+        + Clone
+        + Send
+        + Sync
+        + Drop
+        + 'static,
+    requires allowed { IsAllowed work }
+{
     match work {
         Work::One(task) => start(rt, task, is_quiet, errors),
         Work::Library {
@@ -113,6 +165,41 @@ where
                 is_watched: persons.is_watched,
             };
             library(rt, files, asked, errors)
+        }
+        Work::Serve {
+            disk,
+            folder,
+            area,
+            workers,
+            clients,
+            keep,
+        } => {
+            let asked = Serving {
+                path: disk.as_str(),
+                folder: folder.as_str(),
+                area,
+                workers,
+                clients,
+                keep,
+                is_quiet,
+                process: process::id(files.process()),
+            };
+            serve_folder(rt, files, asked, errors)
+        }
+        Work::Submit { folder, line, wait } => {
+            let line = match &line {
+                Some(line) => Some(line.as_str()),
+                None => None,
+            };
+            let asked = Submitting {
+                folder: folder.as_str(),
+                line,
+                wait,
+                is_quiet,
+                is_watched: persons.is_watched,
+                process: process::id(files.process()),
+            };
+            submit_script(rt, asked, errors)
         }
     }
 }
