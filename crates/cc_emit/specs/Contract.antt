@@ -115,6 +115,15 @@ pub record Enters (meaning : Meaning) (layout : Layout meaning.objects) (f opene
   pub passes : Passes ws 10 s
   pub shares : Shares layout s h
 
+-- the word that x3 holds where a function gains by it: 2 KiB behind the beginning of the globals, so that an access reaches the first 4 KiB
+-- of them from it
+abbrev pub base_address : ℕ
+base_address = globals_from + 2048
+
+-- what x3 holds behind a call: what it held before, or that word; so what set it to that word has it still
+abbrev pub IsBaseBehind : (before after : ℕ) → Type 0
+IsBaseBehind before after = (after ≡ before) ⊎ (after ≡ base_address)
+
 -- the machine behind the return
 pub record ComesBack {objects : List Size} (layout : Layout objects) (s : State) (a : Answer) (t : State) : Type 0 where
   pub at : t.pc ≡ s.registers 1
@@ -122,6 +131,7 @@ pub record ComesBack {objects : List Size} (layout : Layout objects) (s : State)
   pub value : t.registers 10 ≡ a.value
   pub shares : Shares layout t a.world
   pub stack : t.registers 2 ≡ s.registers 2
+  pub base : IsBaseBehind (s.registers 3) (t.registers 3)
   pub kept : (r : ℕ) → IsKept r → t.registers r ≡ s.registers r
   pub above : (a : ℕ) → s.registers 2 ≤ a → t.memory a ≡ s.memory a
 

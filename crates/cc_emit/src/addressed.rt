@@ -1,4 +1,4 @@
-//! A step with how much of its address is in the machine's scratch registers already: how many items it takes follows from both.
+//! A step with how much of its address is in the machine's registers already: how many items it takes follows from both.
 
 use cc_select::Step;
 
@@ -11,6 +11,10 @@ pub(crate) enum Remembered {
     Upper,
     /// `x5` holds the element's address, less the lower part of its object's.
     Element,
+    /// `x3` holds the base of the globals, which reaches it.
+    Based,
+    /// `x5` holds the element's address, less how far its object lies from `x3`.
+    BasedElement,
 }
 
 /// A step, and what of its address is there, where it reads or writes an element.

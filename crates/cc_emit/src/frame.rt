@@ -4,9 +4,12 @@ ghost use Rattle.std.specs.Prelude.{◌≡◌, ◌≤◌, ◌<◌, ◌+◌, ◌*
 ghost use Rattle.std.specs.List.{AllByRecursion};
 ghost use Rattle.cc_ltl.specs.Registers.{most_slots};
 ghost use Rattle.cc_emit.specs.Frames.{frame_size, frame_of, item_writes, writes, is_written, calls, is_call};
-ghost use Rattle.cc_emit.specs.Emission.{saving, restoring, prologue, epilogue, prologue_size, stack_moved_size};
+ghost use Rattle.cc_emit.specs.Emission.{saving, restoring, prologue, epilogue, beginning_size, prologue_size, stack_moved_size};
 
-use crate::instructions::{RETURN_ADDRESS, STACK, add_immediate, go_back, load, put, store};
+use crate::instructions::{
+    BASE, BASE_ADDRESS, RETURN_ADDRESS, STACK, add_immediate, go_back, high, load, load_upper, low,
+    put, store,
+};
 use crate::item::Item;
 use cc_linear::Item as LinearItem;
 use cc_ltl::Move;
@@ -20,6 +23,7 @@ const KEPT: [u8; 12] = [8, 9, 18, 19, 20, 21, 22, 23, 24, 25, 26, 27];
 /// The frame of a function: at most 495 slots and 13 registers. A clause sees both.
 #[derive(Drop)]
 pub(crate) struct Frame {
+    based: bool,
     slots: u16,
     saved: Vec<u8>,
 }
@@ -32,16 +36,21 @@ impl Model for Frame {
 
     ghost Value = { Shown };
 
-    ghost view = { λ f. record { slots = f.slots; saved = f.saved.items } };
+    ghost view = { λ f. record { based = f.based; slots = f.slots; saved = f.saved.items } };
 
     ghost invariant = { λ f. (f.slots ≤ most_slots) × (length f.saved.items ≤ 13) × AllByRecursion (λ r. r < 32) f.saved.items };
 }
 
 impl Frame {
-    /// The frame of these steps.
-    pub(crate) fn new(alloc: Global, slots: u16, code: &[Step]) -> Result<Frame, AllocError>
+    /// The frame of these steps; `based` where they reach globals from `x3`.
+    pub(crate) fn new(
+        alloc: Global,
+        based: bool,
+        slots: u16,
+        code: &[Step],
+    ) -> Result<Frame, AllocError>
         requires { slots ≤ most_slots }
-        ensures { IfOk result (λ frame. frame ≡ frame_of slots code.now) }
+        ensures { IfOk result (λ frame. frame ≡ frame_of based slots code.now) }
     {
         let mut saved = Vec::new(alloc);
         if calls(code) {
@@ -52,7 +61,11 @@ impl Frame {
                 saved.push(*register)?;
             }
         }
-        Ok(Frame { slots, saved })
+        Ok(Frame {
+            based,
+            slots,
+            saved,
+        })
     }
 
     /// The registers that it saves, in the order of their places.
@@ -80,18 +93,30 @@ impl Frame {
         usize::from(self.size() != 0)
     }
 
-    /// How many items come before those of the function's steps: at most 14.
-    pub(crate) fn prologue_size(&self) -> usize
-        ensures answer { result ≡ prologue_size self.now }
-        ensures few { result ≤ 14 }
+    /// How many items set `x3`: two where the function reaches globals from it, else none.
+    fn beginning_size(&self) -> usize
+        ensures answer { result ≡ beginning_size self.now }
+        ensures few { result ≤ 2 }
     {
-        self.moves() + self.saved.len()
+        if self.based { 2 } else { 0 }
     }
 
-    /// The stack pointer goes down by the frame's size, and the registers are saved.
+    /// How many items come before those of the function's steps: at most 16.
+    pub(crate) fn prologue_size(&self) -> usize
+        ensures answer { result ≡ prologue_size self.now }
+        ensures few { result ≤ 16 }
+    {
+        self.beginning_size() + (self.moves() + self.saved.len())
+    }
+
+    /// `x3` is set, the stack pointer goes down by the frame's size, and the registers are saved.
     pub(crate) fn put_prologue(&self, items: &mut Vec<Item>) -> Result<(), AllocError>
         ensures { OnOk result (items.new.items ≡ items.old.items ++ prologue self.now) }
     {
+        if self.based {
+            put(items, load_upper(BASE, high(BASE_ADDRESS)))?;
+            put(items, add_immediate(BASE, BASE, low(BASE_ADDRESS)))?;
+        }
         let size = self.size();
         if size != 0 {
             put(items, add_immediate(STACK, STACK, 0u32.wrapping_sub(size)))?;

@@ -1,22 +1,24 @@
 //! What the scratch registers hold within a straight piece. An access leaves in `x6` the upper part of an address, and in `x5` the address
 //! of an element, less the lower part of its object's; later accesses take what they need of it. It is forgotten at a label and a call,
-//! and the element's address where its index register is written or `x5` is used.
+//! and the element's address where its index register is written or `x5` is used. Where `x3` holds the base of the globals, what it
+//! reaches needs no upper part.
 
-ghost use Rattle.std.specs.Prelude.{◌≡◌, ◌<◌, IfOk};
+ghost use Rattle.std.specs.Prelude.{◌≡◌, ◌≤◌, ◌<◌, ◌^◌, length, IfOk};
 ghost use Rattle.cc_words.specs.Widths.{same_width};
 ghost use Rattle.cc_select.specs.declared.step.Step.TheVariants.{One};
 ghost use Rattle.cc_emit.specs.Emission.{recipe, word_recipe};
 ghost use Rattle.cc_emit.specs.Branches.{against_zero};
-ghost use Rattle.cc_emit.specs.Scratch.{nothing, is_upper, is_address, known_of, known_at, remembered, without, without_address, behind_move, behind_const, behind_recipe, behind_word_recipe, behind_word_branch, behind_element, behind_at, behind_one, behind_step, addressed};
+ghost use Rattle.cc_emit.specs.Scratch.{nothing, is_upper, is_address, is_in_reach, known_of, known_at, remembered, without, without_address, upper_behind, over, is_reached, upper_saved, saved, gains, behind_move, behind_const, behind_recipe, behind_word_recipe, behind_word_branch, behind_element, behind_at, behind_one, behind_step, addressed};
 ghost use Rattle.cc_emit.specs.internal.Bases.{base_in};
 
 use crate::addressed::{Addressed, Remembered};
 use crate::bases::Bases;
 use crate::condition::Condition;
-use crate::instructions::{SERVICE, high, known_place, low};
+use crate::instructions::{BASE_ADDRESS, SERVICE, high, known_place, low};
 use crate::recipe::{Recipe, WordRecipe};
 use cc_linear::Item as LinearItem;
 use cc_ltl::Move;
+use cc_rv32::map::GLOBALS_FROM;
 use cc_select::Step;
 use cc_words::Width;
 use std::alloc::{AllocError, Global};
@@ -30,8 +32,8 @@ pub(crate) struct ElementAddress {
     width: Width,
     /// The register that holds the element's number.
     index: u8,
-    /// The upper part of the object's address.
-    upper: u32,
+    /// What is in the address besides: the upper part of the object's, or the base of the globals.
+    over: u32,
 }
 
 /// What `x6` holds of an upper part, and `x5` of an element's address.
@@ -62,26 +64,29 @@ impl Scratch {
         }
     }
 
-    // Whether x5 holds the address of an element of that number, in an object with this upper part.
-    fn is_address(self, width: Width, index: u8, upper: u32) -> bool
-        ensures { result ≡ is_address self.address width index upper }
+    // Whether x5 holds the sum of this word and of an element's number in bytes.
+    fn is_address(self, width: Width, index: u8, over: u32) -> bool
+        ensures { result ≡ is_address self.address width index over }
     {
         match self.address {
-            Some(held) => {
-                is_same(held.width, width) && held.index == index && held.upper == upper
-            }
+            Some(held) => is_same(held.width, width) && held.index == index && held.over == over,
             None => false,
         }
     }
 
-    // What is there of the address of an element whose number is in a register.
-    fn known_of(self, width: Width, base: u32, index: u8) -> Remembered
-        ensures { result ≡ known_of self width base index }
+    // What is there of the address of an element whose number is in a register; `based` where x3 holds the base of the globals.
+    fn known_of(self, based: bool, width: Width, base: u32, index: u8) -> Remembered
+        ensures { result ≡ known_of based self width base index }
     {
-        let upper = high(base);
-        if self.is_address(width, index, upper) {
+        if based && is_in_reach(base) {
+            if self.is_address(width, index, BASE_ADDRESS) {
+                Remembered::BasedElement
+            } else {
+                Remembered::Based
+            }
+        } else if self.is_address(width, index, high(base) * 4096) {
             Remembered::Element
-        } else if self.is_upper(upper) {
+        } else if self.is_upper(high(base)) {
             Remembered::Upper
         } else {
             Remembered::Nothing
@@ -89,10 +94,12 @@ impl Scratch {
     }
 
     // What is there of an address.
-    fn known_at(self, address: u32) -> Remembered
-        ensures { result ≡ known_at self address }
+    fn known_at(self, based: bool, address: u32) -> Remembered
+        ensures { result ≡ known_at based self address }
     {
-        if self.is_upper(high(address)) {
+        if based && is_in_reach(address) {
+            Remembered::Based
+        } else if self.is_upper(high(address)) {
             Remembered::Upper
         } else {
             Remembered::Nothing
@@ -100,8 +107,8 @@ impl Scratch {
     }
 
     // What is there of the address of the element that an item of Linear reads or writes.
-    fn remembered_of_one(self, bases: &Bases, item: LinearItem) -> Remembered
-        ensures { result ≡ remembered (base_in bases.now) self (One item) }
+    fn remembered_of_one(self, bases: &Bases, based: bool, item: LinearItem) -> Remembered
+        ensures { result ≡ remembered (base_in bases.now) based self (One item) }
     {
         match item {
             LinearItem::Load {
@@ -109,35 +116,35 @@ impl Scratch {
                 object,
                 to: _,
                 index,
-            } => self.known_of(width, bases.of(object), index.number()),
+            } => self.known_of(based, width, bases.of(object), index.number()),
             LinearItem::Store {
                 width,
                 object,
                 index,
                 from: _,
-            } => self.known_of(width, bases.of(object), index.number()),
+            } => self.known_of(based, width, bases.of(object), index.number()),
             _ => Remembered::Nothing,
         }
     }
 
     // What is there of the address of a step's element.
-    fn remembered(self, bases: &Bases, step: Step) -> Remembered
-        ensures { result ≡ remembered (base_in bases.now) self step }
+    fn remembered(self, bases: &Bases, based: bool, step: Step) -> Remembered
+        ensures { result ≡ remembered (base_in bases.now) based self step }
     {
         match step {
-            Step::One(item) => self.remembered_of_one(bases, item),
+            Step::One(item) => self.remembered_of_one(bases, based, item),
             Step::LoadAt {
                 width,
                 object,
                 to: _,
                 number,
-            } => self.known_at(known_place(width, bases.of(object), number)),
+            } => self.known_at(based, known_place(width, bases.of(object), number)),
             Step::StoreAt {
                 width,
                 object,
                 number,
                 from: _,
-            } => self.known_at(known_place(width, bases.of(object), number)),
+            } => self.known_at(based, known_place(width, bases.of(object), number)),
             _ => Remembered::Nothing,
         }
     }
@@ -220,41 +227,42 @@ impl Scratch {
         }
     }
 
-    // Behind an access to an element whose number is in a register.
-    fn behind_element(self, width: Width, base: u32, index: u8) -> Scratch
-        ensures { result ≡ behind_element (known_of self width base index) self width base index }
+    // What x6 holds of an upper part behind an access.
+    fn upper_behind(self, known: Remembered, address: u32) -> Option<u32>
+        ensures { result ≡ upper_behind known self.upper address }
     {
-        let upper = high(base);
-        let address = Some(ElementAddress {
-            width,
-            index,
-            upper,
-        });
-        match self.known_of(width, base, index) {
-            Remembered::Element => Scratch {
-                upper: self.upper,
-                address,
-            },
-            Remembered::Nothing | Remembered::Upper => Scratch {
-                upper: Some(upper),
-                address,
-            },
+        match known {
+            Remembered::Nothing | Remembered::Upper => Some(high(address)),
+            Remembered::Element | Remembered::Based | Remembered::BasedElement => self.upper,
+        }
+    }
+
+    // Behind an access to an element whose number is in a register.
+    fn behind_element(self, based: bool, width: Width, base: u32, index: u8) -> Scratch
+        ensures { result ≡ behind_element (known_of based self width base index) self width base index }
+    {
+        let known = self.known_of(based, width, base, index);
+        let over = over(known, base);
+        Scratch {
+            upper: self.upper_behind(known, base),
+            address: Some(ElementAddress { width, index, over }),
         }
     }
 
     // Behind an access to an address.
-    fn behind_at(self, address: u32) -> Scratch
-        ensures { result ≡ behind_at self address }
+    fn behind_at(self, based: bool, address: u32) -> Scratch
+        ensures { result ≡ behind_at (known_at based self address) self address }
     {
+        let known = self.known_at(based, address);
         Scratch {
-            upper: Some(high(address)),
+            upper: self.upper_behind(known, address),
             address: self.address,
         }
     }
 
     // Behind an item of Linear.
-    fn behind_one(self, bases: &Bases, item: LinearItem) -> Scratch
-        ensures { result ≡ behind_one (base_in bases.now) item self }
+    fn behind_one(self, bases: &Bases, based: bool, item: LinearItem) -> Scratch
+        ensures { result ≡ behind_one (base_in bases.now) based item self }
     {
         match item {
             LinearItem::Label { .. }
@@ -274,25 +282,25 @@ impl Scratch {
                 to,
                 index,
             } => self
-                .behind_element(width, bases.of(object), index.number())
+                .behind_element(based, width, bases.of(object), index.number())
                 .without(to.number()),
             LinearItem::Store {
                 width,
                 object,
                 index,
                 ..
-            } => self.behind_element(width, bases.of(object), index.number()),
+            } => self.behind_element(based, width, bases.of(object), index.number()),
             LinearItem::Read => self.without(SERVICE).without(RESULT),
             LinearItem::Write => self.without(SERVICE),
         }
     }
 
     // Behind a step.
-    fn behind_step(self, bases: &Bases, step: Step) -> Scratch
-        ensures { result ≡ behind_step (base_in bases.now) step self }
+    fn behind_step(self, bases: &Bases, based: bool, step: Step) -> Scratch
+        ensures { result ≡ behind_step (base_in bases.now) based step self }
     {
         match step {
-            Step::One(item) => self.behind_one(bases, item),
+            Step::One(item) => self.behind_one(bases, based, item),
             Step::Immediate {
                 operator,
                 to,
@@ -305,14 +313,14 @@ impl Scratch {
                 to,
                 number,
             } => self
-                .behind_at(known_place(width, bases.of(object), number))
+                .behind_at(based, known_place(width, bases.of(object), number))
                 .without(to.number()),
             Step::StoreAt {
                 width,
                 object,
                 number,
                 ..
-            } => self.behind_at(known_place(width, bases.of(object), number)),
+            } => self.behind_at(based, known_place(width, bases.of(object), number)),
             Step::Branch { .. } => self,
             Step::BranchImmediate {
                 operator,
@@ -334,20 +342,101 @@ fn is_same(left: Width, right: Width) -> bool
     )
 }
 
-/// The steps of a function, each with what is there of its address; `bases` has the objects' addresses.
+// Whether an address lies within the first 4 KiB of the globals, which x3 reaches.
+fn is_in_reach(address: u32) -> bool
+    ensures { result ≡ is_in_reach address }
+{
+    GLOBALS_FROM <= address && address < GLOBALS_FROM + 4096
+}
+
+// What x5 holds behind an access, besides an element's number in bytes.
+fn over(known: Remembered, base: u32) -> u32
+    ensures { result ≡ over known base }
+{
+    match known {
+        Remembered::Based | Remembered::BasedElement => BASE_ADDRESS,
+        Remembered::Nothing | Remembered::Upper | Remembered::Element => high(base) * 4096,
+    }
+}
+
+// Whether what a step reads or writes lies where x3 reaches.
+fn is_reached(bases: &Bases, step: Step) -> bool
+    ensures { result ≡ is_reached (base_in bases.now) step }
+{
+    match step {
+        Step::One(LinearItem::Load { object, .. } | LinearItem::Store { object, .. }) => {
+            is_in_reach(bases.of(object))
+        }
+        Step::LoadAt {
+            width,
+            object,
+            number,
+            ..
+        }
+        | Step::StoreAt {
+            width,
+            object,
+            number,
+            ..
+        } => is_in_reach(known_place(width, bases.of(object), number)),
+        _ => false,
+    }
+}
+
+// How many instructions x3 saves at an access: one, where it would make an upper part.
+fn upper_saved(known: Remembered) -> usize
+    ensures answer { result ≡ upper_saved known }
+    ensures few { result ≤ 1 }
+{
+    match known {
+        Remembered::Nothing => 1,
+        Remembered::Upper | Remembered::Element | Remembered::Based | Remembered::BasedElement => 0,
+    }
+}
+
+// How many a step saves.
+fn saved(bases: &Bases, scratch: Scratch, step: &Step) -> usize
+    ensures answer { result ≡ saved (base_in bases.now) scratch step.now }
+    ensures few { result ≤ 1 }
+{
+    if is_reached(bases, *step) {
+        upper_saved(scratch.remembered(bases, false, *step))
+    } else {
+        0
+    }
+}
+
+/// Whether a function gains by `x3`: of its steps more than two save an instruction by it, and it costs two. `bases` has the objects'
+/// addresses.
+pub(crate) fn gains(bases: &Bases, code: &[Step]) -> bool
+    requires { length code.now ≤ 2 ^ 59 }
+    ensures { result ≡ gains (base_in bases.now) code.now }
+{
+    let mut savings = 0;
+    let mut scratch = Scratch::nothing();
+    for step in code {
+        savings += saved(bases, scratch, step);
+        scratch = scratch.behind_step(bases, false, *step);
+    }
+    savings > 2
+}
+
+/// The steps of a function, each with what is there of its address; `bases` has the objects' addresses, `based` says whether `x3` holds
+/// the base of the globals.
 pub(crate) fn addressed(
     alloc: Global,
     bases: &Bases,
+    based: bool,
     code: &[Step],
 ) -> Result<Vec<Addressed>, AllocError>
-    ensures { IfOk result (λ steps. steps.items ≡ addressed (base_in bases.now) nothing code.now) }
+    ensures { IfOk result (λ steps. steps.items ≡ addressed (base_in bases.now) based nothing code.now) }
 {
     let mut steps = Vec::new(alloc);
     let mut scratch = Scratch::nothing();
     for step in code {
-        let known = scratch.remembered(bases, *step);
+        let known = scratch.remembered(bases, based, *step);
         steps.push(Addressed { step: *step, known })?;
-        scratch = scratch.behind_step(bases, *step);
+        scratch = scratch.behind_step(bases, based, *step);
     }
     Ok(steps)
 }

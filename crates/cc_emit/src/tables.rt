@@ -128,9 +128,9 @@ fn access_size(known: Remembered, width: Width) -> usize
     match (known, width) {
         (Remembered::Nothing, Width::Byte) => 3,
         (Remembered::Nothing, Width::Word) => 4,
-        (Remembered::Upper, Width::Byte) => 2,
-        (Remembered::Upper, Width::Word) => 3,
-        (Remembered::Element, _) => 1,
+        (Remembered::Upper | Remembered::Based, Width::Byte) => 2,
+        (Remembered::Upper | Remembered::Based, Width::Word) => 3,
+        (Remembered::Element | Remembered::BasedElement, _) => 1,
     }
 }
 
@@ -141,7 +141,7 @@ fn known_access_size(known: Remembered) -> usize
 {
     match known {
         Remembered::Nothing => 2,
-        Remembered::Upper | Remembered::Element => 1,
+        Remembered::Upper | Remembered::Element | Remembered::Based | Remembered::BasedElement => 1,
     }
 }
 
