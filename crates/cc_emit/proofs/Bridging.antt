@@ -23,9 +23,9 @@ use Rattle.cc_emit.specs.declared.addressed.Remembered.{Remembered}
 use Rattle.cc_emit.specs.declared.scratch.Scratch.{Scratch}
 use Rattle.cc_emit.specs.Scratch.{addressed, behind_step}
 use Rattle.cc_emit.specs.Frames.{Frame, frame_size}
-use Rattle.cc_emit.specs.Emission.{size, size_of_step, items_of_step, long_size, branch_size, branch_items, word_branch_size, word_branch_items, word_recipe, items_of, is_label, is_close, is_near, long_place, short_place, stack_moved, saving, prologue, prologue_size, emitted, framed_items}
+use Rattle.cc_emit.specs.Emission.{size, size_of_step, items_of_step, long_size, branch_size, branch_items, word_branch_size, word_branch_items, word_recipe, items_of, is_label, is_close, is_near, long_place, short_place, pointer_items, stack_moved, saving, prologue, prologue_size, emitted, framed_items}
 use Rattle.cc_emit.specs.internal.Behind.{reaches, long_behind, near_behind, behind, label_behind, IsTable, ArePlaces, place_from, LeadsBelow, StepLeadsBelow}
-use Rattle.cc_emit.proofs.Places.{size_is, length_stack_moved, length_saving, AreSeen, IsClose, close_nears, next_nears, seen_first, seen_next, stays_near}
+use Rattle.cc_emit.proofs.Places.{size_is, length_pointer_items, length_stack_moved, length_saving, AreSeen, IsClose, close_nears, next_nears, seen_first, seen_next, stays_near}
 
 -- ---- a step asks of a label that it leads to alone whether it is near, and where it is
 
@@ -156,7 +156,9 @@ pub record Emitting (base : ℕ → ℕ) (f : Frame) (all : List Addressed) (ind
 length_prologue : (f : Frame) → length (prologue f) ≡ prologue_size f
 length_prologue f =
     let by = 2 ^ 32 - frame_size f in
+    let whole = length-append (pointer_items f) (stack_moved f by ++ saving (4 * f.slots) f.saved) in
     let all = length-append (stack_moved f by) (saving (4 * f.slots) f.saved) in
+    let begins = length_pointer_items f in
     let one = length_stack_moved f by in
     let more = length_saving (4 * f.slots) f.saved in
     omega arith
@@ -264,6 +266,6 @@ leads count slots functions ls (StoreAt width g n b) all fits = tt
 leads count slots functions ls (Branch o nonzero b c n) all fits = contained_below count ls n fits.3 all
 leads count slots functions ls (BranchImmediate o nonzero b w n) all fits = contained_below count ls n fits.4 all
 
-pub leads_all : (count slots functions : ℕ) (ls : List ℕ) (base : ℕ → ℕ) (held : Scratch) (steps : List Step) → AllByRecursion (λ label. label < count) ls → AllByRecursion (IsStep slots functions ls) steps → AllByRecursion (LeadsBelow count) (addressed base held steps)
-leads_all count slots functions ls base held [] all fits = tt
-leads_all count slots functions ls base held (s ∷ steps) all fits = (leads count slots functions ls s all fits.0, leads_all count slots functions ls base (behind_step base s held) steps all fits.1)
+pub leads_all : (count slots functions : ℕ) (ls : List ℕ) (base : ℕ → ℕ) (sets_pointer : Bool) (held : Scratch) (steps : List Step) → AllByRecursion (λ label. label < count) ls → AllByRecursion (IsStep slots functions ls) steps → AllByRecursion (LeadsBelow count) (addressed base sets_pointer held steps)
+leads_all count slots functions ls base sets_pointer held [] all fits = tt
+leads_all count slots functions ls base sets_pointer held (s ∷ steps) all fits = (leads count slots functions ls s all fits.0, leads_all count slots functions ls base sets_pointer (behind_step base sets_pointer s held) steps all fits.1)

@@ -37,13 +37,13 @@ use Rattle.cc_emit.specs.declared.condition.Condition.{Condition}
 use Rattle.cc_emit.specs.Contract.{Code, IsPlace, Path, element_place, filled, load_of, store_of}
 use Rattle.cc_emit.specs.Frames.{Frame}
 use Rattle.cc_emit.specs.Branches.{compares, opposite, turned}
-use Rattle.cc_emit.specs.Emission.{access_size, addi, based, branch_items, branch_size, const_items, const_size, distance, high, indexed, load_element, low, prologue_size, recipe, recipe_items, recipe_size, store_element, unary_instr, upper_items}
+use Rattle.cc_emit.specs.Emission.{access_size, addi, base_register, based, branch_items, branch_size, const_items, const_size, distance, high, indexed, load_element, low, part_of, prologue_size, recipe, recipe_items, recipe_size, store_element, unary_instr, upper_items}
 use Rattle.cc_emit.specs.declared.recipe.Recipe.{Recipe}
 use Rattle.cc_emit.specs.declared.recipe.Recipe.TheVariants.{Direct, NonzeroOf, ZeroOf, ZeroOfExchanged}
 use Rattle.cc_emit.specs.declared.addressed.Remembered.{Remembered}
-use Rattle.cc_emit.specs.declared.addressed.Remembered.TheVariants.{Nothing, Upper, Element}
+use Rattle.cc_emit.specs.declared.addressed.Remembered.TheVariants.{Nothing, Upper, Element, ByPointer, ElementByPointer}
 use Rattle.cc_emit.specs.declared.scratch.Scratch.{Scratch}
-use Rattle.cc_emit.specs.Scratch.{nothing, known_of, address_of, without, without_address, behind_const, behind_recipe, behind_element, behind_at}
+use Rattle.cc_emit.specs.Scratch.{nothing, known_of, address_of, sum_base, without, without_address, behind_const, behind_recipe, behind_element, behind_at}
 use Rattle.cc_emit.proofs.Fine.{IsTarget}
 use Rattle.cc_emit.proofs.Basics.{in_stack, high_low, high_word, first_word, eqb_yes, eqb_says, same_first, set_same, set_other}
 use Rattle.cc_emit.proofs.Bytes.{load_accessible, loaded_word, store_accessible}
@@ -53,7 +53,7 @@ use Rattle.cc_emit.proofs.Branching.{Tells, if_not, led_by, opposite_taken, turn
 use Rattle.cc_emit.proofs.Recipes.{IsRight, recipe_right, binary_word, unary_right, unary_executes}
 use Rattle.cc_emit.proofs.Standing.{Site, Standing, Stands, addressed_at, all_addressed, near, labels, machine_step, first_items, standing_tail, standing_from, step_at, jump_step}
 use Rattle.cc_emit.proofs.Saving.{load_step, store_step}
-use Rattle.cc_emit.proofs.Holding.{IsKnown, IsKnownAt, is_known, element_address, address_stays_6}
+use Rattle.cc_emit.proofs.Holding.{IsKnown, IsKnownAt, is_known, element_address, parts_of, upper_stays, address_stays_6}
 use Rattle.cc_emit.proofs.Within.{Within, within_set, within_scratch, within_5, within_as, within_nothing, within_pc, within_slot, within_store, within_read, within_write, low_stack}
 
 -- the machine comes to where these items stand
@@ -350,14 +350,15 @@ abbrev pub uppered : Remembered → State → ℕ → State
 uppered Nothing s b = record s { pc = s.pc + 4; registers = with_register s.registers 6 (high b * 2 ^ 12) }
 uppered known s b = s
 
--- the sum of x6 and of a distance in a register
-abbrev added : State → ℕ → State
-added s r = record s { pc = s.pc + 4; registers = with_register s.registers 5 (add (s.registers r) (s.registers 6)) }
+-- the sum of a base in one register and of a distance in another
+abbrev pub added : State → (base distance : ℕ) → State
+added s q r = record s { pc = s.pc + 4; registers = with_register s.registers 5 (add (s.registers r) (s.registers q)) }
 
 abbrev pub at_element : Remembered → Width → State → (i b : ℕ) → State
 at_element Element w s i b = s
-at_element known Byte s i b = added (uppered known s b) i
-at_element known Word s i b = added (uppered known (shifted s i) b) 5
+at_element ElementByPointer w s i b = s
+at_element known Byte s i b = added (uppered known s b) (base_register known) i
+at_element known Word s i b = added (uppered known (shifted s i) b) (base_register known) 5
 
 -- how many instructions that are
 abbrev pub upper_before : Remembered → ℕ
@@ -366,40 +367,54 @@ upper_before known = 0
 
 abbrev pub before : Remembered → Width → ℕ
 before Element w = 0
+before ElementByPointer w = 0
 before known Byte = upper_before known + 1
 before known Word = upper_before known + 2
 
--- x6 has the upper part then
-abbrev HasUpper : State → ℕ → Type 0
-HasUpper s b = s.registers 6 ≡ high b * 2 ^ 12
-
 -- ---- what is known then
 
+uppered_same : (known : Remembered) (s : State) (b r : ℕ) → (r ≡ 6 → ⊥) → (uppered known s b).registers r ≡ s.registers r
+uppered_same Nothing s b r n = set_other s.registers 6 (high b * 2 ^ 12) r n
+uppered_same Upper s b r n = refl
+uppered_same Element s b r n = refl
+uppered_same ByPointer s b r n = refl
+uppered_same ElementByPointer s b r n = refl
+
+-- the register from which an address is reached holds its base then
+pub base_held : (known : Remembered) (s : State) (b : ℕ) → IsKnownAt known b s.registers → (uppered known s b).registers (base_register known) ≡ sum_base known b
+base_held Nothing s b known = set_same s.registers 6 (high b * 2 ^ 12) (omega arith)
+base_held Upper s b known = known
+base_held Element s b known = absurd known
+base_held ByPointer s b known = known.0
+base_held ElementByPointer s b known = absurd known
+
 -- x6 is set, where it is to be, and what is known of x5 stays
-pub within_upper : (x : Site) {held : Scratch} (known : Remembered) (l : Locations) (h : World) (s : State) (b : ℕ) → IsKnownAt known b s.registers → Within x held l h s → Within x (behind_at held b) l h (uppered known s b)
+pub within_upper : (x : Site) {held : Scratch} (known : Remembered) (l : Locations) (h : World) (s : State) (b : ℕ) → IsKnownAt known b s.registers → Within x held l h s → Within x (behind_at known held b) l h (uppered known s b)
 within_upper x Nothing l h s b known w =
     within_scratch x _ l h s (s.pc + 4) 6 (high b * 2 ^ 12) (omega arith) (omega arith) (high_word b)
     (record { upper = set_same s.registers 6 (high b * 2 ^ 12) (omega arith); address = address_stays_6 _ s.registers (high b * 2 ^ 12) w.holds.address }) w
 within_upper x Upper l h s b known w = within_as x _ l h s (record { upper = known; address = w.holds.address }) w
 within_upper x Element l h s b known w = absurd known
+within_upper x ByPointer l h s b known w = within_as x _ l h s (record { upper = w.holds.upper; address = w.holds.address }) w
+within_upper x ElementByPointer l h s b known w = absurd known
 
 -- then x5, from a distance that is so many bytes
-within_added : (x : Site) {held : Scratch} (l : Locations) (h : World) (s : State) (width : Width) (r i b : ℕ) → HasUpper s b → add (s.registers r) (s.registers 6) ≡ (bytes width * s.registers i + high b * 2 ^ 12) % 2 ^ 32 → IsAllocatable i → Within x held l h s
-    → Within x (record { upper = Some (high b); address = Some (address_of width i (high b)) }) l h (added s r)
-within_added x l h s width r i b upper sum ui w =
-    let v = add (s.registers r) (s.registers 6) in
+within_added : (x : Site) {held : Scratch} (l : Locations) (h : World) (s : State) (width : Width) (q r i o : ℕ) → add (s.registers r) (s.registers q) ≡ (bytes width * s.registers i + o) % 2 ^ 32 → IsAllocatable i → Within x held l h s
+    → Within x (record { upper = held.upper; address = Some (address_of width i o) }) l h (added s q r)
+within_added x {held} l h s width q r i o sum ui w =
+    let v = add (s.registers r) (s.registers q) in
     let lo = ui.0 in
     within_scratch x _ l h s (s.pc + 4) 5 v (omega arith) (omega arith) (omega arith)
     (record {
-      upper = set_other s.registers 5 v 6 (λ e. omega arith) ∙ upper;
-      address = (ui, set_same s.registers 5 v (omega arith) ∙ sum ∙ ap (λ n. (bytes width * n + high b * 2 ^ 12) % 2 ^ 32) (sym (set_other s.registers 5 v i (λ e. omega arith))));
+      upper = upper_stays held.upper s.registers (with_register s.registers 5 v) (set_other s.registers 5 v 6 (λ e. omega arith)) w.holds.upper;
+      address = (ui, set_same s.registers 5 v (omega arith) ∙ sum ∙ ap (λ n. (bytes width * n + o) % 2 ^ 32) (sym (set_other s.registers 5 v i (λ e. omega arith))));
     }) w
 
-sum_bytes : (i five six up : ℕ) → five ≡ i → six ≡ up → (five + six) % 2 ^ 32 ≡ (1 * i + up) % 2 ^ 32
-sum_bytes i five six up e d = omega arith
+sum_bytes : (i base sum_base : ℕ) → base ≡ sum_base → (i + base) % 2 ^ 32 ≡ (1 * i + sum_base) % 2 ^ 32
+sum_bytes i base sum_base d = omega arith
 
-sum_words : (i k five six up : ℕ) → five ≡ (i * 4) % 2 ^ 32 → k ≡ i → six ≡ up → (five + six) % 2 ^ 32 ≡ (4 * k + up) % 2 ^ 32
-sum_words i k five six up e d q = omega arith
+sum_words : (i k five base sum_base : ℕ) → five ≡ (i * 4) % 2 ^ 32 → k ≡ i → base ≡ sum_base → (five + base) % 2 ^ 32 ≡ (4 * k + sum_base) % 2 ^ 32
+sum_words i k five base sum_base e d q = omega arith
 
 within_shifted : (x : Site) {held : Scratch} (l : Locations) (h : World) (s : State) (i : ℕ) → Within x held l h s → Within x (without_address held) l h (shifted s i)
 within_shifted x l h s i w = within_5 x l h s (s.pc + 4) ((s.registers i * 4) % 2 ^ 32) (omega arith) w
@@ -407,34 +422,35 @@ within_shifted x l h s i w = within_5 x l h s (s.pc + 4) ((s.registers i * 4) % 
 shifted_same : (s : State) (i r : ℕ) → (r ≡ 5 → ⊥) → (shifted s i).registers r ≡ s.registers r
 shifted_same s i r n = set_other s.registers 5 _ r n
 
-uppered_same : (s : State) (b r : ℕ) → (r ≡ 6 → ⊥) → (uppered Nothing s b).registers r ≡ s.registers r
-uppered_same s b r n = set_other s.registers 6 (high b * 2 ^ 12) r n
+-- where the address is made, from a number of bytes and of words
+within_byte : (x : Site) {held : Scratch} (known : Remembered) (l : Locations) (h : World) (s : State) (i b : ℕ) → IsKnownAt known b s.registers → IsAllocatable i → Within x held l h s
+    → Within x (behind_element known held Byte b i) l h (added (uppered known s b) (base_register known) i)
+within_byte x known l h s i b is ui w =
+    let u = uppered known s b in
+    within_added x l h u Byte (base_register known) i i (sum_base known b) (sum_bytes (u.registers i) (u.registers (base_register known)) (sum_base known b) (base_held known s b is)) ui (within_upper x known l h s b is w)
+
+within_word : (x : Site) {held : Scratch} (known : Remembered) (l : Locations) (h : World) (s : State) (i b : ℕ) → IsKnownAt known b (shifted s i).registers → IsAllocatable i → Within x held l h s
+    → Within x (behind_element known held Word b i) l h (added (uppered known (shifted s i) b) (base_register known) 5)
+within_word x known l h s i b is ui w =
+    let lo = ui.0 in
+    let t = shifted s i in
+    let u = uppered known t b in
+    let five : u.registers 5 ≡ (s.registers i * 4) % 2 ^ 32 = uppered_same known t b 5 (λ e. omega arith) ∙ set_same s.registers 5 _ (omega arith) in
+    let same : u.registers i ≡ s.registers i = uppered_same known t b i (λ e. omega arith) ∙ shifted_same s i i (λ e. omega arith) in
+    within_added x l h u Word (base_register known) 5 i (sum_base known b) (sum_words (s.registers i) (u.registers i) (u.registers 5) (u.registers (base_register known)) (sum_base known b) five same (base_held known t b is)) ui
+    (within_upper x known l h t b is (within_shifted x l h s i w))
 
 -- behind all of them
 pub within_element : (x : Site) {held : Scratch} (known : Remembered) (l : Locations) (h : World) (width : Width) (s : State) (i b : ℕ) → IsKnown known width b i s.registers → IsAllocatable i → Within x held l h s
     → Within x (behind_element known held width b i) l h (at_element known width s i b)
-within_element x Nothing l h Byte s i b known ui w =
-    let u = uppered Nothing s b in
-    let upper : HasUpper u b = set_same s.registers 6 (high b * 2 ^ 12) (omega arith) in
-    within_added x l h u Byte i i b upper (sum_bytes (u.registers i) (u.registers i) (u.registers 6) (high b * 2 ^ 12) refl upper) ui (within_upper x Nothing l h s b tt w)
-within_element x Nothing l h Word s i b known ui w =
-    let lo = ui.0 in
-    let t = shifted s i in
-    let u = uppered Nothing t b in
-    let upper : HasUpper u b = set_same t.registers 6 (high b * 2 ^ 12) (omega arith) in
-    let five : u.registers 5 ≡ (s.registers i * 4) % 2 ^ 32 = uppered_same t b 5 (λ e. omega arith) ∙ set_same s.registers 5 _ (omega arith) in
-    let same : u.registers i ≡ s.registers i = uppered_same t b i (λ e. omega arith) ∙ shifted_same s i i (λ e. omega arith) in
-    within_added x l h u Word 5 i b upper (sum_words (s.registers i) (u.registers i) (u.registers 5) (u.registers 6) (high b * 2 ^ 12) five same upper) ui (within_upper x Nothing l h t b tt (within_shifted x l h s i w))
-within_element x Upper l h Byte s i b known ui w =
-    within_added x l h s Byte i i b known (sum_bytes (s.registers i) (s.registers i) (s.registers 6) (high b * 2 ^ 12) refl known) ui w
-within_element x Upper l h Word s i b known ui w =
-    let lo = ui.0 in
-    let t = shifted s i in
-    let upper : HasUpper t b = shifted_same s i 6 (λ e. omega arith) ∙ known in
-    let five : t.registers 5 ≡ (s.registers i * 4) % 2 ^ 32 = set_same s.registers 5 _ (omega arith) in
-    let same : t.registers i ≡ s.registers i = shifted_same s i i (λ e. omega arith) in
-    within_added x l h t Word 5 i b upper (sum_words (s.registers i) (t.registers i) (t.registers 5) (t.registers 6) (high b * 2 ^ 12) five same upper) ui (within_shifted x l h s i w)
+within_element x Nothing l h Byte s i b known ui w = within_byte x Nothing l h s i b tt ui w
+within_element x Nothing l h Word s i b known ui w = within_word x Nothing l h s i b tt ui w
+within_element x Upper l h Byte s i b known ui w = within_byte x Upper l h s i b known ui w
+within_element x Upper l h Word s i b known ui w = within_word x Upper l h s i b (shifted_same s i 6 (λ e. omega arith) ∙ known) ui w
+within_element x ByPointer l h Byte s i b known ui w = within_byte x ByPointer l h s i b known ui w
+within_element x ByPointer l h Word s i b known ui w = within_word x ByPointer l h s i b (shifted_same s i 3 (λ e. omega arith) ∙ known.0, known.1) ui w
 within_element x Element l h width s i b known ui w = within_as x _ l h s (record { upper = w.holds.upper; address = (ui, known) }) w
+within_element x ElementByPointer l h width s i b known ui w = within_as x _ l h s (record { upper = w.holds.upper; address = (ui, known.0) }) w
 
 -- ---- the machine comes there
 
@@ -445,23 +461,25 @@ uppered_reaches x next k g Nothing s p b items e f go =
     reach_more x next k g s (uppered Nothing s b) (step_at x.code s p (Lui 6 (high b)) e f.0) (go (subst (λ n. Stands x n items) four f.1) (ap (λ n. n + 4) e ∙ four))
 uppered_reaches x next k g Upper s p b items e f go = (let none : p ≡ p + 4 * 0 = omega arith in go (subst (λ n. Stands x n items) none f) (e ∙ none))
 uppered_reaches x next k g Element s p b items e f go = (let none : p ≡ p + 4 * 0 = omega arith in go (subst (λ n. Stands x n items) none f) (e ∙ none))
+uppered_reaches x next k g ByPointer s p b items e f go = (let none : p ≡ p + 4 * 0 = omega arith in go (subst (λ n. Stands x n items) none f) (e ∙ none))
+uppered_reaches x next k g ElementByPointer s p b items e f go = (let none : p ≡ p + 4 * 0 = omega arith in go (subst (λ n. Stands x n items) none f) (e ∙ none))
 
 -- the item behind those before an access, and the machine there
 abbrev Arrives : (x : Site) (next : List Step) (k : Locations) (g : World) (p n : ℕ) (item : Item) (t : State) → Type 0
 Arrives x next k g p n item t = x.code (p + 4 * n) ≡ Some (filled x.places x.place (p + 4 * n) item) → t.pc ≡ p + 4 * n → Reaches x next k g t
 
-based_reaches : (x : Site) (next : List Step) (k : Locations) (g : World) (known : Remembered) (s : State) (p r b : ℕ) (item : Item) → s.pc ≡ p → Stands x p (based known b r (item ∷ [])) → Arrives x next k g p (upper_before known + 1) item (added (uppered known s b) r)
+based_reaches : (x : Site) (next : List Step) (k : Locations) (g : World) (known : Remembered) (s : State) (p r b : ℕ) (item : Item) → s.pc ≡ p → Stands x p (based known b r (item ∷ [])) → Arrives x next k g p (upper_before known + 1) item (added (uppered known s b) (base_register known) r)
     → Reaches x next k g s
 based_reaches x next k g known s p r b item e f go =
-    uppered_reaches x next k g known s p b (Plain (Op operations.Add 5 r 6) ∷ item ∷ []) e f
+    uppered_reaches x next k g known s p b (Plain (Op operations.Add 5 r (base_register known)) ∷ item ∷ []) e f
     (λ stands at.
     let u = uppered known s b in
     let q = p + 4 * upper_before known in
     let four : q + 4 ≡ p + 4 * (upper_before known + 1) = omega arith in
-    reach_more x next k g u (added u r) (step_at x.code u q (Op operations.Add 5 r 6) at stands.0) (go (subst (λ n. x.code n ≡ Some (filled x.places x.place n item)) four stands.1.0) (ap (λ n. n + 4) at ∙ four)))
+    reach_more x next k g u (added u (base_register known) r) (step_at x.code u q (Op operations.Add 5 r (base_register known)) at stands.0) (go (subst (λ n. x.code n ≡ Some (filled x.places x.place n item)) four stands.1.0) (ap (λ n. n + 4) at ∙ four)))
 
 shifted_reaches : (x : Site) (next : List Step) (k : Locations) (g : World) (known : Remembered) (s : State) (p i b : ℕ) (item : Item) → s.pc ≡ p → Stands x p (Plain (Shift Slli 5 i 2) ∷ based known b 5 (item ∷ []))
-    → Arrives x next k g p (upper_before known + 2) item (added (uppered known (shifted s i) b) 5) → Reaches x next k g s
+    → Arrives x next k g p (upper_before known + 2) item (added (uppered known (shifted s i) b) (base_register known) 5) → Reaches x next k g s
 shifted_reaches x next k g known s p i b item e f go =
     let t = shifted s i in
     reach_more x next k g s t (step_at x.code s p (Shift Slli 5 i 2) e f.0)
@@ -477,7 +495,11 @@ element_reaches x next k g Nothing Byte s p i b item e f go = based_reaches x ne
 element_reaches x next k g Upper Byte s p i b item e f go = based_reaches x next k g Upper s p i b item e f go
 element_reaches x next k g Nothing Word s p i b item e f go = shifted_reaches x next k g Nothing s p i b item e f go
 element_reaches x next k g Upper Word s p i b item e f go = shifted_reaches x next k g Upper s p i b item e f go
+element_reaches x next k g ByPointer Byte s p i b item e f go = based_reaches x next k g ByPointer s p i b item e f go
+element_reaches x next k g ByPointer Word s p i b item e f go = shifted_reaches x next k g ByPointer s p i b item e f go
 element_reaches x next k g Element w s p i b item e f go =
+    (let none : p ≡ p + 4 * 0 = omega arith in go (subst (λ n. x.code n ≡ Some (filled x.places x.place n item)) none f.0) (e ∙ none))
+element_reaches x next k g ElementByPointer w s p i b item e f go =
     (let none : p ≡ p + 4 * 0 = omega arith in go (subst (λ n. x.code n ≡ Some (filled x.places x.place n item)) none f.0) (e ∙ none))
 
 behind_access : (known : Remembered) (w : Width) (place a : ℕ) → place + 4 * a + 4 * before known w + 4 ≡ place + 4 * (a + access_size known w)
@@ -486,6 +508,9 @@ behind_access Nothing Word place a = omega arith
 behind_access Upper Byte place a = omega arith
 behind_access Upper Word place a = omega arith
 behind_access Element w place a = omega arith
+behind_access ByPointer Byte place a = omega arith
+behind_access ByPointer Word place a = omega arith
+behind_access ElementByPointer w place a = omega arith
 
 same_memory : (known : Remembered) (w : Width) (s : State) (i b : ℕ) → (at_element known w s i b).memory ≡ s.memory
 same_memory Nothing Byte s i b = refl
@@ -493,6 +518,9 @@ same_memory Nothing Word s i b = refl
 same_memory Upper Byte s i b = refl
 same_memory Upper Word s i b = refl
 same_memory Element w s i b = refl
+same_memory ByPointer Byte s i b = refl
+same_memory ByPointer Word s i b = refl
+same_memory ElementByPointer w s i b = refl
 
 load_at : (x : Site) {held : Scratch} (w a : ℕ) (width : Width) (g to i : ℕ) (rest : List Step) (l : Locations) (h : World) (s : State) → Given x held w a (One (Load width g to i) ∷ rest) l h s → (z : Option ℕ) → element h width g (l (Register i)) ≡ z → Case x (One (Load width g to i) ∷ rest) l h s
 load_at x w a width g to i rest l h s given None is = inr (λ ws. ap (λ z. tried z (λ q. Goes (at_steps rest (put (Register to) q l) h ws))) is)
@@ -510,18 +538,19 @@ load_at x {held} w a width g to i rest l h s (e, st, inside) (Some v) is =
     let low_from = x.layout.from g in
     let low_to = x.layout.to g in
     let small : b < 2 ^ 32 = omega arith in
-    let known = known_of held width b i in
+    let known = known_of x.frame.sets_pointer held width b i in
+    let told = is_known x.frame.sets_pointer (x.from.registers 3) held width b i s.registers inside.pointer inside.holds in
     let u = at_element known width s i b in
-    let wu = within_element x known l h width s i b (is_known held width b i s.registers inside.holds) fine.1 inside in
+    let wu = within_element x known l h width s i b told fine.1 inside in
     let value : loaded (load_of width) u.memory at ≡ v = ap (λ (m : ℕ → ℕ). loaded (load_of width) m at) (same_memory known width s i b) ∙ holds x h s width g n v inside.shares there in
     let lv : v < 2 ^ 32 = (let q = loaded_word width u.memory at wu.sound.memory in omega arith) in
-    let address = element_address width i b n u.registers (sym (wu.same i fine.1)) small (omega arith) wu.holds.address.1 in
+    let address = element_address width i b n (sum_base known b) (part_of known b) u.registers (sym (wu.same i fine.1)) (omega arith) (parts_of known width b i s.registers small told) wu.holds.address.1 in
     let t : State = record u { pc = u.pc + 4; registers = with_register u.registers to v } in
     inl (stepped x (One (Load width g to i) ∷ rest) rest l (put (Register to) v l) h h s (λ ws. ap (λ z. tried z (λ q. Goes (at_steps rest (put (Register to) q l) h ws))) is)
-    (element_reaches x rest (put (Register to) v l) h known width s p i b (load_element width to 5 (low b)) e items
+    (element_reaches x rest (put (Register to) v l) h known width s p i b (load_element width to 5 (part_of known b)) e items
     (λ stands pc.
     reach_by x rest (put (Register to) v l) h u t _ (a + access_size known width)
-    (load_step x.code u (load_of width) (p + 4 * before known width) to 5 (low b) at pc stands address (load_accessible width at lies.aligned (omega arith) lies.below) ∙ ap (λ n. puts to n u) value)
+    (load_step x.code u (load_of width) (p + 4 * before known width) to 5 (part_of known b) at pc stands address (load_accessible width at lies.aligned (omega arith) lies.below) ∙ ap (λ n. puts to n u) value)
     (ap (λ n. n + 4) pc ∙ behind_access known width x.place a) (standing_tail x w a (One (Load width g to i)) rest st) (within_set x l h u (u.pc + 4) to v fine.0 lv wu))))
 
 pub load_case : (x : Site) {held : Scratch} (w a : ℕ) (width : Width) (g to i : ℕ) (rest : List Step) (l : Locations) (h : World) (s : State) → Given x held w a (One (Load width g to i) ∷ rest) l h s → Case x (One (Load width g to i) ∷ rest) l h s
@@ -544,16 +573,17 @@ store_at x {held} w a width g i r rest l h s (e, st, inside) (Some v) is =
     let low_to = x.layout.to g in
     let small : b < 2 ^ 32 = omega arith in
     let k = with_element h g n (kept width (l (Register r))) in
-    let known = known_of held width b i in
+    let known = known_of x.frame.sets_pointer held width b i in
+    let told = is_known x.frame.sets_pointer (x.from.registers 3) held width b i s.registers inside.pointer inside.holds in
     let u = at_element known width s i b in
-    let wu = within_element x known l h width s i b (is_known held width b i s.registers inside.holds) fine.0 inside in
-    let address = element_address width i b n u.registers (sym (wu.same i fine.0)) small (omega arith) wu.holds.address.1 in
+    let wu = within_element x known l h width s i b told fine.0 inside in
+    let address = element_address width i b n (sum_base known b) (part_of known b) u.registers (sym (wu.same i fine.0)) (omega arith) (parts_of known width b i s.registers small told) wu.holds.address.1 in
     let t : State = record u { pc = u.pc + 4; memory = stored (store_of width) u.memory at (l (Register r)) } in
     inl (stepped x (One (Store width g i r) ∷ rest) rest l l h k s (λ ws. ap (λ z. tried (option_map (λ old. with_element h g (l (Register i)) (kept width (l (Register r)))) z) (λ k. Goes (at_steps rest l k ws))) is)
-    (element_reaches x rest l k known width s p i b (store_element width 5 r (low b)) e items
+    (element_reaches x rest l k known width s p i b (store_element width 5 r (part_of known b)) e items
     (λ stands pc.
     reach_by x rest l k u t _ (a + access_size known width)
-    (store_step x.code u (store_of width) (p + 4 * before known width) 5 r (low b) at pc stands address (store_accessible width at lies.aligned (omega arith) lies.below)
+    (store_step x.code u (store_of width) (p + 4 * before known width) 5 r (part_of known b) at pc stands address (store_accessible width at lies.aligned (omega arith) lies.below)
     ∙ ap (λ n. Continues (record u { pc = u.pc + 4; memory = stored (store_of width) u.memory at n })) (sym (wu.same r fine.1)))
     (ap (λ n. n + 4) pc ∙ behind_access known width x.place a) (standing_tail x w a (One (Store width g i r)) rest st)
     (within_store x l h u (u.pc + 4) width g n (l (Register r)) v there (word_of_register x l h s r fine.1 inside) wu))))

@@ -65,8 +65,8 @@ saved_savable : (b : Bool) (rs : List ℕ) → AreSavable rs → AreSavable (if 
 saved_savable true rs s = (inl refl, s)
 saved_savable false rs s = s
 
-pub is_frame : (slots : ℕ) (steps : List Step) → slots ≤ most_slots → IsFrame (frame_of slots steps)
-is_frame slots steps le =
+pub is_frame : (sets_pointer : Bool) (slots : ℕ) (steps : List Step) → slots ≤ most_slots → IsFrame (frame_of sets_pointer slots steps)
+is_frame sets_pointer slots steps le =
     let few = written_few steps kept_registers in
     let saved = few_if (calls steps) 1 12 (written steps kept_registers) few in
     record { savable = saved_savable (calls steps) (written steps kept_registers) (written_savable steps kept_registers all_kept); small = omega arith }
@@ -78,50 +78,50 @@ or_right : (a b : Bool) → b ≡ true → (a || b) ≡ true
 or_right true b e = refl
 or_right false b e = e
 
-target : (slots : ℕ) (all : List Step) (r : ℕ) → IsAllocatable r → is_written all r ≡ true → IsTarget (frame_of slots all) r
-target slots all r u e = (u, λ k. member_if (calls all) r 1 (written all kept_registers) (written_member all r kept_registers e (kept_member r k)))
+target : (sets_pointer : Bool) (slots : ℕ) (all : List Step) (r : ℕ) → IsAllocatable r → is_written all r ≡ true → IsTarget (frame_of sets_pointer slots all) r
+target sets_pointer slots all r u e = (u, λ k. member_if (calls all) r 1 (written all kept_registers) (written_member all r kept_registers e (kept_member r k)))
 
 -- what all steps write and whether they call, as one of them does
 record IsOf (all : List Step) (i : Step) : Type 0 where
   writes : (r : ℕ) → writes r i ≡ true → is_written all r ≡ true
   calls : is_call i ≡ true → calls all ≡ true
 
-fine_move : (slots : ℕ) (all : List Step) (m : Move) → IsOf all (One (Copy m)) → IsMove slots m → IsFineMove (frame_of slots all) m
-fine_move slots all (Between to from) of u = (target slots all to u.0 (of.writes to (eqb_yes to to refl)), u.1)
-fine_move slots all (Reload to slot) of u = (target slots all to u.0 (of.writes to (eqb_yes to to refl)), u.1)
-fine_move slots all (Spill slot from) of u = u
+fine_move : (sets_pointer : Bool) (slots : ℕ) (all : List Step) (m : Move) → IsOf all (One (Copy m)) → IsMove slots m → IsFineMove (frame_of sets_pointer slots all) m
+fine_move sets_pointer slots all (Between to from) of u = (target sets_pointer slots all to u.0 (of.writes to (eqb_yes to to refl)), u.1)
+fine_move sets_pointer slots all (Reload to slot) of u = (target sets_pointer slots all to u.0 (of.writes to (eqb_yes to to refl)), u.1)
+fine_move sets_pointer slots all (Spill slot from) of u = u
 
-fine_item : (meaning : Meaning) (labels : List ℕ) (slots : ℕ) (all : List Step) (i : linear.Item) → ((g : ℕ) → meaning.arity g ≤ 8) → IsOf all (One i) → IsItem slots meaning.functions labels i → IsFine meaning (frame_of slots all) i
-fine_item meaning labels slots all (Label label) few of u = tt
-fine_item meaning labels slots all (Jump to) few of u = tt
-fine_item meaning labels slots all (IfNonzero from to) few of u = u.0
-fine_item meaning labels slots all (IfZero from to) few of u = u.0
-fine_item meaning labels slots all (Copy m) few of u = fine_move slots all m of u
-fine_item meaning labels slots all (Const to word) few of u = (target slots all to u.0 (of.writes to (eqb_yes to to refl)), u.1)
-fine_item meaning labels slots all (Unary operator to from) few of u = (target slots all to u.0 (of.writes to (eqb_yes to to refl)), u.1)
-fine_item meaning labels slots all (Binary operator to left right) few of u = (target slots all to u.0 (of.writes to (eqb_yes to to refl)), u.1, u.2)
-fine_item meaning labels slots all (Load width object to index) few of u = (target slots all to u.1 (of.writes to (eqb_yes to to refl)), u.2)
-fine_item meaning labels slots all (Store width object index from) few of u = (u.1, u.2)
-fine_item meaning labels slots all (Call function) few of u = (u, few function, first_if (calls all) 1 1 (written all kept_registers) (of.calls refl) refl)
-fine_item meaning labels slots all Read few of u = tt
-fine_item meaning labels slots all Write few of u = tt
-fine_item meaning labels slots all Return few of u = tt
+fine_item : (meaning : Meaning) (labels : List ℕ) (sets_pointer : Bool) (slots : ℕ) (all : List Step) (i : linear.Item) → ((g : ℕ) → meaning.arity g ≤ 8) → IsOf all (One i) → IsItem slots meaning.functions labels i → IsFine meaning (frame_of sets_pointer slots all) i
+fine_item meaning labels sets_pointer slots all (Label label) few of u = tt
+fine_item meaning labels sets_pointer slots all (Jump to) few of u = tt
+fine_item meaning labels sets_pointer slots all (IfNonzero from to) few of u = u.0
+fine_item meaning labels sets_pointer slots all (IfZero from to) few of u = u.0
+fine_item meaning labels sets_pointer slots all (Copy m) few of u = fine_move sets_pointer slots all m of u
+fine_item meaning labels sets_pointer slots all (Const to word) few of u = (target sets_pointer slots all to u.0 (of.writes to (eqb_yes to to refl)), u.1)
+fine_item meaning labels sets_pointer slots all (Unary operator to from) few of u = (target sets_pointer slots all to u.0 (of.writes to (eqb_yes to to refl)), u.1)
+fine_item meaning labels sets_pointer slots all (Binary operator to left right) few of u = (target sets_pointer slots all to u.0 (of.writes to (eqb_yes to to refl)), u.1, u.2)
+fine_item meaning labels sets_pointer slots all (Load width object to index) few of u = (target sets_pointer slots all to u.1 (of.writes to (eqb_yes to to refl)), u.2)
+fine_item meaning labels sets_pointer slots all (Store width object index from) few of u = (u.1, u.2)
+fine_item meaning labels sets_pointer slots all (Call function) few of u = (u, few function, first_if (calls all) 1 1 (written all kept_registers) (of.calls refl) refl)
+fine_item meaning labels sets_pointer slots all Read few of u = tt
+fine_item meaning labels sets_pointer slots all Write few of u = tt
+fine_item meaning labels sets_pointer slots all Return few of u = tt
 
-fine : (meaning : Meaning) (labels : List ℕ) (slots : ℕ) (all : List Step) (s : Step) → ((g : ℕ) → meaning.arity g ≤ 8) → IsOf all s → IsStep slots meaning.functions labels s → IsFineStep meaning (frame_of slots all) s
-fine meaning labels slots all (One i) few of u = fine_item meaning labels slots all i few of u
-fine meaning labels slots all (Immediate operator to from word) few of u = (target slots all to u.0 (of.writes to (eqb_yes to to refl)), u.1, u.2, u.3)
-fine meaning labels slots all (LoadAt width object to number) few of u = target slots all to u.1 (of.writes to (eqb_yes to to refl))
-fine meaning labels slots all (StoreAt width object number from) few of u = u.2
-fine meaning labels slots all (Branch operator nonzero left right to) few of u = (u.0, u.1, u.2)
-fine meaning labels slots all (BranchImmediate operator nonzero from word to) few of u = (u.1, u.2, u.3)
+fine : (meaning : Meaning) (labels : List ℕ) (sets_pointer : Bool) (slots : ℕ) (all : List Step) (s : Step) → ((g : ℕ) → meaning.arity g ≤ 8) → IsOf all s → IsStep slots meaning.functions labels s → IsFineStep meaning (frame_of sets_pointer slots all) s
+fine meaning labels sets_pointer slots all (One i) few of u = fine_item meaning labels sets_pointer slots all i few of u
+fine meaning labels sets_pointer slots all (Immediate operator to from word) few of u = (target sets_pointer slots all to u.0 (of.writes to (eqb_yes to to refl)), u.1, u.2, u.3)
+fine meaning labels sets_pointer slots all (LoadAt width object to number) few of u = target sets_pointer slots all to u.1 (of.writes to (eqb_yes to to refl))
+fine meaning labels sets_pointer slots all (StoreAt width object number from) few of u = u.2
+fine meaning labels sets_pointer slots all (Branch operator nonzero left right to) few of u = (u.0, u.1, u.2)
+fine meaning labels sets_pointer slots all (BranchImmediate operator nonzero from word to) few of u = (u.1, u.2, u.3)
 
-all_fine : (meaning : Meaning) (labels : List ℕ) (slots : ℕ) (all steps : List Step) → ((g : ℕ) → meaning.arity g ≤ 8) → ((r : ℕ) → is_written steps r ≡ true → is_written all r ≡ true) → (calls steps ≡ true → calls all ≡ true)
-    → AllByRecursion (IsStep slots meaning.functions labels) steps → AreFine meaning (frame_of slots all) steps
-all_fine meaning labels slots all [] few f g u = tt
-all_fine meaning labels slots all (s ∷ steps) few f g u =
+all_fine : (meaning : Meaning) (labels : List ℕ) (sets_pointer : Bool) (slots : ℕ) (all steps : List Step) → ((g : ℕ) → meaning.arity g ≤ 8) → ((r : ℕ) → is_written steps r ≡ true → is_written all r ≡ true) → (calls steps ≡ true → calls all ≡ true)
+    → AllByRecursion (IsStep slots meaning.functions labels) steps → AreFine meaning (frame_of sets_pointer slots all) steps
+all_fine meaning labels sets_pointer slots all [] few f g u = tt
+all_fine meaning labels sets_pointer slots all (s ∷ steps) few f g u =
     let of : IsOf all s = record { writes = λ r e. f r (or_left (writes r s) (is_written steps r) e); calls = λ e. g (or_left (is_call s) (calls steps) e) } in
-    (fine meaning labels slots all s few of u.0, all_fine meaning labels slots all steps few (λ r e. f r (or_right (writes r s) (is_written steps r) e)) (λ e. g (or_right (is_call s) (calls steps) e)) u.1)
+    (fine meaning labels sets_pointer slots all s few of u.0, all_fine meaning labels sets_pointer slots all steps few (λ r e. f r (or_right (writes r s) (is_written steps r) e)) (λ e. g (or_right (is_call s) (calls steps) e)) u.1)
 
 -- each step of a function is fine in the function's frame
-pub are_fine : (meaning : Meaning) (labels : List ℕ) (slots : ℕ) (steps : List Step) → ((g : ℕ) → meaning.arity g ≤ 8) → AllByRecursion (IsStep slots meaning.functions labels) steps → AreFine meaning (frame_of slots steps) steps
-are_fine meaning labels slots steps few u = all_fine meaning labels slots steps steps few (λ r e. e) (λ e. e) u
+pub are_fine : (meaning : Meaning) (labels : List ℕ) (sets_pointer : Bool) (slots : ℕ) (steps : List Step) → ((g : ℕ) → meaning.arity g ≤ 8) → AllByRecursion (IsStep slots meaning.functions labels) steps → AreFine meaning (frame_of sets_pointer slots steps) steps
+are_fine meaning labels sets_pointer slots steps few u = all_fine meaning labels sets_pointer slots steps steps few (λ r e. e) (λ e. e) u

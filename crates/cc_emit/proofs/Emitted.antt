@@ -1,6 +1,6 @@
 -- The code of a function does what its steps do: by induction on the moves of their run, the words that nobody knows chosen as those that
 -- the machine's registers and memory hold.
-use Rattle.std.proofs.Common.{◌≡◌, ℕ, zero, suc, ◌+◌, ◌-◌, ◌*◌, ◌%◌, ◌<◌, ◌≤◌, List, [], ◌∷◌, ◌++◌, length, get_or, take, drop, refl, sym, ap, ap₂, ◌∙◌, subst, inl, inr, arith}
+use Rattle.std.proofs.Common.{◌≡◌, ℕ, zero, suc, ◌+◌, ◌-◌, ◌*◌, ◌%◌, ◌^◌, ◌<◌, ◌≤◌, List, [], ◌∷◌, ◌++◌, length, get_or, take, drop, refl, sym, ap, ap₂, ◌∙◌, subst, inl, inr, arith}
 use Rattle.std.specs.Prelude.{if◌then◌else◌, nat_le}
 use Rattle.std.proofs.Math.Nat.{mul-suc, mul-le-mul_left, mul-add, add-mul, mul_assoc}
 use Rattle.std.proofs.lemmas.List.{length-append}
@@ -19,13 +19,13 @@ use Rattle.cc_select.specs.declared.step.Step.TheVariants.{One, Immediate, LoadA
 use Rattle.cc_select.specs.Selected.{Configuration, at_steps, steps_after_answer, selected_move, selected_output, selected_start}
 use Rattle.cc_rv32.specs.Machine.{Continues, State, stack_from}
 use Rattle.cc_emit.specs.Contract.{CallsMeet, Code, ComesBack, Enters, IsPlace, IsSound, Layout, Meets, Path, PieceMeets, Placed}
-use Rattle.cc_emit.specs.Frames.{Frame}
-use Rattle.cc_emit.specs.Emission.{emitted, framed_items, prologue, prologue_size, saving, stack_moved}
+use Rattle.cc_emit.specs.Frames.{Frame, frame_size}
+use Rattle.cc_emit.specs.Emission.{pointer_items, emitted, framed_items, prologue, prologue_size, saving, stack_moved}
 use Rattle.cc_emit.specs.declared.scratch.Scratch.{Scratch}
 use Rattle.cc_emit.specs.Scratch.{nothing, addressed}
 use Rattle.cc_emit.proofs.Fine.{AreFine, IsFrame, Member}
 use Rattle.cc_emit.proofs.Basics.{words_append, listed, listed_words, take_listed, drop_listed}
-use Rattle.cc_emit.proofs.Places.{length_saving, length_stack_moved, seen_first}
+use Rattle.cc_emit.proofs.Places.{length_pointer_items, length_saving, length_stack_moved, seen_first}
 use Rattle.cc_emit.proofs.Standing.{Site, Standing, Stands, all_addressed, near, labels, machine_step, path_then, first_items, standing_tail, placed_append, between}
 use Rattle.cc_emit.proofs.Within.{Within, within_nothing}
 use Rattle.cc_emit.proofs.Cases.{Stepped, Case, StandsWhole, jump_case, if_zero_case, if_nonzero_case, const_case, copy_case, unary_case, binary_case, load_case, store_case, read_case, write_case}
@@ -297,7 +297,9 @@ standing_all x from to placed fine =
     let first = prologue f in
     let rest = emitted x.layout.base f (near x) (labels x) 0 (prologue_size f) (all_addressed x) in
     let both = placed_append x.code x.places x.place x.place first rest placed in
-    let n : length first ≡ prologue_size f = length-append (stack_moved f _) (saving (4 * f.slots) f.saved) ∙ ap₂ (λ i k. i + k) (length_stack_moved f _) (length_saving (4 * f.slots) f.saved) in
+    let move = stack_moved f (2 ^ 32 - frame_size f) in
+    let m : length (move ++ saving (4 * f.slots) f.saved) ≡ _ = length-append move (saving (4 * f.slots) f.saved) ∙ ap₂ (λ i k. i + k) (length_stack_moved f _) (length_saving (4 * f.slots) f.saved) in
+    let n : length first ≡ prologue_size f = length-append (pointer_items f) (move ++ saving (4 * f.slots) f.saved) ∙ ap₂ (λ i k. i + k) (length_pointer_items f) m in
     let long : length (first ++ rest) ≡ length first + length rest = length-append first rest in
     let e : x.place + 4 * length first ≡ x.place + 4 * prologue_size f = omega arith in
     let end : x.place + 4 * length (first ++ rest) ≡ x.place + 4 * prologue_size f + 4 * length rest = omega arith in
@@ -318,7 +320,7 @@ enough_room d n top below small room = omega arith
 
 -- what is emitted in a frame meets a piece's contract
 pub framed_meets : (meaning : Meaning) (layout : Layout meaning.objects) (f rate : ℕ) (frame : Frame) (ops : List Step) → TracksForAll meaning f rate (selected_move meaning.arity ops) selected_output (selected_start frame.slots ops) → IsFrame frame → AreFine meaning frame ops
-    → PieceMeets meaning layout f (rate + rate) (framed_items layout.base frame (addressed layout.base nothing ops))
+    → PieceMeets meaning layout f (rate + rate) (framed_items layout.base frame (addressed layout.base frame.sets_pointer nothing ops))
 framed_meets meaning layout f rate frame ops keeps is_frame fine code places place from to placed all_places d c below one calls ws h s n enters =
     let small = is_frame.small in
     let x : Site = record { meaning = meaning; layout = layout; frame = frame; steps = ops; code = code; places = places; place = place; from = s; is_frame = is_frame; aligned = enters.aligned; room = enough_room d (frame.slots + length frame.saved) (s.registers 2) below small enters.room; top = enters.top } in

@@ -3,7 +3,7 @@
 use Rattle.std.proofs.Common.{◌≡◌, ℕ, ◌+◌, ◌-◌, ◌*◌, ◌<◌, ◌≤◌, ◌^◌, List, [], ◌∷◌, ◌++◌, Option, Some, None, true, false, Bool, length, refl, subst, inl, inr, arith}
 use Rattle.std.specs.Prelude.{if◌then◌else◌, ◌==◌, option_map}
 use Rattle.std.proofs.lemmas.List.{length-append}
-use Rattle.cc_words.specs.Words.{neg}
+use Rattle.cc_words.specs.Words.{add, neg}
 use Rattle.cc_words.specs.declared.operators.Unary as unary
 use Rattle.cc_words.specs.declared.operators.Unary.TheVariants.{Neg, Complement, IsZero}
 use Rattle.cc_runs.specs.Meaning.{Meaning}
@@ -33,12 +33,12 @@ use Rattle.cc_words.specs.declared.operators.Width.{Width}
 use Rattle.cc_words.specs.declared.operators.Width.TheVariants.{Byte, Word}
 use Rattle.cc_emit.specs.declared.addressed.Addressed.{Addressed}
 use Rattle.cc_emit.specs.declared.addressed.Remembered.{Remembered}
-use Rattle.cc_emit.specs.declared.addressed.Remembered.TheVariants.{Nothing, Upper, Element}
+use Rattle.cc_emit.specs.declared.addressed.Remembered.TheVariants.{Nothing, Upper, Element, ByPointer, ElementByPointer}
 use Rattle.cc_emit.specs.declared.scratch.Scratch.{Scratch}
 use Rattle.cc_emit.specs.Scratch.{nothing, with_known, behind_step, addressed}
-use Rattle.cc_emit.specs.Contract.{AreFit, IsFit}
+use Rattle.cc_emit.specs.Contract.{AreFit, IsFit, global_pointer}
 use Rattle.cc_emit.specs.Frames.{Frame, frame_size}
-use Rattle.cc_emit.specs.Emission.{addi, branch_items, emitted, epilogue, framed_items, high, first_instr, indexed, is_near, items_of, items_of_one, items_of_step, load_element, long_size, low, move_item, prologue, prologue_size, recipe, recipe_items, restoring, saving, short_place, size, stack_moved, stack_moved_size, unary_instr, word_branch_items, word_recipe, word_recipe_items, store_element, upper_items, known_place}
+use Rattle.cc_emit.specs.Emission.{addi, base_register, pointer_items, branch_items, emitted, epilogue, framed_items, high, first_instr, indexed, is_near, items_of, items_of_one, items_of_step, load_element, long_size, low, move_item, part_of, prologue, prologue_size, recipe, recipe_items, restoring, saving, short_place, size, stack_moved, stack_moved_size, unary_instr, word_branch_items, word_recipe, word_recipe_items, store_element, upper_items, known_place}
 use Rattle.cc_emit.specs.declared.recipe.Recipe.{Recipe}
 use Rattle.cc_emit.specs.internal.Room.{HasRoom}
 use Rattle.cc_emit.specs.declared.recipe.WordRecipe.{WordRecipe}
@@ -46,7 +46,7 @@ use Rattle.cc_emit.specs.declared.recipe.Recipe.TheVariants.{Direct, NonzeroOf, 
 use Rattle.cc_emit.specs.declared.recipe.WordRecipe.TheVariants.{NonzeroOfImmediate, OnZero, ShiftBy, WithImmediate, ZeroOfImmediate}
 use Rattle.cc_emit.proofs.Fine.{AreFine, AreSavable, IsFine, IsFineStep, IsFineMove, IsFrame, IsSavable}
 use Rattle.cc_emit.proofs.Basics.{LowIs, low_is, eqb_denies}
-use Rattle.cc_emit.proofs.Places.{AreSeen, IsClose, Nears, close_nears, next_nears, length_saving, length_stack_moved, near_offset, seen_first, seen_next, short_place_le, stays_near}
+use Rattle.cc_emit.proofs.Places.{AreSeen, IsClose, Nears, close_nears, next_nears, length_pointer_items, length_saving, length_stack_moved, near_offset, seen_first, seen_next, short_place_le, stays_near}
 
 low_fits_of : (w x : ℕ) → LowIs w x → IsImmediate x
 low_fits_of w x (inl h) = (omega arith, omega arith)
@@ -54,6 +54,20 @@ low_fits_of w x (inr h) = (omega arith, omega arith)
 
 low_fits : (w : ℕ) → IsImmediate (low w)
 low_fits w = low_fits_of w (low w) (low_is w)
+
+part_fits : (k : Remembered) (a : ℕ) → IsImmediate (part_of k a)
+part_fits Nothing a = low_fits a
+part_fits Upper a = low_fits a
+part_fits Element a = low_fits a
+part_fits ByPointer a = low_fits (add a (2 ^ 32 - global_pointer))
+part_fits ElementByPointer a = low_fits (add a (2 ^ 32 - global_pointer))
+
+register_below : (k : Remembered) → base_register k < 32
+register_below Nothing = omega arith
+register_below Upper = omega arith
+register_below Element = omega arith
+register_below ByPointer = omega arith
+register_below ElementByPointer = omega arith
 
 savable_below : (r : ℕ) → IsSavable r → r < 32
 savable_below r (inl e) = omega arith
@@ -161,9 +175,14 @@ module _ (functions long : ℕ) where
   prologue_fit : (f : Frame) → IsFrame f → Fit (prologue f)
   prologue_fit f is =
       let small = is.small in
-      append_fit (stack_moved f _) (saving (4 * f.slots) f.saved) (moved_fit (frame_size f == 0) _ (λ e. (let some = eqb_denies (frame_size f) 0 e in by_fits (frame_size f) some (omega arith))))
-      (saving_fit (4 * f.slots) f.saved is.savable (omega arith))
+      append_fit (pointer_items f) _ (pointer_fit f.sets_pointer)
+      (append_fit (stack_moved f _) (saving (4 * f.slots) f.saved) (moved_fit (frame_size f == 0) _ (λ e. (let some = eqb_denies (frame_size f) 0 e in by_fits (frame_size f) some (omega arith))))
+      (saving_fit (4 * f.slots) f.saved is.savable (omega arith)))
     where
+      pointer_fit : (b : Bool) → Fit (if b then Plain (Lui 3 (high global_pointer)) ∷ addi 3 3 (low global_pointer) ∷ [] else [])
+      pointer_fit true = ((omega arith, omega arith), ((omega arith, omega arith, low_fits global_pointer), tt))
+      pointer_fit false = tt
+
       by_fits : (n : ℕ) → (n ≡ 0 → ⊥) → n ≤ 2032 → IsImmediate (2 ^ 32 - n)
       by_fits n some le = (omega arith, omega arith)
 
@@ -176,6 +195,8 @@ module _ (functions long : ℕ) where
   upper_fit Nothing b items p = ((omega arith, omega arith), p)
   upper_fit Upper b items p = p
   upper_fit Element b items p = p
+  upper_fit ByPointer b items p = p
+  upper_fit ElementByPointer b items p = p
 
   access_fit : (k : Remembered) (width : Width) (b i : ℕ) (item : Item) → i < 32 → IsFit functions long item → Fit (indexed k width b i (item ∷ []))
   access_fit Nothing Byte b i item p q = upper_fit Nothing b (Plain (Op operation.Add 5 i 6) ∷ item ∷ []) ((omega arith, p, omega arith), (q, tt))
@@ -183,6 +204,9 @@ module _ (functions long : ℕ) where
   access_fit Nothing Word b i item p q = ((omega arith, p, omega arith), upper_fit Nothing b (Plain (Op operation.Add 5 5 6) ∷ item ∷ []) ((omega arith, omega arith, omega arith), (q, tt)))
   access_fit Upper Word b i item p q = ((omega arith, p, omega arith), upper_fit Upper b (Plain (Op operation.Add 5 5 6) ∷ item ∷ []) ((omega arith, omega arith, omega arith), (q, tt)))
   access_fit Element width b i item p q = (q, tt)
+  access_fit ByPointer Byte b i item p q = upper_fit ByPointer b (Plain (Op operation.Add 5 i 3) ∷ item ∷ []) ((omega arith, p, omega arith), (q, tt))
+  access_fit ByPointer Word b i item p q = ((omega arith, p, omega arith), upper_fit ByPointer b (Plain (Op operation.Add 5 5 3) ∷ item ∷ []) ((omega arith, omega arith, omega arith), (q, tt)))
+  access_fit ElementByPointer width b i item p q = (q, tt)
 
   one_fit : (meaning : Meaning) (base : ℕ → ℕ) (f : Frame) (near : ℕ → Bool) (labels : ℕ → ℕ) (a : ℕ) (k : Remembered) (i : linear.Item) → meaning.functions ≡ functions → IsFrame f → IsFine meaning f i → ((l : ℕ) → near l ≡ true → IsClose a (labels l)) → ((l : ℕ) → labels l ≤ long) → Fit (items_of_one base f near labels a k i)
   one_fit meaning base f near labels a k (Label label) e is u n le = tt
@@ -193,8 +217,8 @@ module _ (functions long : ℕ) where
   one_fit meaning base f near labels a k (Const to word) e is u n le = const_fit (high word == 0) (low word == 0) to word u.0.0.1
   one_fit meaning base f near labels a k (Unary o to from) e is u n le = (unary_encodable o to from u.0.0.1 u.1.1, tt)
   one_fit meaning base f near labels a k (Binary o to left right) e is u n le = recipe_fit (recipe o) to left right u.0.0.1 u.1.1 u.2.1
-  one_fit meaning base f near labels a k (Load width object to index) e is u n le = access_fit k width (base object) index (load_element width to 5 (low (base object))) u.1.1 (u.0.0.1, omega arith, low_fits _)
-  one_fit meaning base f near labels a k (Store width object index from) e is u n le = access_fit k width (base object) index (store_element width 5 from (low (base object))) u.0.1 (omega arith, u.1.1, low_fits _)
+  one_fit meaning base f near labels a k (Load width object to index) e is u n le = access_fit k width (base object) index (load_element width to 5 (part_of k (base object))) u.1.1 (u.0.0.1, omega arith, part_fits k _)
+  one_fit meaning base f near labels a k (Store width object index from) e is u n le = access_fit k width (base object) index (store_element width 5 from (part_of k (base object))) u.0.1 (omega arith, u.1.1, part_fits k _)
   one_fit meaning base f near labels a k (Call function) e is u n le = (let lt = u.0 in omega arith, tt)
   one_fit meaning base f near labels a k Read e is u n le = ((omega arith, omega arith, (omega arith, omega arith)), (tt, tt))
   one_fit meaning base f near labels a k Write e is u n le = ((omega arith, omega arith, (omega arith, omega arith)), (tt, tt))
@@ -246,33 +270,35 @@ module _ (functions long : ℕ) where
   step_fit : (meaning : Meaning) (base : ℕ → ℕ) (f : Frame) (near : ℕ → Bool) (labels : ℕ → ℕ) (a : ℕ) (k : Remembered) (s : Step) → meaning.functions ≡ functions → IsFrame f → IsFineStep meaning f s → ((l : ℕ) → near l ≡ true → IsClose a (labels l)) → ((l : ℕ) → labels l ≤ long) → Fit (items_of_step base f near labels a k s)
   step_fit meaning base f near labels a k (One i) e is u n le = one_fit meaning base f near labels a k i e is u n le
   step_fit meaning base f near labels a k (Immediate o to from word) e is u n le = word_recipe_fit (word_recipe o word) to from (has_room o word) u.0.0.1 u.1.1
-  step_fit meaning base f near labels a k (LoadAt width object to number) e is u n le = upper_fit k (known_place width (base object) number) (load_element width to 6 (low (known_place width (base object) number)) ∷ []) ((u.0.1, omega arith, low_fits _), tt)
-  step_fit meaning base f near labels a k (StoreAt width object number from) e is u n le = upper_fit k (known_place width (base object) number) (store_element width 6 from (low (known_place width (base object) number)) ∷ []) ((omega arith, u.1, low_fits _), tt)
+  step_fit meaning base f near labels a k (LoadAt width object to number) e is u n le = upper_fit k (known_place width (base object) number) (load_element width to (base_register k) (part_of k (known_place width (base object) number)) ∷ []) ((u.0.1, register_below k, part_fits k _), tt)
+  step_fit meaning base f near labels a k (StoreAt width object number from) e is u n le = upper_fit k (known_place width (base object) number) (store_element width (base_register k) from (part_of k (known_place width (base object) number)) ∷ []) ((register_below k, u.1, part_fits k _), tt)
   step_fit meaning base f near labels a k (Branch o nonzero left right to) e is u n le =
       branch_fit (near to) (turned nonzero (comparison o left right)) a (labels to) (turned_registers nonzero (comparison o left right) (comparison_registers o left right u.1.1 u.2.1)) (λ q. close_nears a (labels to) (n to q)) (le to)
   step_fit meaning base f near labels a k (BranchImmediate o nonzero from word to) e is u n le =
       word_branch_fit (against_zero (word_recipe o word) from) (word_recipe o word) (near to) nonzero from a (labels to) (λ c q. against_registers (word_recipe o word) from c u.0.1 q) (has_room o word) u.0.1 (n to) (le to)
 
-  emitted_fit : (meaning : Meaning) (base : ℕ → ℕ) (f : Frame) (all : List Addressed) (w a : ℕ) (held : Scratch) (ops : List Step) → meaning.functions ≡ functions → IsFrame f → AreFine meaning f ops → AreSeen f all (addressed base held ops) w a → ((l : ℕ) → short_place f (is_near f all) 0 (prologue_size f) all l ≤ long)
-      → Fit (emitted base f (is_near f all) (short_place f (is_near f all) 0 (prologue_size f) all) w a (addressed base held ops))
+  emitted_fit : (meaning : Meaning) (base : ℕ → ℕ) (f : Frame) (all : List Addressed) (w a : ℕ) (held : Scratch) (ops : List Step) → meaning.functions ≡ functions → IsFrame f → AreFine meaning f ops → AreSeen f all (addressed base f.sets_pointer held ops) w a → ((l : ℕ) → short_place f (is_near f all) 0 (prologue_size f) all l ≤ long)
+      → Fit (emitted base f (is_near f all) (short_place f (is_near f all) 0 (prologue_size f) all) w a (addressed base f.sets_pointer held ops))
   emitted_fit meaning base f all w a held [] e is u seen le = tt
   emitted_fit meaning base f all w a held (op ∷ ops) e is u seen le =
       let near = is_near f all in
       let labels = short_place f near 0 (prologue_size f) all in
-      let i = with_known base held op in
-      let next = behind_step base op held in
-      append_fit (items_of base f (near w) labels a i) _ (step_fit meaning base f (near w) labels a i.known op e is u.0 (λ l. stays_near f all (i ∷ addressed base next ops) w a l seen) le)
-      (emitted_fit meaning base f all (w + long_size f i) (a + size f (near w) i) next ops e is u.1 (seen_next f all i (addressed base next ops) w a seen) le)
+      let i = with_known base f.sets_pointer held op in
+      let next = behind_step base f.sets_pointer op held in
+      append_fit (items_of base f (near w) labels a i) _ (step_fit meaning base f (near w) labels a i.known op e is u.0 (λ l. stays_near f all (i ∷ addressed base f.sets_pointer next ops) w a l seen) le)
+      (emitted_fit meaning base f all (w + long_size f i) (a + size f (near w) i) next ops e is u.1 (seen_next f all i (addressed base f.sets_pointer next ops) w a seen) le)
 
-pub framed_fit : (meaning : Meaning) (base : ℕ → ℕ) (f : Frame) (steps : List Step) → IsFrame f → AreFine meaning f steps → AreFit meaning.functions (length (framed_items base f (addressed base nothing steps))) (framed_items base f (addressed base nothing steps))
+pub framed_fit : (meaning : Meaning) (base : ℕ → ℕ) (f : Frame) (steps : List Step) → IsFrame f → AreFine meaning f steps → AreFit meaning.functions (length (framed_items base f (addressed base f.sets_pointer nothing steps))) (framed_items base f (addressed base f.sets_pointer nothing steps))
 framed_fit meaning base f steps is u =
-    let all = addressed base nothing steps in
+    let all = addressed base f.sets_pointer nothing steps in
     let near = is_near f all in
     let labels = short_place f near 0 (prologue_size f) all in
     let rest = emitted base f near labels 0 (prologue_size f) all in
     let by = 2 ^ 32 - frame_size f in
     let move = stack_moved f by in
-    let p : length (prologue f) ≡ length move + length (saving (4 * f.slots) f.saved) = length-append move (saving (4 * f.slots) f.saved) in
+    let o = length-append (pointer_items f) (move ++ saving (4 * f.slots) f.saved) in
+    let n = length_pointer_items f in
+    let p : length (move ++ saving (4 * f.slots) f.saved) ≡ length move + length (saving (4 * f.slots) f.saved) = length-append move (saving (4 * f.slots) f.saved) in
     let q : length move ≡ stack_moved_size f = length_stack_moved f by in
     let r : length (saving (4 * f.slots) f.saved) ≡ length f.saved = length_saving (4 * f.slots) f.saved in
     let whole : length (prologue f ++ rest) ≡ length (prologue f) + length rest = length-append (prologue f) rest in

@@ -1,32 +1,34 @@
--- What the scratch registers hold on the machine: of what is remembered between steps each word is so, and each change of another register
+-- What x3 and the scratch registers hold on the machine: of what is remembered between steps each word is so, and each change of another register
 -- keeps it.
-use Rattle.std.proofs.Common.{◌≡◌, ℕ, ◌+◌, ◌*◌, ◌%◌, ◌^◌, ◌<◌, Bool, true, false, Option, Some, None, refl, sym, ap, ◌∙◌, arith}
-use Rattle.std.specs.Prelude.{if◌then◌else◌, ◌==◌, ◌&&◌}
+use Rattle.std.proofs.Common.{◌≡◌, ℕ, ◌+◌, ◌*◌, ◌%◌, ◌^◌, ◌-◌, ◌<◌, ◌≤◌, Bool, true, false, Option, Some, None, refl, sym, ap, ◌∙◌, inl, inr, arith}
+use Rattle.std.specs.Prelude.{if◌then◌else◌, ◌==◌, ◌&&◌, nat_le, nat_lt}
+use Rattle.std.proofs.lemmas.Bool.Decides.{nat_tests}
 use Rattle.cc_words.specs.declared.operators.Width.{Width}
 use Rattle.cc_words.specs.declared.operators.Width.TheVariants.{Byte, Word}
 use Rattle.cc_words.specs.Widths.{bytes, same_width}
 use Rattle.cc_ltl.specs.Registers.{IsAllocatable}
-use Rattle.cc_rv32.specs.Machine.{with_register}
-use Rattle.cc_emit.specs.Contract.{element_place}
+use Rattle.cc_words.specs.Words.{add}
+use Rattle.cc_rv32.specs.Machine.{globals_from, with_register}
+use Rattle.cc_emit.specs.Contract.{IsKeptOrPointer, global_pointer, element_place}
 use Rattle.cc_emit.specs.declared.addressed.Remembered.{Remembered}
-use Rattle.cc_emit.specs.declared.addressed.Remembered.TheVariants.{Nothing, Upper, Element}
+use Rattle.cc_emit.specs.declared.addressed.Remembered.TheVariants.{Nothing, Upper, Element, ByPointer, ElementByPointer}
 use Rattle.cc_emit.specs.declared.scratch.ElementAddress.{ElementAddress}
 use Rattle.cc_emit.specs.declared.scratch.Scratch.{Scratch}
-use Rattle.cc_emit.specs.Emission.{high, low}
-use Rattle.cc_emit.specs.Scratch.{nothing, is_upper, is_address, known_of, known_at, unless_of, without, without_address}
-use Rattle.cc_emit.proofs.Basics.{eqb_says, eqb_denies, high_low, set_other}
+use Rattle.cc_emit.specs.Emission.{from_pointer, high, part_of}
+use Rattle.cc_emit.specs.Scratch.{nothing, is_upper, is_address, is_in_reach, known_of, known_at, sum_base, unless_of, without, without_address}
+use Rattle.cc_emit.proofs.Basics.{LowIs, low_is, eqb_says, eqb_denies, high_low, set_other}
 
 abbrev pub HoldsUpper : Option ℕ → (registers : ℕ → ℕ) → Type 0
 HoldsUpper None g = Unit {0}
 HoldsUpper (Some upper) g = g 6 ≡ upper * 2 ^ 12
 
 -- of an element whose number is in a register
-abbrev pub IsAddress : Width → (index upper : ℕ) → (registers : ℕ → ℕ) → Type 0
-IsAddress width index upper g = g 5 ≡ (bytes width * g index + upper * 2 ^ 12) % 2 ^ 32
+abbrev pub IsAddress : Width → (index sum_base : ℕ) → (registers : ℕ → ℕ) → Type 0
+IsAddress width index sum_base g = g 5 ≡ (bytes width * g index + sum_base) % 2 ^ 32
 
 abbrev pub HoldsAddress : Option ElementAddress → (registers : ℕ → ℕ) → Type 0
 HoldsAddress None g = Unit {0}
-HoldsAddress (Some a) g = IsAllocatable a.index × IsAddress a.width a.index a.upper g
+HoldsAddress (Some a) g = IsAllocatable a.index × IsAddress a.width a.index a.sum_base g
 
 pub record Holds (held : Scratch) (registers : ℕ → ℕ) : Type 0 where
   pub upper : HoldsUpper held.upper registers
@@ -42,11 +44,11 @@ upper_stays None f g e h = tt
 upper_stays (Some u) f g e h = e ∙ h
 
 pub is_address_stays : (w : Width) (i u : ℕ) (f g : ℕ → ℕ) → g 5 ≡ f 5 → g i ≡ f i → IsAddress w i u f → IsAddress w i u g
-is_address_stays w i u f g e same h = e ∙ h ∙ ap (λ n. (bytes w * n + u * 2 ^ 12) % 2 ^ 32) (sym same)
+is_address_stays w i u f g e same h = e ∙ h ∙ ap (λ n. (bytes w * n + u) % 2 ^ 32) (sym same)
 
 pub address_stays : (a : Option ElementAddress) (f g : ℕ → ℕ) → g 5 ≡ f 5 → ((r : ℕ) → IsAllocatable r → g r ≡ f r) → HoldsAddress a f → HoldsAddress a g
 address_stays None f g e same h = tt
-address_stays (Some a) f g e same h = (h.0, is_address_stays a.width a.index a.upper f g e (same a.index h.0) h.1)
+address_stays (Some a) f g e same h = (h.0, is_address_stays a.width a.index a.sum_base f g e (same a.index h.0) h.1)
 
 address_without : (a : Option ElementAddress) (d : ℕ) (f g : ℕ → ℕ) → g 5 ≡ f 5 → ((r : ℕ) → (r ≡ d → ⊥) → g r ≡ f r) → HoldsAddress a f → HoldsAddress (unless_of d a) g
 address_without None d f g e same h = tt
@@ -54,7 +56,7 @@ address_without (Some a) d f g e same h = by (a.index == d) (eqb_denies a.index 
   where
     by : (b : Bool) → (b ≡ false → a.index ≡ d → ⊥) → HoldsAddress (if b then None else Some a) g
     by true p = tt
-    by false p = (h.0, is_address_stays a.width a.index a.upper f g e (same a.index (p refl)) h.1)
+    by false p = (h.0, is_address_stays a.width a.index a.sum_base f g e (same a.index (p refl)) h.1)
 
 pub holds_set : (held : Scratch) (f : ℕ → ℕ) (d v : ℕ) → IsAllocatable d → Holds held f → Holds (without d held) (with_register f d v)
 holds_set held f d v u h = (let lo = u.0 in record {
@@ -92,46 +94,116 @@ width_says Word Byte e = absurd (let q : false ≡ true = e in cc)
 address_right : (z : Option ElementAddress) (w : Width) (i u : ℕ) (g : ℕ → ℕ) → HoldsAddress z g → is_address z w i u ≡ true → IsAddress w i u g
 address_right None w i u g h e = absurd (let q : false ≡ true = e in cc)
 address_right (Some a) w i u g h e =
-    let rest = both_1 (same_width a.width w) ((a.index == i) && (a.upper == u)) e in
-    let width = width_says a.width w (both_0 (same_width a.width w) ((a.index == i) && (a.upper == u)) e) in
-    let index = eqb_says a.index i (both_0 (a.index == i) (a.upper == u) rest) in
-    let upper = eqb_says a.upper u (both_1 (a.index == i) (a.upper == u) rest) in
-    h.1 ∙ ap (λ (z : Width). (bytes z * g a.index + a.upper * 2 ^ 12) % 2 ^ 32) width ∙ ap (λ n. (bytes w * g n + a.upper * 2 ^ 12) % 2 ^ 32) index ∙ ap (λ n. (bytes w * g i + n * 2 ^ 12) % 2 ^ 32) upper
+    let rest = both_1 (same_width a.width w) ((a.index == i) && (a.sum_base == u)) e in
+    let width = width_says a.width w (both_0 (same_width a.width w) ((a.index == i) && (a.sum_base == u)) e) in
+    let index = eqb_says a.index i (both_0 (a.index == i) (a.sum_base == u) rest) in
+    let sum_base = eqb_says a.sum_base u (both_1 (a.index == i) (a.sum_base == u) rest) in
+    h.1 ∙ ap (λ (z : Width). (bytes z * g a.index + a.sum_base) % 2 ^ 32) width ∙ ap (λ n. (bytes w * g n + a.sum_base) % 2 ^ 32) index ∙ ap (λ n. (bytes w * g i + n) % 2 ^ 32) sum_base
+
+-- ---- x3
+
+-- what x3 holds in a function's body: the global pointer, where the function sets it, else what it held at its entry, or that
+abbrev pub IsPointer : (sets_pointer : Bool) → (before now : ℕ) → Type 0
+IsPointer true before now = now ≡ global_pointer
+IsPointer false before now = IsKeptOrPointer before now
+
+-- behind a call
+pub pointer_behind : (sets_pointer : Bool) (before now after : ℕ) → IsPointer sets_pointer before now → IsKeptOrPointer now after → IsPointer sets_pointer before after
+pointer_behind true before now after b (inl e) = e ∙ b
+pointer_behind true before now after b (inr e) = e
+pointer_behind false before now after (inl b) (inl e) = inl (e ∙ b)
+pointer_behind false before now after (inr b) (inl e) = inr (e ∙ b)
+pointer_behind false before now after b (inr e) = inr e
+
+-- at the return
+pub pointer_given : (sets_pointer : Bool) (before now : ℕ) → IsPointer sets_pointer before now → IsKeptOrPointer before now
+pointer_given true before now b = inr b
+pointer_given false before now b = b
+
+pub pointer_is : (sets_pointer : Bool) (before now : ℕ) → sets_pointer ≡ true → IsPointer sets_pointer before now → now ≡ global_pointer
+pointer_is true before now e b = b
+pointer_is false before now e b = absurd (let q : false ≡ true = e in cc)
+
+-- where an address is in reach
+abbrev pub IsInReach : (address : ℕ) → Type 0
+IsInReach a = (globals_from ≤ a) × (a < globals_from + 4096)
+
+pub in_reach_says : (a : ℕ) → is_in_reach a ≡ true → IsInReach a
+in_reach_says a e = (at_least globals_from a (both_0 (nat_le globals_from a) (nat_lt a (globals_from + 4096)) e), less a (globals_from + 4096) (both_1 (nat_le globals_from a) (nat_lt a (globals_from + 4096)) e))
+  where
+    at_least : (a b : ℕ) → nat_le a b ≡ true → a ≤ b
+    at_least a b e = grind (arith, nat_tests)
+
+    less : (a b : ℕ) → nat_lt a b ≡ true → a < b
+    less a b e = grind (arith, nat_tests)
+
+-- the address is that far from there
+pointer_reaches_of : (a x : ℕ) → IsInReach a → LowIs (add a (2 ^ 32 - global_pointer)) x → (global_pointer + x) % 2 ^ 32 ≡ a
+pointer_reaches_of a x (lo, hi) (inl h) = (let e = h.0 in let k = h.1 in omega arith)
+pointer_reaches_of a x (lo, hi) (inr h) = (let e = h.0 in let k = h.1 in omega arith)
+
+pub pointer_reaches : (a : ℕ) → IsInReach a → (global_pointer + from_pointer a) % 2 ^ 32 ≡ a
+pointer_reaches a r = pointer_reaches_of a (from_pointer a) r (low_is (add a (2 ^ 32 - global_pointer)))
+
+-- ---- what is known of an address
 
 -- of an element whose number is in a register, and of an address
 abbrev pub IsKnown : Remembered → Width → (base index : ℕ) → (registers : ℕ → ℕ) → Type 0
 IsKnown Nothing width base index g = Unit {0}
 IsKnown Upper width base index g = g 6 ≡ high base * 2 ^ 12
-IsKnown Element width base index g = IsAddress width index (high base) g
+IsKnown Element width base index g = IsAddress width index (high base * 2 ^ 12) g
+IsKnown ByPointer width base index g = (g 3 ≡ global_pointer) × IsInReach base
+IsKnown ElementByPointer width base index g = IsAddress width index global_pointer g × IsInReach base
 
 abbrev pub IsKnownAt : Remembered → (address : ℕ) → (registers : ℕ → ℕ) → Type 0
 IsKnownAt Nothing address g = Unit {0}
 IsKnownAt Upper address g = g 6 ≡ high address * 2 ^ 12
 IsKnownAt Element address g = ⊥
+IsKnownAt ByPointer address g = (g 3 ≡ global_pointer) × IsInReach address
+IsKnownAt ElementByPointer address g = ⊥
 
-pub is_known : (held : Scratch) (w : Width) (b i : ℕ) (g : ℕ → ℕ) → Holds held g → IsKnown (known_of held w b i) w b i g
-is_known held w b i g h = by (is_address held.address w i (high b)) (is_upper held.upper (high b)) (address_right held.address w i (high b) g h.address) (upper_right held.upper (high b) g h.upper)
+pub is_known : (sets_pointer : Bool) (before : ℕ) (held : Scratch) (w : Width) (b i : ℕ) (g : ℕ → ℕ) → IsPointer sets_pointer before (g 3) → Holds held g → IsKnown (known_of sets_pointer held w b i) w b i g
+is_known sets_pointer before held w b i g pointer h =
+    let set = both_0 sets_pointer (is_in_reach b) in
+    let of_reach = both_1 sets_pointer (is_in_reach b) in
+    by (sets_pointer && is_in_reach b) (is_address held.address w i global_pointer) (is_address held.address w i (high b * 2 ^ 12)) (is_upper held.upper (high b)) (λ e. (pointer_is sets_pointer before (g 3) (set e) pointer, in_reach_says b (of_reach e)))
+    (address_right held.address w i global_pointer g h.address) (address_right held.address w i (high b * 2 ^ 12) g h.address) (upper_right held.upper (high b) g h.upper)
   where
-    by : (x y : Bool) → (x ≡ true → IsAddress w i (high b) g) → (y ≡ true → g 6 ≡ high b * 2 ^ 12) → IsKnown (if x then Element else if y then Upper else Nothing) w b i g
-    by true y p q = p refl
-    by false true p q = q refl
-    by false false p q = tt
+    by : (n e x y : Bool) → (n ≡ true → (g 3 ≡ global_pointer) × IsInReach b) → (e ≡ true → IsAddress w i global_pointer g) → (x ≡ true → IsAddress w i (high b * 2 ^ 12) g) → (y ≡ true → g 6 ≡ high b * 2 ^ 12)
+        → IsKnown (if x then Element else if n then (if e then ElementByPointer else ByPointer) else if y then Upper else Nothing) w b i g
+    by n e true y r a p q = p refl
+    by true true false y r a p q = (a refl, (r refl).1)
+    by true false false y r a p q = r refl
+    by false e false true r a p q = q refl
+    by false e false false r a p q = tt
 
-pub is_known_at : (held : Scratch) (b : ℕ) (g : ℕ → ℕ) → Holds held g → IsKnownAt (known_at held b) b g
-is_known_at held b g h = by (is_upper held.upper (high b)) (upper_right held.upper (high b) g h.upper)
+pub is_known_at : (sets_pointer : Bool) (before : ℕ) (held : Scratch) (b : ℕ) (g : ℕ → ℕ) → IsPointer sets_pointer before (g 3) → Holds held g → IsKnownAt (known_at sets_pointer held b) b g
+is_known_at sets_pointer before held b g pointer h =
+    let set = both_0 sets_pointer (is_in_reach b) in
+    let of_reach = both_1 sets_pointer (is_in_reach b) in
+    by (sets_pointer && is_in_reach b) (is_upper held.upper (high b)) (λ e. (pointer_is sets_pointer before (g 3) (set e) pointer, in_reach_says b (of_reach e))) (upper_right held.upper (high b) g h.upper)
   where
-    by : (x : Bool) → (x ≡ true → g 6 ≡ high b * 2 ^ 12) → IsKnownAt (if x then Upper else Nothing) b g
-    by true p = p refl
-    by false p = tt
+    by : (n x : Bool) → (n ≡ true → (g 3 ≡ global_pointer) × IsInReach b) → (x ≡ true → g 6 ≡ high b * 2 ^ 12) → IsKnownAt (if n then ByPointer else if x then Upper else Nothing) b g
+    by true x r p = r refl
+    by false true r p = p refl
+    by false false r p = tt
 
--- ---- with the lower part the address is that of the element
+-- ---- with the object's part the address is that of the element
 
-pub element_address : (w : Width) (i b n : ℕ) (g : ℕ → ℕ) → g i ≡ n → b < 2 ^ 32 → element_place w b n < 2 ^ 32 → IsAddress w i (high b) g → (g 5 + low b) % 2 ^ 32 ≡ element_place w b n
-element_address Byte i b n g e small lt h = (let both = high_low b small in by (high b * 2 ^ 12) (low b) (g 5) (g i) both h e)
+pub element_address : (w : Width) (i b n o part : ℕ) (g : ℕ → ℕ) → g i ≡ n → element_place w b n < 2 ^ 32 → (o + part) % 2 ^ 32 ≡ b → IsAddress w i o g → (g 5 + part) % 2 ^ 32 ≡ element_place w b n
+element_address Byte i b n o part g e lt both h = by o part (g 5) (g i) both h e
   where
     by : (hi lo five k : ℕ) → (hi + lo) % 2 ^ 32 ≡ b → five ≡ (1 * k + hi) % 2 ^ 32 → k ≡ n → (five + lo) % 2 ^ 32 ≡ b + 1 * n
     by hi lo five k p q r = omega arith
-element_address Word i b n g e small lt h = (let both = high_low b small in by (high b * 2 ^ 12) (low b) (g 5) (g i) both h e)
+element_address Word i b n o part g e lt both h = by o part (g 5) (g i) both h e
   where
     by : (hi lo five k : ℕ) → (hi + lo) % 2 ^ 32 ≡ b → five ≡ (4 * k + hi) % 2 ^ 32 → k ≡ n → (five + lo) % 2 ^ 32 ≡ b + 4 * n
     by hi lo five k p q r = omega arith
+
+-- the object's part and what x5 holds besides are its address
+pub parts_of : (known : Remembered) (w : Width) (b i : ℕ) (g : ℕ → ℕ) → b < 2 ^ 32 → IsKnown known w b i g → (sum_base known b + part_of known b) % 2 ^ 32 ≡ b
+parts_of Nothing w b i g lt k = high_low b lt
+parts_of Upper w b i g lt k = high_low b lt
+parts_of Element w b i g lt k = high_low b lt
+parts_of ByPointer w b i g lt k = pointer_reaches b k.1
+parts_of ElementByPointer w b i g lt k = pointer_reaches b k.1

@@ -19,8 +19,7 @@ use Rattle.cc_emit.specs.declared.item.Item.{Item}
 use Rattle.cc_emit.specs.Contract.{IsPiece}
 use Rattle.cc_emit.specs.Objects.{object_address}
 use Rattle.cc_emit.specs.Frames.{frame_of}
-use Rattle.cc_emit.specs.Emission.{framed_items}
-use Rattle.cc_emit.specs.Scratch.{nothing, addressed}
+use Rattle.cc_emit.specs.Scratch.{gains}
 use Rattle.cc_emit.specs.Function.{function_items}
 use Rattle.cc_emit.specs.Piece.{AreOf, IsPieceOfUnit}
 use Rattle.cc_emit.proofs.Choosing.{is_frame, are_fine}
@@ -72,16 +71,17 @@ items_do p limits selected keeps meaning is layout in_order =
     let base : layout.base ≡ object_address (objects_in tree) = λ i g. (in_order g ∙ ap (λ (o : List Size). object_address o g) is.objects) i in
     let fits : AllByRecursion (IsStep p.ltl.slots meaning.functions (labels p.code)) p.code = subst (λ n. AllByRecursion (IsStep p.ltl.slots n (labels p.code)) p.code) (sym is.functions) selected.fit in
     let few : (g : ℕ) → meaning.arity g ≤ 8 = λ g. subst (λ (arity : ℕ → ℕ). arity g ≤ 8) (sym is.arity) (few_parameters tree limits g) in
-    let frame = frame_of p.ltl.slots p.code in
-    let fine = are_fine meaning (labels p.code) p.ltl.slots p.code few fits in
-    let framed = is_frame p.ltl.slots p.code selected.few in
+    let sets_pointer = gains layout.base p.code in
+    let frame = frame_of sets_pointer p.ltl.slots p.code in
+    let fine = are_fine meaning (labels p.code) sets_pointer p.ltl.slots p.code few fits in
+    let framed = is_frame sets_pointer p.ltl.slots p.code selected.few in
     let rate = keeps.0 in
-    let piece : IsPiece meaning layout p.function (framed_items layout.base frame (addressed layout.base nothing p.code)) = record {
+    let piece : IsPiece meaning layout p.function (function_items layout.base p.ltl.slots p.code) = record {
       rate = rate + rate;
       meets = framed_meets meaning layout p.function rate frame p.code (keeps.1 meaning is) framed fine;
       fit = framed_fit meaning layout.base frame p.code framed fine;
     } in
-    subst (λ (b : ℕ → ℕ). IsPiece meaning layout p.function (framed_items b frame (addressed b nothing p.code))) base piece
+    subst (λ (b : ℕ → ℕ). IsPiece meaning layout p.function (function_items b p.ltl.slots p.code)) base piece
 
 -- with what `SelectedPair::code` and `into_parts` say of a pair, and the limits of its unit
 pub piece_of : (p : above.Pair) → IsLtl p.ltl → length p.ltl.blocks ≤ most_blocks → validated.KeepsUp (above.tree_of p) p.function p.ltl → IsTyped (above.tree_of p) → IsWithinLimits (above.tree_of p) → p.function < length (functions (above.tree_of p)) → IsSelected p.ltl.slots (length (functions (above.tree_of p))) p.code → above.KeepsUp (above.tree_of p) p.function p.ltl.slots p.code

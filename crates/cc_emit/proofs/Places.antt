@@ -18,9 +18,9 @@ use Rattle.cc_words.specs.declared.operators.Width.{Width}
 use Rattle.cc_words.specs.declared.operators.Width.TheVariants.{Byte, Word}
 use Rattle.cc_emit.specs.declared.addressed.Addressed.{Addressed}
 use Rattle.cc_emit.specs.declared.addressed.Remembered.{Remembered}
-use Rattle.cc_emit.specs.declared.addressed.Remembered.TheVariants.{Nothing, Upper, Element}
+use Rattle.cc_emit.specs.declared.addressed.Remembered.TheVariants.{Nothing, Upper, Element, ByPointer, ElementByPointer}
 use Rattle.cc_emit.specs.Frames.{Frame, frame_size}
-use Rattle.cc_emit.specs.Emission.{word_recipe, word_recipe_items, word_recipe_size, word_branch_items, word_branch_size, high, low, stack_moved, stack_moved_size, restoring, saving, epilogue, prologue_size, recipe, recipe_items, recipe_size, branch_items, branch_size, const_items, const_size, items_of_one, items_of_step, items_of, access_size, known_access_size, size_of_one, size_of_step, size, indexed, upper_items, long_size, distance, is_close, is_label, is_near, long_place, short_place, emitted}
+use Rattle.cc_emit.specs.Emission.{word_recipe, word_recipe_items, word_recipe_size, word_branch_items, word_branch_size, high, low, pointer_items, pointer_size, stack_moved, stack_moved_size, restoring, saving, epilogue, prologue_size, recipe, recipe_items, recipe_size, branch_items, branch_size, const_items, const_size, items_of_one, items_of_step, items_of, access_size, known_access_size, size_of_one, size_of_step, size, indexed, upper_items, long_size, distance, is_close, is_label, is_near, long_place, short_place, emitted}
 use Rattle.cc_emit.specs.declared.recipe.Recipe.{Recipe}
 use Rattle.cc_emit.specs.declared.recipe.WordRecipe.{WordRecipe}
 use Rattle.cc_emit.specs.declared.recipe.Recipe.TheVariants.{Direct, ZeroOf, ZeroOfExchanged, NonzeroOf}
@@ -42,6 +42,9 @@ long_if false xs ys m n p q = q
 
 pub length_stack_moved : (f : Frame) (by : ℕ) → length (stack_moved f by) ≡ stack_moved_size f
 length_stack_moved f by = long_if (frame_size f == 0) [] _ 0 1 refl refl
+
+pub length_pointer_items : (f : Frame) → length (pointer_items f) ≡ pointer_size f.sets_pointer
+length_pointer_items f = long_if f.sets_pointer _ [] 2 0 refl refl
 
 length_epilogue : (f : Frame) → length (epilogue f) ≡ length f.saved + stack_moved_size f + 1
 length_epilogue f =
@@ -85,11 +88,16 @@ access_size_is Nothing Word b i item = refl
 access_size_is Upper Byte b i item = refl
 access_size_is Upper Word b i item = refl
 access_size_is Element width b i item = refl
+access_size_is ByPointer Byte b i item = refl
+access_size_is ByPointer Word b i item = refl
+access_size_is ElementByPointer width b i item = refl
 
 known_access_size_is : (k : Remembered) (b : ℕ) (item : Item) → length (upper_items k b ++ item ∷ []) ≡ known_access_size k
 known_access_size_is Nothing b item = refl
 known_access_size_is Upper b item = refl
 known_access_size_is Element b item = refl
+known_access_size_is ByPointer b item = refl
+known_access_size_is ElementByPointer b item = refl
 
 one_size_is : (base : ℕ → ℕ) (f : Frame) (near : ℕ → Bool) (labels : ℕ → ℕ) (a : ℕ) (k : Remembered) (i : linear.Item) → length (items_of_one base f near labels a k i) ≡ size_of_one f near k i
 one_size_is base f near labels a k (Label n) = refl

@@ -1,6 +1,6 @@
 -- Calls and returns within a frame, and its start.
-use Rattle.std.proofs.Common.{◌≡◌, ℕ, zero, suc, ◌+◌, ◌-◌, ◌*◌, ◌%◌, ◌^◌, ◌<◌, ◌≤◌, ◌⊎◌, List, [], ◌∷◌, Bool, true, false, Some, length, get_or, refl, sym, ap, ◌∙◌, subst, inl, inr, arith}
-use Rattle.std.specs.Prelude.{if◌then◌else◌, nat_le}
+use Rattle.std.proofs.Common.{◌≡◌, ℕ, zero, suc, ◌+◌, ◌-◌, ◌*◌, ◌%◌, ◌^◌, ◌<◌, ◌≤◌, ◌⊎◌, List, [], ◌∷◌, ◌++◌, Bool, true, false, Some, length, get_or, refl, sym, ap, ap₂, ◌∙◌, subst, inl, inr, arith}
+use Rattle.std.specs.Prelude.{if◌then◌else◌, nat_le, ◌==◌, ◌&&◌, not}
 use Rattle.std.proofs.lemmas.Bool.Decides.{nat_tests}
 use Rattle.cc_words.specs.Words.{add}
 use Rattle.cc_runs.specs.Behavior.{AreWords}
@@ -10,19 +10,21 @@ use Rattle.cc_ltl.specs.declared.location.Location.TheVariants.{Register, Slot}
 use Rattle.cc_ltl.specs.Registers.{IsAllocatable}
 use Rattle.cc_ltl.specs.Ltl.{Locations, put, words_from}
 use Rattle.cc_linear.specs.declared.item.Item.TheVariants.{Return}
-use Rattle.cc_rv32.specs.declared.instr.Instr.TheVariants.{Jal, Jalr}
-use Rattle.cc_rv32.specs.Machine.{Continues, State, Traps, jumps, stack_from, stack_to, with_register}
+use Rattle.cc_rv32.specs.declared.instr.Instr.TheVariants.{Jal, Jalr, Lui, OpImm}
+use Rattle.cc_rv32.specs.declared.instr.ImmediateOperation.TheVariants.{Addi}
+use Rattle.cc_emit.specs.declared.item.Item.TheVariants.{Plain}
+use Rattle.cc_rv32.specs.Machine.{Continues, State, Traps, jumps, puts, stack_from, stack_to, with_register}
 use Rattle.cc_select.specs.declared.step.Step.{Step}
 use Rattle.cc_select.specs.declared.step.Step.TheVariants.{One}
-use Rattle.cc_emit.specs.Contract.{Code, ComesBack, Enters, IsKept, IsPlace, IsSound, Passes, Path, Placed, Shares, element_place}
+use Rattle.cc_emit.specs.Contract.{global_pointer, Code, ComesBack, Enters, IsKeptOrPointer, IsKept, IsPlace, IsSound, Passes, Path, Placed, Shares, element_place}
 use Rattle.cc_emit.specs.Frames.{Frame, frame_size}
-use Rattle.cc_emit.specs.Emission.{prologue, prologue_size, restoring, saving, stack_moved, stack_moved_size}
+use Rattle.cc_emit.specs.Emission.{addi, pointer_items, pointer_size, high, low, prologue, prologue_size, restoring, saving, stack_moved, stack_moved_size}
 use Rattle.cc_emit.specs.declared.scratch.Scratch.{Scratch}
 use Rattle.cc_emit.specs.Scratch.{nothing}
-use Rattle.cc_emit.proofs.Holding.{holds_nothing}
+use Rattle.cc_emit.proofs.Holding.{IsPointer, pointer_behind, pointer_given, holds_nothing}
 use Rattle.cc_emit.proofs.Fine.{AreSavable, IsSavable, Member}
-use Rattle.cc_emit.proofs.Basics.{set_other, set_word, eqb_yes, put_register, with_zero, survives_tells, listed, listed_at}
-use Rattle.cc_emit.proofs.Places.{length_restoring, length_stack_moved}
+use Rattle.cc_emit.proofs.Basics.{high_low, set_same, set_other, set_word, eqb_yes, put_register, with_zero, survives_tells, listed, listed_at}
+use Rattle.cc_emit.proofs.Places.{length_pointer_items, length_restoring, length_stack_moved}
 use Rattle.cc_emit.proofs.Bytes.{loaded_word}
 use Rattle.cc_emit.proofs.Elements.{elements_stay}
 use Rattle.cc_emit.proofs.Standing.{machine_step, path_then, size_at, size_found, Site, Standing, Stands, first_items, placed_append, step_at}
@@ -44,10 +46,16 @@ savable_not_2 r (inl k) e = omega arith
 savable_not_2 r (inr (inl k)) e = omega arith
 savable_not_2 r (inr (inr k)) e = omega arith
 
-not_saved : (r : ℕ) → (r ≡ 0) ⊎ ((r ≡ 2) ⊎ (r ≡ 10)) → (r ≡ 1 → ⊥) × (IsKept r → ⊥)
+savable_not_3 : (r : ℕ) → IsSavable r → r ≡ 3 → ⊥
+savable_not_3 r (inl k) e = omega arith
+savable_not_3 r (inr (inl k)) e = omega arith
+savable_not_3 r (inr (inr k)) e = omega arith
+
+not_saved : (r : ℕ) → (r ≡ 0) ⊎ ((r ≡ 2) ⊎ ((r ≡ 3) ⊎ (r ≡ 10))) → (r ≡ 1 → ⊥) × (IsKept r → ⊥)
 not_saved r (inl e) = ((λ q. omega arith), (λ k. elim k [ inl b ↦ omega arith | inr b ↦ omega arith ]))
 not_saved r (inr (inl e)) = ((λ q. omega arith), (λ k. elim k [ inl b ↦ omega arith | inr b ↦ omega arith ]))
-not_saved r (inr (inr e)) = ((λ q. omega arith), (λ k. elim k [ inl b ↦ omega arith | inr b ↦ omega arith ]))
+not_saved r (inr (inr (inl e))) = ((λ q. omega arith), (λ k. elim k [ inl b ↦ omega arith | inr b ↦ omega arith ]))
+not_saved r (inr (inr (inr e))) = ((λ q. omega arith), (λ k. elim k [ inl b ↦ omega arith | inr b ↦ omega arith ]))
 
 -- the return: the saved registers are read back, the frame given up
 pub return_path : (x : Site) {held : Scratch} (w a : ℕ) (rest : List Step) (l : Locations) (h : World) (s : State) → IsSound x.from → x.from.registers 1 % 4 ≡ 0 → s.pc ≡ x.place + 4 * a → Standing x held w a (One Return ∷ rest) → Within x held l h s
@@ -92,9 +100,10 @@ return_path x w a rest l h s sound back e st inside =
           memory = inside.sound.memory;
           input = inside.sound.input;
         };
-        value = set_other u.registers 2 (x.from.registers 2) 10 (λ e. omega arith) ∙ restored_other rs x.from.registers s.registers 10 sv (not_saved 10 (inr (inr refl))) ∙ sym (inside.same 10 (omega arith, omega arith));
+        value = set_other u.registers 2 (x.from.registers 2) 10 (λ e. omega arith) ∙ restored_other rs x.from.registers s.registers 10 sv (not_saved 10 (inr (inr (inr refl)))) ∙ sym (inside.same 10 (omega arith, omega arith));
         shares = record { sizes = inside.shares.sizes; globals = inside.shares.globals; input = inside.shares.input; output = inside.shares.output };
         stack = refl;
+        pointer = subst (IsKeptOrPointer (x.from.registers 3)) (sym (set_other u.registers 2 (x.from.registers 2) 3 (λ e. omega arith) ∙ restored_other rs x.from.registers s.registers 3 sv (not_saved 3 (inr (inr (inl refl)))))) (pointer_given f.sets_pointer _ _ inside.pointer);
         kept = λ r k. set_other u.registers 2 (x.from.registers 2) r (savable_not_2 r (inr k)) ∙ kept_back x s.registers r (inside.kept r (inr k));
         above = inside.above;
       },
@@ -196,6 +205,7 @@ within_behind x l h s to a t one w r =
       slots = λ i lt. w.slots i lt ∙ sym (r.above (s.registers 2 + 4 * i) (omega arith)) ∙ ap (λ n. t.memory (n + 4 * i)) (sym t2);
       shares = r.shares;
       stack = ap (λ n. n + frame_size x.frame) t2 ∙ stack;
+      pointer = pointer_behind x.frame.sets_pointer (x.from.registers 3) (s.registers 3) (t.registers 3) w.pointer (subst (λ n. IsKeptOrPointer n (t.registers 3)) (set_other s.registers 1 (s.pc + 4) 3 (λ e. omega arith)) r.pointer);
       saved = subst (λ n. SavedAt x.frame.saved (n + 4 * x.frame.slots) x.from.registers t.memory) (sym t2) (saved_moved x.frame.saved _ x.from.registers s.memory t.memory (λ b le lt. r.above b (omega arith)) w.saved);
       kept = λ q k. kept_on x s t to q one r.kept k (w.kept q k);
       above = λ b le. r.above b (omega arith) ∙ w.above b le;
@@ -203,9 +213,52 @@ within_behind x l h s to a t one w r =
 
 -- ---- the prologue
 
+-- behind the words that set x3
+abbrev pub begun_registers : (sets_pointer : Bool) → (ℕ → ℕ) → ℕ → ℕ
+begun_registers b g = if b then with_register g 3 global_pointer else g
+
+begun_other : (b : Bool) (g : ℕ → ℕ) (r : ℕ) → (r ≡ 3 → ⊥) → begun_registers b g r ≡ g r
+begun_other true g r n = set_other g 3 global_pointer r n
+begun_other false g r n = refl
+
+begun_words : (b : Bool) (g : ℕ → ℕ) → ((r : ℕ) → g r < 2 ^ 32) → (r : ℕ) → begun_registers b g r < 2 ^ 32
+begun_words true g w = set_word g 3 global_pointer (omega arith) w
+begun_words false g w = w
+
+begun_pointer : (b : Bool) (g : ℕ → ℕ) → IsPointer b (g 3) (begun_registers b g 3)
+begun_pointer true g = set_same g 3 global_pointer (omega arith)
+begun_pointer false g = inl refl
+
+abbrev pub begun : Frame → State → State
+begun f s = record s { pc = s.pc + 4 * pointer_size f.sets_pointer; registers = begun_registers f.sets_pointer s.registers }
+
+pointer_path : (code : Code) (places : ℕ → ℕ) (place : ℕ) (f : Frame) (s : State) → Placed code places place s.pc (pointer_items f) → Path code (pointer_size f.sets_pointer) s (begun f s)
+pointer_path code places place f s p = by f.sets_pointer p
+  where
+    twice : (g : ℕ → ℕ) (v w : ℕ) → with_register (with_register g 3 v) 3 w ≡ with_register g 3 w
+    twice g v w = λ i r. at r ((r == 3) && not (3 == 0)) i
+      where
+        at : (r : ℕ) (b : Bool) → (if b then w else (if b then v else g r)) ≡ (if b then w else g r)
+        at r true = refl
+        at r false = refl
+
+    by : (b : Bool) → Placed code places place s.pc (if b then Plain (Lui 3 (high global_pointer)) ∷ addi 3 3 (low global_pointer) ∷ [] else [])
+        → Path code (if b then 2 else 0) s (record s { pc = s.pc + 4 * (if b then 2 else 0); registers = begun_registers b s.registers })
+    by true p =
+        let up = high global_pointer * 2 ^ 12 in
+        let u : State = record s { pc = s.pc + 4; registers = with_register s.registers 3 up } in
+        let one : machine_step code s ≡ Continues u = step_at code s s.pc (Lui 3 (high global_pointer)) refl p.0 in
+        let v : State = record s { pc = s.pc + 4 + 4; registers = with_register u.registers 3 global_pointer } in
+        let u3 : u.registers 3 ≡ up = set_same s.registers 3 up (omega arith) in
+        let sum : add (u.registers 3) (low global_pointer) ≡ global_pointer = ap (λ n. add n (low global_pointer)) u3 ∙ high_low global_pointer (omega arith) in
+        let two : machine_step code u ≡ Continues v = step_at code u (s.pc + 4) (OpImm Addi 3 3 (low global_pointer)) refl p.1.0 ∙ ap (λ n. puts 3 n u) sum in
+        let at : s.pc + 4 + 4 ≡ s.pc + 4 * 2 = omega arith in
+        (u, one, (v, two, ap₂ (λ (k : ℕ) (g : ℕ → ℕ). record s { pc = k; registers = g }) at (twice s.registers up global_pointer)))
+    by false p = ap (λ k. record s { pc = k }) (let e : s.pc ≡ s.pc + 4 * 0 = omega arith in e)
+
 -- behind it
 pub framed : Frame → State → State
-framed f s = record s { pc = s.pc + 4 * stack_moved_size f + 4 * length f.saved; registers = with_register s.registers 2 (s.registers 2 - frame_size f); memory = with_saved f.saved (s.registers 2 - frame_size f + 4 * f.slots) (with_register s.registers 2 (s.registers 2 - frame_size f)) s.memory }
+framed f s = record s { pc = s.pc + 4 * pointer_size f.sets_pointer + 4 * stack_moved_size f + 4 * length f.saved; registers = with_register (begun f s).registers 2 (s.registers 2 - frame_size f); memory = with_saved f.saved (s.registers 2 - frame_size f + 4 * f.slots) (with_register (begun f s).registers 2 (s.registers 2 - frame_size f)) s.memory }
 
 pub prologue_path : (code : Code) (places : ℕ → ℕ) (place : ℕ) (f : Frame) (s : State) → s.registers 2 % 4 ≡ 0 → stack_from + frame_size f ≤ s.registers 2 → s.registers 2 ≤ stack_to → f.slots + length f.saved ≤ 508 → Placed code places place s.pc (prologue f) → Path code (prologue_size f) s (framed f s)
 unfolding framed
@@ -213,20 +266,27 @@ prologue_path code places place f s z room top small p =
     let n = s.registers 2 - frame_size f in
     let by = 2 ^ 32 - frame_size f in
     let move = stack_moved f by in
-    let both = placed_append code places place s.pc move (saving (4 * f.slots) f.saved) p in
-    let u : State = record s { pc = s.pc + 4 * stack_moved_size f; registers = with_register s.registers 2 n } in
-    let one : Path code (stack_moved_size f) s u = stack_path code places place f s by n both.0 (λ e. omega arith) (λ e. omega arith) in
+    let whole = placed_append code places place s.pc (pointer_items f) (move ++ saving (4 * f.slots) f.saved) p in
+    let t : State = begun f s in
+    let zero : Path code (pointer_size f.sets_pointer) s t = pointer_path code places place f s whole.0 in
+    let begins : length (pointer_items f) ≡ pointer_size f.sets_pointer = length_pointer_items f in
+    let on_t : Placed code places place t.pc (move ++ saving (4 * f.slots) f.saved) = subst (λ k. Placed code places place (s.pc + 4 * k) (move ++ saving (4 * f.slots) f.saved)) begins whole.1 in
+    let t2 : t.registers 2 ≡ s.registers 2 = begun_other f.sets_pointer s.registers 2 (λ e. omega arith) in
+    let both = placed_append code places place t.pc move (saving (4 * f.slots) f.saved) on_t in
+    let u : State = record t { pc = t.pc + 4 * stack_moved_size f; registers = with_register t.registers 2 n } in
+    let one : Path code (stack_moved_size f) t u = stack_path code places place f t by n both.0 (λ e. omega arith) (λ e. omega arith) in
     let moves : length move ≡ stack_moved_size f = length_stack_moved f by in
-    let on_u : Placed code places place u.pc (saving (4 * f.slots) f.saved) = subst (λ k. Placed code places place (s.pc + 4 * k) (saving (4 * f.slots) f.saved)) moves both.1 in
-    path_then code (stack_moved_size f) (length f.saved) s u _ one (saving_path code places place f.saved (4 * f.slots) u on_u (omega arith) (omega arith) (omega arith))
+    let on_u : Placed code places place u.pc (saving (4 * f.slots) f.saved) = subst (λ k. Placed code places place (t.pc + 4 * k) (saving (4 * f.slots) f.saved)) moves both.1 in
+    path_then code (pointer_size f.sets_pointer) (stack_moved_size f + length f.saved) s t _ zero
+    (path_then code (stack_moved_size f) (length f.saved) t u _ one (saving_path code places place f.saved (4 * f.slots) u on_u (omega arith) (omega arith) (omega arith)))
 
 pub framed_pc : (f : Frame) (s : State) (place : ℕ) → s.pc ≡ place → (framed f s).pc ≡ place + 4 * prologue_size f
 unfolding framed
 framed_pc f s place e = omega arith
 
-saved_other : (rs : List ℕ) (a : ℕ) (f g m : ℕ → ℕ) → AreSavable rs → ((r : ℕ) → (r ≡ 2 → ⊥) → f r ≡ g r) → SavedAt rs a f m → SavedAt rs a g m
+saved_other : (rs : List ℕ) (a : ℕ) (f g m : ℕ → ℕ) → AreSavable rs → ((r : ℕ) → (r ≡ 2 → ⊥) → (r ≡ 3 → ⊥) → f r ≡ g r) → SavedAt rs a f m → SavedAt rs a g m
 saved_other [] a f g m sv same p = tt
-saved_other (r ∷ rs) a f g m sv same p = (p.0 ∙ same r (savable_not_2 r sv.0), saved_other rs (a + 4) f g m sv.1 same p.1)
+saved_other (r ∷ rs) a f g m sv same p = (p.0 ∙ same r (savable_not_2 r sv.0) (savable_not_3 r sv.0), saved_other rs (a + 4) f g m sv.1 same p.1)
 
 -- the word of an argument, or of a register that has none
 argument_at : (ws : List ℕ) (r i other : ℕ) (s : State) → Passes ws r s → s.registers (r + i) ≡ other → get_or ws i other ≡ s.registers (r + i)
@@ -268,19 +328,22 @@ framed_within x fn d ws h enters =
     let top = x.top in
     let n = s.registers 2 - frame_size f in
     let at = n + 4 * f.slots in
-    let g = with_register s.registers 2 n in
+    let k = (begun f s).registers in
+    let k_words = begun_words f.sets_pointer s.registers enters.sound.registers in
+    let g = with_register k 2 n in
     let low : n ≤ s.registers 2 = omega arith in
     let b2 = enters.sound.registers 2 in
-    let other : (r : ℕ) → (r ≡ 2 → ⊥) → g r ≡ s.registers r = λ r e. set_other s.registers 2 n r e in
-    let moved = passes_moved ws 10 s (framed f s) (omega arith) (λ r le. other r (λ e. omega arith)) enters.passes in
+    let other : (r : ℕ) → (r ≡ 2 → ⊥) → (r ≡ 3 → ⊥) → g r ≡ s.registers r = λ r e q. set_other k 2 n r e ∙ begun_other f.sets_pointer s.registers r q in
+    let moved = passes_moved ws 10 s (framed f s) (omega arith) (λ r le. other r (λ e. omega arith) (λ e. omega arith)) enters.passes in
     record {
-      sound = record { zero = enters.sound.zero; registers = set_word s.registers 2 n (omega arith) enters.sound.registers; memory = saved_words f.saved at g s.memory (set_word s.registers 2 n (omega arith) enters.sound.registers) enters.sound.memory; input = enters.sound.input };
+      sound = record { zero = other 0 (λ e. omega arith) (λ e. omega arith) ∙ enters.sound.zero; registers = set_word k 2 n (omega arith) k_words; memory = saved_words f.saved at g s.memory (set_word k 2 n (omega arith) k_words) enters.sound.memory; input = enters.sound.input };
       holds = holds_nothing _;
       same = λ r u. found_register f (framed f s) ws r u.1 moved;
       slots = λ i lt. listed_at f.slots 0 i (λ k. (framed f s).memory ((framed f s).registers 2 + 4 * k)) lt ∙ ap (λ k. (framed f s).memory (n + 4 * k)) (let e : 0 + i ≡ i = omega arith in e);
       shares = record { sizes = enters.shares.sizes; globals = λ k i lt. elements_stay x s.memory (with_saved f.saved at g s.memory) k i lt (λ c below. saved_below f.saved at g s.memory c (omega arith)) ∙ enters.shares.globals k i lt; input = enters.shares.input; output = enters.shares.output };
       stack = omega arith;
+      pointer = subst (IsPointer f.sets_pointer (s.registers 3)) (sym (set_other k 2 n 3 (λ e. omega arith))) (begun_pointer f.sets_pointer s.registers);
       saved = saved_other f.saved at g s.registers _ x.is_frame.savable other (saved_at f.saved at g s.memory);
-      kept = λ r k. inr (other r (savable_not_2 r k));
+      kept = λ r k. inr (other r (savable_not_2 r k) (savable_not_3 r k));
       above = λ b le. saved_above f.saved at g s.memory b (omega arith);
     }

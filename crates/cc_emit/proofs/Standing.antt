@@ -64,16 +64,16 @@ size_found objects h e g = ap (λ (o : List Size). size_in o g) (sym e) ∙ foun
 
 -- steps with what is known of their addresses, where the scratch registers hold so much before them
 abbrev pub addressed_at : Site → Scratch → List Step → List Addressed
-addressed_at x held ops = addressed x.layout.base held ops
+addressed_at x held ops = addressed x.layout.base x.frame.sets_pointer held ops
 
 abbrev pub all_addressed : Site → List Addressed
 all_addressed x = addressed_at x nothing x.steps
 
 abbrev pub one_addressed : Site → Scratch → Step → Addressed
-one_addressed x held op = with_known x.layout.base held op
+one_addressed x held op = with_known x.layout.base x.frame.sets_pointer held op
 
 abbrev pub behind : Site → Scratch → Step → Scratch
-behind x held op = behind_step x.layout.base op held
+behind x held op = behind_step x.layout.base x.frame.sets_pointer op held
 
 abbrev pub near : Site → (long label : ℕ) → Bool
 near x = is_near x.frame (all_addressed x)

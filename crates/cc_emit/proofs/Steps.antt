@@ -23,13 +23,13 @@ use Rattle.cc_rv32.specs.Machine.{Continues, State, computed, globals_to, immedi
 use Rattle.cc_emit.specs.declared.condition.Condition.{Condition}
 use Rattle.cc_emit.specs.Branches.{compares, turned, comparison, against_zero, asked_of}
 use Rattle.cc_emit.specs.Contract.{IsPlace, element_place, load_of, store_of}
-use Rattle.cc_emit.specs.Emission.{branch_items, branch_size, first_instr, high, known_access_size, known_place, load_element, low, store_element, word_branch_items, word_branch_size, word_recipe, word_recipe_items, word_recipe_size}
+use Rattle.cc_emit.specs.Emission.{base_register, branch_items, branch_size, first_instr, known_access_size, known_place, load_element, part_of, store_element, word_branch_items, word_branch_size, word_recipe, word_recipe_items, word_recipe_size}
 use Rattle.cc_emit.specs.declared.recipe.WordRecipe.{WordRecipe}
 use Rattle.cc_emit.specs.declared.recipe.WordRecipe.TheVariants.{WithImmediate, ShiftBy, OnZero, ZeroOfImmediate, NonzeroOfImmediate}
 use Rattle.cc_emit.specs.declared.addressed.Remembered.{Remembered}
-use Rattle.cc_emit.specs.declared.addressed.Remembered.TheVariants.{Nothing, Upper, Element}
+use Rattle.cc_emit.specs.declared.addressed.Remembered.TheVariants.{Nothing, Upper, Element, ByPointer, ElementByPointer}
 use Rattle.cc_emit.specs.declared.scratch.Scratch.{Scratch}
-use Rattle.cc_emit.specs.Scratch.{known_at, without_address, behind_word_recipe, behind_word_branch}
+use Rattle.cc_emit.specs.Scratch.{known_at, sum_base, without_address, behind_word_recipe, behind_word_branch}
 use Rattle.cc_emit.proofs.Fine.{IsTarget}
 use Rattle.cc_emit.proofs.Basics.{high_low}
 use Rattle.cc_emit.proofs.Recipes.{IsRightWord, gives_word, immediate_gives}
@@ -39,9 +39,9 @@ use Rattle.cc_emit.proofs.Bytes.{load_accessible, loaded_word, store_accessible}
 use Rattle.cc_emit.proofs.Elements.{element_tells, holds, placed}
 use Rattle.cc_emit.proofs.Standing.{addressed_at, all_addressed, machine_step, first_items, standing_tail, step_at, labels, near, Site, Standing, Stands}
 use Rattle.cc_emit.proofs.Saving.{load_step, store_step}
-use Rattle.cc_emit.proofs.Holding.{is_known_at}
+use Rattle.cc_emit.proofs.Holding.{IsKnownAt, pointer_reaches, is_known_at}
 use Rattle.cc_emit.proofs.Within.{Within, within_set, within_5, within_store}
-use Rattle.cc_emit.proofs.Cases.{Case, Given, Reaches, StandsWhole, Stepped, asked, behind_1, near_nears, reach_by, reach_more, reach_set, stepped, told_reaches, upper_before, uppered, uppered_reaches, within_upper, word_of_register}
+use Rattle.cc_emit.proofs.Cases.{Case, Given, Reaches, StandsWhole, Stepped, asked, base_held, behind_1, near_nears, reach_by, reach_more, reach_set, stepped, told_reaches, upper_before, uppered, uppered_reaches, within_upper, word_of_register}
 
 -- ---- a register and a word
 
@@ -70,22 +70,35 @@ immediate_case x w a o to b word rest l h s (e, st, inside) =
 
 -- ---- elements whose numbers are known
 
+-- from its base an address is so far
+parts_at : (known : Remembered) (b : ℕ) (g : ℕ → ℕ) → b < 2 ^ 32 → IsKnownAt known b g → (sum_base known b + part_of known b) % 2 ^ 32 ≡ b
+parts_at Nothing b g lt known = high_low b lt
+parts_at Upper b g lt known = high_low b lt
+parts_at Element b g lt known = absurd known
+parts_at ByPointer b g lt known = pointer_reaches b known.1
+parts_at ElementByPointer b g lt known = absurd known
+
 -- where the element is there, its address is
-known_address : (width : Width) (u : State) (b n : ℕ) → element_place width b n < globals_to → u.registers 6 ≡ high (known_place width b n) * 2 ^ 12 → (u.registers 6 + low (known_place width b n)) % 2 ^ 32 ≡ element_place width b n
-known_address width u b n lt upper =
+known_address : (known : Remembered) (width : Width) (s : State) (b n : ℕ) → element_place width b n < globals_to → IsKnownAt known (known_place width b n) s.registers
+    → ((uppered known s (known_place width b n)).registers (base_register known) + part_of known (known_place width b n)) % 2 ^ 32 ≡ element_place width b n
+known_address known width s b n lt is =
     let at = element_place width b n in
     let same : at % 2 ^ 32 ≡ at = omega arith in
-    ap (λ k. (k + low (at % 2 ^ 32)) % 2 ^ 32) upper ∙ high_low (at % 2 ^ 32) (omega arith) ∙ same
+    ap (λ k. (k + part_of known (at % 2 ^ 32)) % 2 ^ 32) (base_held known s (at % 2 ^ 32) is) ∙ parts_at known (at % 2 ^ 32) s.registers (omega arith) is ∙ same
 
 behind_known : (known : Remembered) (place a : ℕ) → place + 4 * a + 4 * upper_before known + 4 ≡ place + 4 * (a + known_access_size known)
 behind_known Nothing place a = omega arith
 behind_known Upper place a = omega arith
 behind_known Element place a = omega arith
+behind_known ByPointer place a = omega arith
+behind_known ElementByPointer place a = omega arith
 
 uppered_memory : (known : Remembered) (s : State) (b : ℕ) → (uppered known s b).memory ≡ s.memory
 uppered_memory Nothing s b = refl
 uppered_memory Upper s b = refl
 uppered_memory Element s b = refl
+uppered_memory ByPointer s b = refl
+uppered_memory ElementByPointer s b = refl
 
 load_at_by : (x : Site) {held : Scratch} (w a : ℕ) (width : Width) (g to n : ℕ) (rest : List Step) (l : Locations) (h : World) (s : State) → Given x held w a (LoadAt width g to n ∷ rest) l h s → (z : Option ℕ) → element h width g n ≡ z → Case x (LoadAt width g to n ∷ rest) l h s
 load_at_by x w a width g to n rest l h s given None is = inr (λ ws. ap (λ z. tried z (λ q. Goes (at_steps rest (put (Register to) q l) h ws))) is)
@@ -97,17 +110,18 @@ load_at_by x {held} w a width g to n rest l h s (e, st, inside) (Some v) is =
     let b = known_place width (x.layout.base g) n in
     let at = element_place width (x.layout.base g) n in
     let p = x.place + 4 * a in
-    let known = known_at held b in
+    let known = known_at x.frame.sets_pointer held b in
+    let told = is_known_at x.frame.sets_pointer (x.from.registers 3) held b s.registers inside.pointer inside.holds in
     let u = uppered known s b in
-    let wu = within_upper x known l h s b (is_known_at held b s.registers inside.holds) inside in
+    let wu = within_upper x known l h s b told inside in
     let value : loaded (load_of width) u.memory at ≡ v = ap (λ (m : ℕ → ℕ). loaded (load_of width) m at) (uppered_memory known s b) ∙ holds x h s width g n v inside.shares there in
     let lv : v < 2 ^ 32 = (let q = loaded_word width u.memory at wu.sound.memory in omega arith) in
     let t : State = record u { pc = u.pc + 4; registers = with_register u.registers to v } in
     inl (stepped x (LoadAt width g to n ∷ rest) rest l (put (Register to) v l) h h s (λ ws. ap (λ z. tried z (λ q. Goes (at_steps rest (put (Register to) q l) h ws))) is)
-    (uppered_reaches x rest (put (Register to) v l) h known s p b (load_element width to 6 (low b) ∷ []) e (first_items x w a (LoadAt width g to n) rest st)
+    (uppered_reaches x rest (put (Register to) v l) h known s p b (load_element width to (base_register known) (part_of known b) ∷ []) e (first_items x w a (LoadAt width g to n) rest st)
     (λ stands pc.
     reach_by x rest (put (Register to) v l) h u t _ (a + known_access_size known)
-    (load_step x.code u (load_of width) (p + 4 * upper_before known) to 6 (low b) at pc stands.0 (known_address width u (x.layout.base g) n lies.below wu.holds.upper) (load_accessible width at lies.aligned (omega arith) lies.below) ∙ ap (λ i. puts to i u) value)
+    (load_step x.code u (load_of width) (p + 4 * upper_before known) to (base_register known) (part_of known b) at pc stands.0 (known_address known width s (x.layout.base g) n lies.below told) (load_accessible width at lies.aligned (omega arith) lies.below) ∙ ap (λ i. puts to i u) value)
     (ap (λ i. i + 4) pc ∙ behind_known known x.place a) (standing_tail x w a (LoadAt width g to n) rest st) (within_set x l h u (u.pc + 4) to v st.fine.0 lv wu))))
 
 pub load_at_case : (x : Site) {held : Scratch} (w a : ℕ) (width : Width) (g to n : ℕ) (rest : List Step) (l : Locations) (h : World) (s : State) → Given x held w a (LoadAt width g to n ∷ rest) l h s → Case x (LoadAt width g to n ∷ rest) l h s
@@ -124,15 +138,16 @@ store_at_by x {held} w a width g n r rest l h s (e, st, inside) (Some v) is =
     let at = element_place width (x.layout.base g) n in
     let p = x.place + 4 * a in
     let k = with_element h g n (kept width (l (Register r))) in
-    let known = known_at held b in
+    let known = known_at x.frame.sets_pointer held b in
+    let told = is_known_at x.frame.sets_pointer (x.from.registers 3) held b s.registers inside.pointer inside.holds in
     let u = uppered known s b in
-    let wu = within_upper x known l h s b (is_known_at held b s.registers inside.holds) inside in
+    let wu = within_upper x known l h s b told inside in
     let t : State = record u { pc = u.pc + 4; memory = stored (store_of width) u.memory at (l (Register r)) } in
     inl (stepped x (StoreAt width g n r ∷ rest) rest l l h k s (λ ws. ap (λ z. tried (option_map (λ old. with_element h g n (kept width (l (Register r)))) z) (λ k. Goes (at_steps rest l k ws))) is)
-    (uppered_reaches x rest l k known s p b (store_element width 6 r (low b) ∷ []) e (first_items x w a (StoreAt width g n r) rest st)
+    (uppered_reaches x rest l k known s p b (store_element width (base_register known) r (part_of known b) ∷ []) e (first_items x w a (StoreAt width g n r) rest st)
     (λ stands pc.
     reach_by x rest l k u t _ (a + known_access_size known)
-    (store_step x.code u (store_of width) (p + 4 * upper_before known) 6 r (low b) at pc stands.0 (known_address width u (x.layout.base g) n lies.below wu.holds.upper) (store_accessible width at lies.aligned (omega arith) lies.below)
+    (store_step x.code u (store_of width) (p + 4 * upper_before known) (base_register known) r (part_of known b) at pc stands.0 (known_address known width s (x.layout.base g) n lies.below told) (store_accessible width at lies.aligned (omega arith) lies.below)
     ∙ ap (λ i. Continues (record u { pc = u.pc + 4; memory = stored (store_of width) u.memory at i })) (sym (wu.same r st.fine.0)))
     (ap (λ i. i + 4) pc ∙ behind_known known x.place a) (standing_tail x w a (StoreAt width g n r) rest st)
     (within_store x l h u (u.pc + 4) width g n (l (Register r)) v there (word_of_register x l h s r st.fine.0 inside) wu))))

@@ -14,7 +14,7 @@ use Rattle.cc_emit.specs.Contract.{IsKept, IsSound, Shares, element_place, store
 use Rattle.cc_emit.specs.Frames.{Frame, frame_size}
 use Rattle.cc_emit.specs.declared.scratch.Scratch.{Scratch}
 use Rattle.cc_emit.specs.Scratch.{nothing, without, without_address}
-use Rattle.cc_emit.proofs.Holding.{Holds, holds_nothing, holds_set, holds_address_set}
+use Rattle.cc_emit.proofs.Holding.{Holds, IsPointer, holds_nothing, holds_set, holds_address_set}
 use Rattle.cc_emit.proofs.Fine.{IsSavable, IsTarget, Member}
 use Rattle.cc_emit.proofs.Basics.{set_same, set_other, set_word, word_same, word_other, word_word, put_register, put_slot, rest_words, same_rest}
 use Rattle.cc_emit.proofs.Standing.{Site}
@@ -37,25 +37,27 @@ pub record Within (x : Site) (held : Scratch) (l : Locations) (h : World) (s : S
   pub slots : (i : ℕ) → i < x.frame.slots → l (Slot i) ≡ s.memory (s.registers 2 + 4 * i)
   pub shares : Shares x.layout s h
   pub stack : s.registers 2 + frame_size x.frame ≡ x.from.registers 2
+  pub pointer : IsPointer x.frame.sets_pointer (x.from.registers 3) (s.registers 3)
   pub saved : SavedAt x.frame.saved (s.registers 2 + 4 * x.frame.slots) x.from.registers s.memory
   pub kept : (r : ℕ) → IsSavable r → Member r x.frame.saved ⊎ (s.registers r ≡ x.from.registers r)
   pub above : (a : ℕ) → x.from.registers 2 ≤ a → s.memory a ≡ x.from.memory a
 
-scratch_other : (r d : ℕ) → 3 ≤ d → d < 7 → IsSavable r → r ≡ d → ⊥
+scratch_other : (r d : ℕ) → 4 ≤ d → d < 7 → IsSavable r → r ≡ d → ⊥
 scratch_other r d lo hi (inl k) e = omega arith
 scratch_other r d lo hi (inr (inl k)) e = omega arith
 scratch_other r d lo hi (inr (inr k)) e = omega arith
 
--- the registers are others, x2 is not
-pub with_registers : (x : Site) {held : Scratch} (new : Scratch) (l k : Locations) (h : World) (s : State) (p : ℕ) (g : ℕ → ℕ) → g 0 ≡ 0 → ((r : ℕ) → g r < 2 ^ 32) → g 2 ≡ s.registers 2
+-- the registers are others, x2 and x3 are not
+pub with_registers : (x : Site) {held : Scratch} (new : Scratch) (l k : Locations) (h : World) (s : State) (p : ℕ) (g : ℕ → ℕ) → g 0 ≡ 0 → ((r : ℕ) → g r < 2 ^ 32) → g 2 ≡ s.registers 2 → g 3 ≡ s.registers 3
     → ((r : ℕ) → IsAllocatable r → k (Register r) ≡ g r) → ((i : ℕ) → k (Slot i) ≡ l (Slot i)) → ((r : ℕ) → IsSavable r → Member r x.frame.saved ⊎ (g r ≡ x.from.registers r)) → Holds new g → Within x held l h s → Within x new k h (record s { pc = p; registers = g })
-with_registers x new l k h s p g at_0 words at_2 same slots kept holds w = record {
+with_registers x new l k h s p g at_0 words at_2 at_3 same slots kept holds w = record {
   holds = holds;
   sound = record { zero = at_0; registers = words; memory = w.sound.memory; input = w.sound.input };
   same = same;
   slots = λ i lt. slots i ∙ w.slots i lt ∙ ap (λ n. s.memory (n + 4 * i)) (sym at_2);
   shares = record { sizes = w.shares.sizes; globals = w.shares.globals; input = w.shares.input; output = w.shares.output };
   stack = ap (λ n. n + frame_size x.frame) at_2 ∙ w.stack;
+  pointer = subst (IsPointer x.frame.sets_pointer (x.from.registers 3)) (sym at_3) w.pointer;
   saved = subst (λ n. SavedAt x.frame.saved (n + 4 * x.frame.slots) x.from.registers s.memory) (sym at_2) w.saved;
   kept = kept;
   above = w.above;
@@ -73,7 +75,7 @@ kept_set x s d v r u k (inr e) = elim (eqb_tells r d) [ inl t ↦ inl (subst (λ
 pub within_set : (x : Site) {held : Scratch} (l : Locations) (h : World) (s : State) (p d v : ℕ) → IsTarget x.frame d → v < 2 ^ 32 → Within x held l h s → Within x (without d held) (put (Register d) v l) h (record s { pc = p; registers = with_register s.registers d v })
 within_set x l h s p d v u b w =
     let a = u.0.0 in
-    with_registers x (without d _) l (put (Register d) v l) h s p (with_register s.registers d v) (set_other s.registers d v 0 (λ e. omega arith) ∙ w.sound.zero) (set_word s.registers d v b w.sound.registers) (set_other s.registers d v 2 (λ e. omega arith))
+    with_registers x (without d _) l (put (Register d) v l) h s p (with_register s.registers d v) (set_other s.registers d v 0 (λ e. omega arith) ∙ w.sound.zero) (set_word s.registers d v b w.sound.registers) (set_other s.registers d v 2 (λ e. omega arith)) (set_other s.registers d v 3 (λ e. omega arith))
     (λ r ur. put_register l d v r (with_register s.registers d v r) (λ e. sym (ap (with_register s.registers d v) (sym e) ∙ set_same s.registers d v (omega arith))) (λ e. w.same r ur ∙ sym (set_other s.registers d v r (λ q. e (sym q)))))
     (λ i. refl)
     (λ r k. kept_set x s d v r u k (w.kept r k)) (holds_set _ s.registers d v u.0 w.holds) w
@@ -83,9 +85,9 @@ kept_scratch x s d v r n (inl m) = inl m
 kept_scratch x s d v r n (inr e) = inr (set_other s.registers d v r n ∙ e)
 
 -- one that it does not have is set, and something else is known of the scratch registers
-pub within_scratch : (x : Site) {held : Scratch} (new : Scratch) (l : Locations) (h : World) (s : State) (p d v : ℕ) → 3 ≤ d → d < 7 → v < 2 ^ 32 → Holds new (with_register s.registers d v) → Within x held l h s → Within x new l h (record s { pc = p; registers = with_register s.registers d v })
+pub within_scratch : (x : Site) {held : Scratch} (new : Scratch) (l : Locations) (h : World) (s : State) (p d v : ℕ) → 4 ≤ d → d < 7 → v < 2 ^ 32 → Holds new (with_register s.registers d v) → Within x held l h s → Within x new l h (record s { pc = p; registers = with_register s.registers d v })
 within_scratch x new l h s p d v from to b holds w =
-    with_registers x new l l h s p (with_register s.registers d v) (set_other s.registers d v 0 (λ e. omega arith) ∙ w.sound.zero) (set_word s.registers d v b w.sound.registers) (set_other s.registers d v 2 (λ e. omega arith))
+    with_registers x new l l h s p (with_register s.registers d v) (set_other s.registers d v 0 (λ e. omega arith) ∙ w.sound.zero) (set_word s.registers d v b w.sound.registers) (set_other s.registers d v 2 (λ e. omega arith)) (set_other s.registers d v 3 (λ e. omega arith))
     (λ r ur. let lo = ur.0 in w.same r ur ∙ sym (set_other s.registers d v r (λ e. omega arith)))
     (λ i. refl)
     (λ r k. kept_scratch x s d v r (scratch_other r d from to k) (w.kept r k)) holds w
@@ -103,6 +105,7 @@ within_as x new l h s holds w = record {
   slots = w.slots;
   shares = w.shares;
   stack = w.stack;
+  pointer = w.pointer;
   saved = w.saved;
   kept = w.kept;
   above = w.above;
@@ -120,6 +123,7 @@ within_pc x l h s p w = record {
   slots = w.slots;
   shares = record { sizes = w.shares.sizes; globals = w.shares.globals; input = w.shares.input; output = w.shares.output };
   stack = w.stack;
+  pointer = w.pointer;
   saved = w.saved;
   kept = w.kept;
   above = w.above;
@@ -142,6 +146,7 @@ within_slot x l h s p i v lt b w =
       slots = λ j lj. put_slot l i v j (with_word s.memory at v (s.registers 2 + 4 * j)) (λ e. sym (ap (λ n. with_word s.memory at v (s.registers 2 + 4 * n)) (sym e) ∙ word_same s.memory at v)) (λ e. w.slots j lj ∙ sym (word_other s.memory at v (s.registers 2 + 4 * j) (λ q. e (omega arith))));
       shares = record { sizes = w.shares.sizes; globals = λ g j lj. elements_stay x s.memory (with_word s.memory at v) g j lj (λ c lt. word_other s.memory at v c (λ q. omega arith)) ∙ w.shares.globals g j lj; input = w.shares.input; output = w.shares.output };
       stack = w.stack;
+      pointer = w.pointer;
       saved = saved_moved x.frame.saved _ x.from.registers s.memory (with_word s.memory at v) (λ c lo hi. word_other s.memory at v c (λ q. omega arith)) w.saved;
       kept = w.kept;
       above = λ c le. word_other s.memory at v c (λ q. omega arith) ∙ w.above c le;
@@ -163,6 +168,7 @@ within_store x l h s p width g i v old is b w =
       slots = λ j lj. w.slots j lj ∙ sym (words_behind width s.memory at v (s.registers 2 + 4 * j) (omega arith));
       shares = record { sizes = stored_sizes h g i (kept width v) ∙ w.shares.sizes; globals = λ k j lj. stored_element x h s width g i v old w.shares is k j lj; input = w.shares.input; output = w.shares.output };
       stack = w.stack;
+      pointer = w.pointer;
       saved = saved_moved x.frame.saved _ x.from.registers s.memory new (λ c lo hi. words_behind width s.memory at v c (omega arith)) w.saved;
       kept = w.kept;
       above = λ c le. words_behind width s.memory at v c (omega arith) ∙ w.above c le;
@@ -177,6 +183,7 @@ within_read x l h s w = record {
   slots = w.slots;
   shares = record { sizes = w.shares.sizes; globals = w.shares.globals; input = same_rest s.input ∙ ap rest_of w.shares.input; output = w.shares.output };
   stack = w.stack;
+  pointer = w.pointer;
   saved = w.saved;
   kept = w.kept;
   above = w.above;
@@ -191,6 +198,7 @@ within_write x l h s v w = record {
   slots = w.slots;
   shares = record { sizes = w.shares.sizes; globals = w.shares.globals; input = w.shares.input; output = ap (λ o. o ++ (v ∷ [])) w.shares.output };
   stack = w.stack;
+  pointer = w.pointer;
   saved = w.saved;
   kept = w.kept;
   above = w.above;

@@ -115,6 +115,15 @@ pub record Enters (meaning : Meaning) (layout : Layout meaning.objects) (f opene
   pub passes : Passes ws 10 s
   pub shares : Shares layout s h
 
+-- the global pointer, which is the word in x3 where a function sets it: 2 KiB behind the beginning of the globals, so that an access reaches the
+-- first 4 KiB of them from there
+abbrev pub global_pointer : ℕ
+global_pointer = globals_from + 2048
+
+-- what x3 holds behind a call: what it held before, or that word; so what set it to that word has it still
+abbrev pub IsKeptOrPointer : (before after : ℕ) → Type 0
+IsKeptOrPointer before after = (after ≡ before) ⊎ (after ≡ global_pointer)
+
 -- the machine behind the return
 pub record ComesBack {objects : List Size} (layout : Layout objects) (s : State) (a : Answer) (t : State) : Type 0 where
   pub at : t.pc ≡ s.registers 1
@@ -122,6 +131,7 @@ pub record ComesBack {objects : List Size} (layout : Layout objects) (s : State)
   pub value : t.registers 10 ≡ a.value
   pub shares : Shares layout t a.world
   pub stack : t.registers 2 ≡ s.registers 2
+  pub pointer : IsKeptOrPointer (s.registers 3) (t.registers 3)
   pub kept : (r : ℕ) → IsKept r → t.registers r ≡ s.registers r
   pub above : (a : ℕ) → s.registers 2 ≤ a → t.memory a ≡ s.memory a
 
@@ -164,8 +174,8 @@ abbrev pub AreFit : (functions long : ℕ) → List Item → Type 0
 AreFit functions long [] = Unit {0}
 AreFit functions long (i ∷ is) = IsFit functions long i × AreFit functions long is
 
--- The items of a function's code do what it does. A pair of the layers above keeps `follows`, which is its promise, and `keeps_up`, which only
--- serves to go on from there; a piece keeps what serves to go on alone, and the promise is that of the linked image.
+-- The items of a function's code do what it does. A pair of Linear and those above it keep `follows`, which is their promise, and `keeps_up`,
+-- which only serves to go on from there; a selected pair and a piece keep what serves to go on alone, and the promise is that of the linked image.
 pub record IsPiece (meaning : Meaning) (layout : Layout meaning.objects) (f : ℕ) (items : List Item) : Type 0 where
   pub rate : ℕ
   pub meets : PieceMeets meaning layout f rate items

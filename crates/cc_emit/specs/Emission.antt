@@ -25,7 +25,7 @@ use Rattle.cc_select.specs.declared.step.Step.{Step}
 use Rattle.cc_select.specs.declared.step.Step.TheVariants.{One, Immediate, LoadAt, StoreAt, Branch, BranchImmediate}
 use Rattle.cc_emit.specs.declared.addressed.Addressed.{Addressed}
 use Rattle.cc_emit.specs.declared.addressed.Remembered.{Remembered}
-use Rattle.cc_emit.specs.declared.addressed.Remembered.TheVariants.{Nothing, Upper, Element}
+use Rattle.cc_emit.specs.declared.addressed.Remembered.TheVariants.{Nothing, Upper, Element, ByPointer, ElementByPointer}
 use Rattle.cc_emit.specs.declared.condition.Condition.{Condition}
 use Rattle.cc_emit.specs.declared.item.Item.{Item}
 use Rattle.cc_emit.specs.declared.item.Item.TheVariants as item
@@ -34,7 +34,7 @@ use Rattle.cc_emit.specs.declared.recipe.Recipe.{Recipe}
 use Rattle.cc_emit.specs.declared.recipe.Recipe.TheVariants.{Direct, ZeroOf, ZeroOfExchanged, NonzeroOf}
 use Rattle.cc_emit.specs.declared.recipe.WordRecipe.{WordRecipe}
 use Rattle.cc_emit.specs.declared.recipe.WordRecipe.TheVariants.{WithImmediate, ShiftBy, OnZero, ZeroOfImmediate, NonzeroOfImmediate}
-use Rattle.cc_emit.specs.Contract.{load_of, store_of, element_place}
+use Rattle.cc_emit.specs.Contract.{global_pointer, load_of, store_of, element_place}
 use Rattle.cc_emit.specs.Frames.{Frame, frame_size}
 use Rattle.cc_emit.specs.Branches.{compares, opposite, turned, comparison, against_zero, asked_of}
 
@@ -79,8 +79,12 @@ abbrev pub restoring : (offset : ℕ) → List ℕ → List Item
 restoring offset [] = []
 restoring offset (r ∷ rs) = load_word r 2 offset ∷ restoring (offset + 4) rs
 
+-- x3 becomes the global pointer, where the function sets it
+abbrev pub pointer_items : Frame → List Item
+pointer_items f = if f.sets_pointer then Plain (instr.Lui 3 (high global_pointer)) ∷ addi 3 3 (low global_pointer) ∷ [] else []
+
 abbrev pub prologue : Frame → List Item
-prologue f = stack_moved f (2 ^ 32 - frame_size f) ++ saving (4 * f.slots) f.saved
+prologue f = pointer_items f ++ (stack_moved f (2 ^ 32 - frame_size f) ++ saving (4 * f.slots) f.saved)
 
 abbrev pub epilogue : Frame → List Item
 epilogue f = restoring (4 * f.slots) f.saved ++ (stack_moved f (frame_size f) ++ Plain (instr.Jalr 0 1 0) ∷ [])
@@ -135,19 +139,35 @@ recipe_items (ZeroOf o) to a b = Plain (instr.Op o 5 a b) ∷ Plain (instr.OpImm
 recipe_items (ZeroOfExchanged o) to a b = Plain (instr.Op o 5 b a) ∷ Plain (instr.OpImm Sltiu to 5 1) ∷ []
 recipe_items (NonzeroOf o) to a b = Plain (instr.Op o 5 a b) ∷ Plain (instr.Op operation.Sltu to 0 5) ∷ []
 
--- x6 becomes the upper part of an address, where it is not
+-- x6 becomes the upper part of an address, where it is needed and not there
 abbrev pub upper_items : Remembered → (address : ℕ) → List Item
 upper_items Nothing address = Plain (instr.Lui 6 (high address)) ∷ []
 upper_items known address = []
 
--- before the access to an element: x5 becomes its address, less the lower part of its object's address, from how many bytes it lies behind
--- the first one
+-- the register from which an address is reached: x3, or x6 with the address's upper part; where x5 holds the element's address, by an upper part or
+-- by x3, the answer is 6, and is never used
+abbrev pub base_register : Remembered → ℕ
+base_register ByPointer = 3
+base_register known = 6
+
+-- how far from x3 an address lies, within the first 4 KiB of the globals
+abbrev pub from_pointer : (address : ℕ) → ℕ
+from_pointer a = low (add a (2 ^ 32 - global_pointer))
+
+-- the access's offset, from that register or from what x5 holds of an element's address: an object's part of it
+abbrev pub part_of : Remembered → (address : ℕ) → ℕ
+part_of ByPointer a = from_pointer a
+part_of ElementByPointer a = from_pointer a
+part_of known a = low a
+
+-- before the access to an element: x5 becomes its address, less the object's part of it, from how many bytes it lies behind the first one
 abbrev pub based : Remembered → (base distance : ℕ) → List Item → List Item
-based known base distance items = upper_items known base ++ Plain (instr.Op operation.Add 5 distance 6) ∷ items
+based known base distance items = upper_items known base ++ Plain (instr.Op operation.Add 5 distance (base_register known)) ∷ items
 
 -- from its number, where it is not that address
 abbrev pub indexed : Remembered → Width → (base index : ℕ) → List Item → List Item
 indexed Element width base index items = items
+indexed ElementByPointer width base index items = items
 indexed known Byte base index items = based known base index items
 indexed known Word base index items = Plain (instr.Shift Slli 5 index 2) ∷ based known base 5 items
 
@@ -176,8 +196,8 @@ items_of_one base f near labels place known (Copy m) = move_item m ∷ []
 items_of_one base f near labels place known (Const to word) = const_items to word
 items_of_one base f near labels place known (Unary operator to from) = Plain (unary_instr operator to from) ∷ []
 items_of_one base f near labels place known (Binary operator to left right) = recipe_items (recipe operator) to left right
-items_of_one base f near labels place known (Load width object to index) = indexed known width (base object) index (load_element width to 5 (low (base object)) ∷ [])
-items_of_one base f near labels place known (Store width object index from) = indexed known width (base object) index (store_element width 5 from (low (base object)) ∷ [])
+items_of_one base f near labels place known (Load width object to index) = indexed known width (base object) index (load_element width to 5 (part_of known (base object)) ∷ [])
+items_of_one base f near labels place known (Store width object index from) = indexed known width (base object) index (store_element width 5 from (part_of known (base object)) ∷ [])
 items_of_one base f near labels place known (Call function) = item.Call function ∷ []
 items_of_one base f near labels place known Read = service 2
 items_of_one base f near labels place known Write = service 1
@@ -236,10 +256,10 @@ abbrev pub known_place : Width → (base number : ℕ) → ℕ
 known_place width base number = element_place width base number % 2 ^ 32
 
 abbrev pub load_at : Remembered → Width → (to address : ℕ) → List Item
-load_at known width to address = upper_items known address ++ load_element width to 6 (low address) ∷ []
+load_at known width to address = upper_items known address ++ load_element width to (base_register known) (part_of known address) ∷ []
 
 abbrev pub store_at : Remembered → Width → (from address : ℕ) → List Item
-store_at known width from address = upper_items known address ++ store_element width 6 from (low address) ∷ []
+store_at known width from address = upper_items known address ++ store_element width (base_register known) from (part_of known address) ∷ []
 
 -- the items of a step at a place, of whose address so much is known
 abbrev pub items_of_step : (base : ℕ → ℕ) → Frame → (near : ℕ → Bool) → (labels : ℕ → ℕ) → (place : ℕ) → Remembered → Step → List Item
@@ -259,9 +279,13 @@ items_of base f near labels place s = items_of_step base f near labels place s.k
 abbrev pub stack_moved_size : Frame → ℕ
 stack_moved_size f = if frame_size f == 0 then 0 else 1
 
+-- those that set x3
+abbrev pub pointer_size : (sets_pointer : Bool) → ℕ
+pointer_size sets_pointer = if sets_pointer then 2 else 0
+
 -- the prologue's
 abbrev pub prologue_size : Frame → ℕ
-prologue_size f = stack_moved_size f + length f.saved
+prologue_size f = pointer_size f.sets_pointer + (stack_moved_size f + length f.saved)
 
 abbrev pub const_size : (word : ℕ) → ℕ
 const_size w = if high w == 0 then 1 else if low w == 0 then 1 else 2
@@ -282,6 +306,9 @@ access_size Nothing Word = 4
 access_size Upper Byte = 2
 access_size Upper Word = 3
 access_size Element width = 1
+access_size ByPointer Byte = 2
+access_size ByPointer Word = 3
+access_size ElementByPointer width = 1
 
 -- whose number is known
 abbrev pub known_access_size : Remembered → ℕ

@@ -7,8 +7,9 @@ use Rattle.cc_linear.specs.declared.item.Item.TheVariants.{Copy, Const, Unary, B
 use Rattle.cc_select.specs.declared.step.Step.{Step}
 use Rattle.cc_select.specs.declared.step.Step.TheVariants.{One, Immediate, LoadAt}
 
--- slot i lies at x2 + 4 * i, and behind the slots the saved registers in this order
+-- slot i lies at x2 + 4 * i, and behind the slots the saved registers in this order; `sets_pointer` where the function sets x3
 pub record Frame : Type 0 where
+  pub sets_pointer : Bool
   pub slots : ℕ
   pub saved : List ℕ
 
@@ -57,5 +58,5 @@ calls (step ∷ steps) = is_call step || calls steps
 abbrev pub saved_by : List Step → List ℕ
 saved_by steps = if calls steps then 1 ∷ written steps kept_registers else written steps kept_registers
 
-abbrev pub frame_of : (slots : ℕ) → List Step → Frame
-frame_of slots steps = record { slots = slots; saved = saved_by steps }
+abbrev pub frame_of : (sets_pointer : Bool) → (slots : ℕ) → List Step → Frame
+frame_of sets_pointer slots steps = record { sets_pointer = sets_pointer; slots = slots; saved = saved_by steps }

@@ -8,7 +8,7 @@ pub mod Frames
 pub mod Branches
 -- the items of each step
 pub mod Emission
--- what the scratch registers hold, and which steps take their address from them
+-- what x3 and the scratch registers hold of addresses, which steps take theirs from there, and whether a function sets x3
 pub mod Scratch
 -- the items of a function's code
 pub mod Function

@@ -1,8 +1,11 @@
 -- What x5 and x6 hold between the steps of a straight piece, and how much of an element's address is so there already. An access leaves in x6 the
--- upper part of an address, and in x5 the address of the element, less the lower part of its object's. So the next access to an object near by
--- needs no upper part, and one to elements of the same number, in any object whose address has that upper part, is one instruction.
+-- upper part of an address, and in x5 the address of the element, less the lower part of its object's address, or less the object's distance from
+-- x3. So the next access to an object near by needs no upper part, and one to elements of the same number, in any object that is reached the same
+-- way, is one instruction.
+-- A function sets x3 to the global pointer where its accesses take fewer instructions so, those that set it counted: from there an access reaches
+-- the first 4 KiB of the globals.
 -- Which accesses are so is told of each step: its size follows from that alone.
-use Rattle.std.specs.Prelude.{ℕ, ◌*◌, ◌%◌, ◌/◌, ◌+◌, ◌^◌, Bool, true, false, ◌&&◌, ◌==◌, if◌then◌else◌, Option, Some, None, List, [], ◌∷◌}
+use Rattle.std.specs.Prelude.{ℕ, ◌*◌, ◌+◌, ◌^◌, Bool, true, false, ◌&&◌, ◌==◌, nat_le, nat_lt, if◌then◌else◌, Option, Some, None, List, [], ◌∷◌}
 use Rattle.cc_words.specs.declared.operators.Width.{Width}
 use Rattle.cc_words.specs.Widths.{same_width}
 use Rattle.cc_ltl.specs.declared.operation.Move.{Move}
@@ -11,6 +14,7 @@ use Rattle.cc_linear.specs.declared.item.Item as linear
 use Rattle.cc_linear.specs.declared.item.Item.TheVariants.{Label, Jump, IfNonzero, IfZero, Copy, Const, Unary, Binary, Load, Store, Call, Read, Write, Return}
 use Rattle.cc_select.specs.declared.step.Step.{Step}
 use Rattle.cc_select.specs.declared.step.Step.TheVariants.{One, Immediate, LoadAt, StoreAt, Branch, BranchImmediate}
+use Rattle.cc_rv32.specs.Machine.{globals_from}
 use Rattle.cc_emit.specs.declared.condition.Condition.{Condition}
 use Rattle.cc_emit.specs.declared.recipe.Recipe.{Recipe}
 use Rattle.cc_emit.specs.declared.recipe.Recipe.TheVariants.{Direct}
@@ -18,11 +22,12 @@ use Rattle.cc_emit.specs.declared.recipe.WordRecipe.{WordRecipe}
 use Rattle.cc_emit.specs.declared.recipe.WordRecipe.TheVariants.{WithImmediate, ShiftBy, OnZero}
 use Rattle.cc_emit.specs.declared.addressed.Addressed.{Addressed}
 use Rattle.cc_emit.specs.declared.addressed.Remembered.{Remembered}
-use Rattle.cc_emit.specs.declared.addressed.Remembered.TheVariants.{Nothing, Upper, Element}
+use Rattle.cc_emit.specs.declared.addressed.Remembered.TheVariants.{Nothing, Upper, Element, ByPointer, ElementByPointer}
 use Rattle.cc_emit.specs.declared.scratch.ElementAddress.{ElementAddress}
 use Rattle.cc_emit.specs.declared.scratch.Scratch.{Scratch}
 use Rattle.cc_emit.specs.Branches.{against_zero}
-use Rattle.cc_emit.specs.Emission.{high, low, known_place, recipe, word_recipe}
+use Rattle.cc_emit.specs.Contract.{global_pointer}
+use Rattle.cc_emit.specs.Emission.{access_size, high, known_access_size, known_place, low, pointer_size, recipe, word_recipe}
 
 -- ---- what the registers hold
 
@@ -30,9 +35,10 @@ use Rattle.cc_emit.specs.Emission.{high, low, known_place, recipe, word_recipe}
 abbrev pub nothing : Scratch
 nothing = record { upper = None; address = None }
 
--- x6 the upper part, times 2^12; x5 the sum of that and of what the element's number takes in bytes
-abbrev pub address_of : Width → (index upper : ℕ) → ElementAddress
-address_of width index upper = record { width = width; index = index; upper = upper }
+-- x5 is the sum of a word, which is the upper part of the object's address times 2^12, or the global pointer, and of what the element's number takes
+-- in bytes
+abbrev pub address_of : Width → (index sum_base : ℕ) → ElementAddress
+address_of width index sum_base = record { width = width; index = index; sum_base = sum_base }
 
 -- ---- how much of an address is there
 
@@ -40,28 +46,34 @@ abbrev pub is_upper : Option ℕ → (upper : ℕ) → Bool
 is_upper None upper = false
 is_upper (Some held) upper = held == upper
 
-abbrev pub is_address : Option ElementAddress → Width → (index upper : ℕ) → Bool
-is_address None width index upper = false
-is_address (Some a) width index upper = same_width a.width width && ((a.index == index) && (a.upper == upper))
+abbrev pub is_address : Option ElementAddress → Width → (index sum_base : ℕ) → Bool
+is_address None width index sum_base = false
+is_address (Some a) width index sum_base = same_width a.width width && ((a.index == index) && (a.sum_base == sum_base))
 
--- of the address of an element whose number is in a register
-abbrev pub known_of : Scratch → Width → (base index : ℕ) → Remembered
-known_of k width base index =
-    if is_address k.address width index (high base) then Element
+-- an address within the first 4 KiB of the globals, which x3 reaches
+abbrev pub is_in_reach : (address : ℕ) → Bool
+is_in_reach a = nat_le globals_from a && nat_lt a (globals_from + 4096)
+
+-- of the address of an element whose number is in a register; `sets_pointer` says whether x3 is the global pointer. An address that x5 holds needs
+-- no instruction, so it comes first
+abbrev pub known_of : (sets_pointer : Bool) → Scratch → Width → (base index : ℕ) → Remembered
+known_of sets_pointer k width base index =
+    if is_address k.address width index (high base * 2 ^ 12) then Element
+    else if sets_pointer && is_in_reach base then (if is_address k.address width index global_pointer then ElementByPointer else ByPointer)
     else if is_upper k.upper (high base) then Upper
     else Nothing
 
 -- of an address
-abbrev pub known_at : Scratch → (address : ℕ) → Remembered
-known_at k address = if is_upper k.upper (high address) then Upper else Nothing
+abbrev pub known_at : (sets_pointer : Bool) → Scratch → (address : ℕ) → Remembered
+known_at sets_pointer k address = if sets_pointer && is_in_reach address then ByPointer else if is_upper k.upper (high address) then Upper else Nothing
 
 -- of what a step reads or writes, where it does
-abbrev pub remembered : (base : ℕ → ℕ) → Scratch → Step → Remembered
-remembered base k (One (Load width object to index)) = known_of k width (base object) index
-remembered base k (One (Store width object index from)) = known_of k width (base object) index
-remembered base k (LoadAt width object to number) = known_at k (known_place width (base object) number)
-remembered base k (StoreAt width object number from) = known_at k (known_place width (base object) number)
-remembered base k step = Nothing
+abbrev pub remembered : (base : ℕ → ℕ) → (sets_pointer : Bool) → Scratch → Step → Remembered
+remembered base sets_pointer k (One (Load width object to index)) = known_of sets_pointer k width (base object) index
+remembered base sets_pointer k (One (Store width object index from)) = known_of sets_pointer k width (base object) index
+remembered base sets_pointer k (LoadAt width object to number) = known_at sets_pointer k (known_place width (base object) number)
+remembered base sets_pointer k (StoreAt width object number from) = known_at sets_pointer k (known_place width (base object) number)
+remembered base sets_pointer k step = Nothing
 
 -- ---- what the registers hold behind a step
 
@@ -101,48 +113,75 @@ abbrev pub behind_word_branch : (alone : Option Condition) → Scratch → Scrat
 behind_word_branch (Some c) k = k
 behind_word_branch None k = without_address k
 
--- an access to an element whose number is in a register; where its address was there, x6 stays as it is
-abbrev pub upper_behind : Remembered → Scratch → (base : ℕ) → Option ℕ
-upper_behind Element k base = k.upper
-upper_behind known k base = Some (high base)
+-- x6 behind an access: as it was, where the access did not need it
+abbrev pub upper_behind : Remembered → Option ℕ → (address : ℕ) → Option ℕ
+upper_behind Nothing upper a = Some (high a)
+upper_behind Upper upper a = Some (high a)
+upper_behind known upper a = upper
 
+-- what is in the sum that x5 is, besides the element's number in bytes
+abbrev pub sum_base : Remembered → (base : ℕ) → ℕ
+sum_base ByPointer base = global_pointer
+sum_base ElementByPointer base = global_pointer
+sum_base known base = high base * 2 ^ 12
+
+-- an access to an element whose number is in a register
 abbrev pub behind_element : Remembered → Scratch → Width → (base index : ℕ) → Scratch
-behind_element known k width base index = record { upper = upper_behind known k base; address = Some (address_of width index (high base)) }
+behind_element known k width base index = record { upper = upper_behind known k.upper base; address = Some (address_of width index (sum_base known base)) }
 
 -- an access to an address
-abbrev pub behind_at : Scratch → (address : ℕ) → Scratch
-behind_at k address = record { upper = Some (high address); address = k.address }
+abbrev pub behind_at : Remembered → Scratch → (address : ℕ) → Scratch
+behind_at known k address = record { upper = upper_behind known k.upper address; address = k.address }
 
 -- an item of Linear: a jump may lead to a label, and a call destroys both registers
-abbrev pub behind_one : (base : ℕ → ℕ) → linear.Item → Scratch → Scratch
-behind_one base (Label label) k = nothing
-behind_one base (Jump to) k = nothing
-behind_one base (IfNonzero from to) k = k
-behind_one base (IfZero from to) k = k
-behind_one base (Copy m) k = behind_move m k
-behind_one base (Const to word) k = behind_const to word k
-behind_one base (Unary operator to from) k = without to k
-behind_one base (Binary operator to left right) k = behind_recipe (recipe operator) to k
-behind_one base (Load width object to index) k = without to (behind_element (known_of k width (base object) index) k width (base object) index)
-behind_one base (Store width object index from) k = behind_element (known_of k width (base object) index) k width (base object) index
-behind_one base (Call function) k = nothing
-behind_one base Read k = without 10 (without 17 k)
-behind_one base Write k = without 17 k
-behind_one base Return k = nothing
+abbrev pub behind_one : (base : ℕ → ℕ) → (sets_pointer : Bool) → linear.Item → Scratch → Scratch
+behind_one base sets_pointer (Label label) k = nothing
+behind_one base sets_pointer (Jump to) k = nothing
+behind_one base sets_pointer (IfNonzero from to) k = k
+behind_one base sets_pointer (IfZero from to) k = k
+behind_one base sets_pointer (Copy m) k = behind_move m k
+behind_one base sets_pointer (Const to word) k = behind_const to word k
+behind_one base sets_pointer (Unary operator to from) k = without to k
+behind_one base sets_pointer (Binary operator to left right) k = behind_recipe (recipe operator) to k
+behind_one base sets_pointer (Load width object to index) k = without to (behind_element (known_of sets_pointer k width (base object) index) k width (base object) index)
+behind_one base sets_pointer (Store width object index from) k = behind_element (known_of sets_pointer k width (base object) index) k width (base object) index
+behind_one base sets_pointer (Call function) k = nothing
+behind_one base sets_pointer Read k = without 10 (without 17 k)
+behind_one base sets_pointer Write k = without 17 k
+behind_one base sets_pointer Return k = nothing
 
-abbrev pub behind_step : (base : ℕ → ℕ) → Step → Scratch → Scratch
-behind_step base (One item) k = behind_one base item k
-behind_step base (Immediate operator to from word) k = behind_word_recipe (word_recipe operator word) to k
-behind_step base (LoadAt width object to number) k = without to (behind_at k (known_place width (base object) number))
-behind_step base (StoreAt width object number from) k = behind_at k (known_place width (base object) number)
-behind_step base (Branch operator nonzero left right to) k = k
-behind_step base (BranchImmediate operator nonzero from word to) k = behind_word_branch (against_zero (word_recipe operator word) from) k
+abbrev pub behind_step : (base : ℕ → ℕ) → (sets_pointer : Bool) → Step → Scratch → Scratch
+behind_step base sets_pointer (One item) k = behind_one base sets_pointer item k
+behind_step base sets_pointer (Immediate operator to from word) k = behind_word_recipe (word_recipe operator word) to k
+behind_step base sets_pointer (LoadAt width object to number) k =
+    without to (behind_at (known_at sets_pointer k (known_place width (base object) number)) k (known_place width (base object) number))
+behind_step base sets_pointer (StoreAt width object number from) k = behind_at (known_at sets_pointer k (known_place width (base object) number)) k (known_place width (base object) number)
+behind_step base sets_pointer (Branch operator nonzero left right to) k = k
+behind_step base sets_pointer (BranchImmediate operator nonzero from word to) k = behind_word_branch (against_zero (word_recipe operator word) from) k
 
 -- ---- the steps, each with how much of its address is there
 
-abbrev pub with_known : (base : ℕ → ℕ) → Scratch → Step → Addressed
-with_known base k step = record { step = step; known = remembered base k step }
+abbrev pub with_known : (base : ℕ → ℕ) → (sets_pointer : Bool) → Scratch → Step → Addressed
+with_known base sets_pointer k step = record { step = step; known = remembered base sets_pointer k step }
 
-abbrev pub addressed : (base : ℕ → ℕ) → Scratch → List Step → List Addressed
-addressed base k [] = []
-addressed base k (step ∷ steps) = with_known base k step ∷ addressed base (behind_step base step k) steps
+abbrev pub addressed : (base : ℕ → ℕ) → (sets_pointer : Bool) → Scratch → List Step → List Addressed
+addressed base sets_pointer k [] = []
+addressed base sets_pointer k (step ∷ steps) = with_known base sets_pointer k step ∷ addressed base sets_pointer (behind_step base sets_pointer step k) steps
+
+-- ---- whether a function gains by x3
+
+-- how many instructions the access of a step takes, where it has one
+abbrev pub step_access_size : Remembered → Step → ℕ
+step_access_size known (One (Load width object to index)) = access_size known width
+step_access_size known (One (Store width object index from)) = access_size known width
+step_access_size known (LoadAt width object to number) = known_access_size known
+step_access_size known (StoreAt width object number from) = known_access_size known
+step_access_size known step = 0
+
+abbrev pub accesses_size : List Addressed → ℕ
+accesses_size [] = 0
+accesses_size (s ∷ steps) = step_access_size s.known s.step + accesses_size steps
+
+-- the accesses take fewer instructions with x3, those that set it counted; so the function is shorter, but for branches that are near or far by it
+abbrev pub gains : (base : ℕ → ℕ) → List Step → Bool
+gains base steps = nat_lt (pointer_size true + accesses_size (addressed base true nothing steps)) (accesses_size (addressed base false nothing steps))

@@ -5,9 +5,10 @@ ghost use Rattle.std.specs.List.{AllByRecursion};
 ghost use Rattle.cc_ltl.specs.Registers.{most_slots};
 ghost use Rattle.cc_select.specs.declared.step.Step.TheVariants.{One};
 ghost use Rattle.cc_select.specs.Selected.{labels, IsStep};
+ghost use Rattle.cc_rv32.specs.Fields.{IsImmediate};
 ghost use Rattle.cc_rv32.specs.declared.instr.Instr.TheVariants.{Load, Store};
 ghost use Rattle.cc_emit.specs.Contract.{load_of, store_of};
-ghost use Rattle.cc_emit.specs.Emission.{low, items_of_one, items_of_step, move_item, upper_items, based, indexed, known_place, load_at, store_at, service, prologue, framed_items};
+ghost use Rattle.cc_emit.specs.Emission.{low, items_of_one, items_of_step, move_item, upper_items, base_register, part_of, based, indexed, known_place, load_at, store_at, service, prologue, framed_items};
 ghost use Rattle.cc_emit.specs.Function.{function_items};
 ghost use Rattle.cc_emit.specs.declared.item.Item.TheVariants.{Plain};
 ghost use Rattle.cc_emit.specs.internal.Bases.{base_in};
@@ -20,13 +21,14 @@ use crate::condition::Condition;
 use crate::constants::put_constant;
 use crate::frame::Frame;
 use crate::instructions::{
-    OTHER_SCRATCH, SCRATCH, SERVICE, STACK, ZERO, add_immediate, four_times, high, known_place,
-    load, load_element, load_upper, low, operate, put, put_item, serve, store, store_element,
+    OTHER_SCRATCH, POINTER, SCRATCH, SERVICE, STACK, ZERO, add_immediate, four_times, from_pointer,
+    high, known_place, load, load_element, load_upper, low, operate, put, put_item, serve, store,
+    store_element,
 };
 use crate::item::Item;
 use crate::operators::{put_binary, put_immediate, unary};
 use crate::recipe::WordRecipe;
-use crate::scratch::addressed;
+use crate::scratch::{addressed, gains};
 use crate::tables::{Places, label_count, long_size};
 use cc_linear::Item as LinearItem;
 use cc_ltl::Move;
@@ -51,18 +53,45 @@ fn move_word(between: Move) -> Instr
     }
 }
 
-// Puts the upper part of an address into x6, where it is not.
+// Puts the upper part of an address into x6, where it is needed and not there.
 fn put_upper(items: &mut Vec<Item>, known: Remembered, address: u32) -> Result<(), AllocError>
     ensures { OnOk result (items.new.items ≡ items.old.items ++ upper_items known address) }
 {
     match known {
         Remembered::Nothing => put(items, load_upper(OTHER_SCRATCH, high(address))),
-        Remembered::Upper | Remembered::Element => Ok(()),
+        Remembered::Upper
+        | Remembered::Element
+        | Remembered::ByPointer
+        | Remembered::ElementByPointer => Ok(()),
     }
 }
 
-// Puts an access to an element that lies this many bytes behind the first: x5 becomes its address, less the lower part of its object's
-// address.
+// The register from which an address is reached; where x5 holds the element's address, it is not used.
+fn base_register(known: Remembered) -> u8
+    ensures value { result ≡ base_register known }
+    ensures below { result < 32 }
+{
+    match known {
+        Remembered::ByPointer => POINTER,
+        Remembered::Nothing
+        | Remembered::Upper
+        | Remembered::Element
+        | Remembered::ElementByPointer => OTHER_SCRATCH,
+    }
+}
+
+// The access's offset, from that register or from what x5 holds of an element's address: an object's part of it.
+fn part_of(known: Remembered, address: u32) -> u32
+    ensures value { result ≡ part_of known address }
+    ensures fits { IsImmediate result }
+{
+    match known {
+        Remembered::ByPointer | Remembered::ElementByPointer => from_pointer(address),
+        Remembered::Nothing | Remembered::Upper | Remembered::Element => low(address),
+    }
+}
+
+// Puts an access to an element that lies this many bytes behind the first: x5 becomes its address, less the object's part of it.
 fn put_based(
     items: &mut Vec<Item>,
     known: Remembered,
@@ -76,7 +105,7 @@ fn put_based(
     put_upper(items, known, base)?;
     put(
         items,
-        operate(Operation::Add, SCRATCH, distance, OTHER_SCRATCH),
+        operate(Operation::Add, SCRATCH, distance, base_register(known)),
     )?;
     put(items, access)
 }
@@ -94,7 +123,7 @@ fn put_indexed(
     ensures { OnOk result (items.new.items ≡ items.old.items ++ indexed known width base index (Plain access ∷ [])) }
 {
     match (known, width) {
-        (Remembered::Element, _) => put(items, access),
+        (Remembered::Element | Remembered::ElementByPointer, _) => put(items, access),
         (_, Width::Byte) => put_based(items, known, base, index, access),
         (_, Width::Word) => {
             put(items, four_times(SCRATCH, index))?;
@@ -114,9 +143,9 @@ fn put_load(
 ) -> Result<(), AllocError>
     requires to { to < 32 }
     requires index { index < 32 }
-    ensures { OnOk result (items.new.items ≡ items.old.items ++ indexed known width base index (Plain (Load (load_of width) to 5 (low base)) ∷ [])) }
+    ensures { OnOk result (items.new.items ≡ items.old.items ++ indexed known width base index (Plain (Load (load_of width) to 5 (part_of known base)) ∷ [])) }
 {
-    let access = load_element(width, to, SCRATCH, low(base));
+    let access = load_element(width, to, SCRATCH, part_of(known, base));
     put_indexed(items, known, width, base, index, access)
 }
 
@@ -131,9 +160,9 @@ fn put_store(
 ) -> Result<(), AllocError>
     requires index { index < 32 }
     requires from { from < 32 }
-    ensures { OnOk result (items.new.items ≡ items.old.items ++ indexed known width base index (Plain (Store (store_of width) 5 from (low base)) ∷ [])) }
+    ensures { OnOk result (items.new.items ≡ items.old.items ++ indexed known width base index (Plain (Store (store_of width) 5 from (part_of known base)) ∷ [])) }
 {
-    let access = store_element(width, SCRATCH, from, low(base));
+    let access = store_element(width, SCRATCH, from, part_of(known, base));
     put_indexed(items, known, width, base, index, access)
 }
 
@@ -151,7 +180,8 @@ fn put_load_at(
 {
     let address = known_place(width, base, number);
     put_upper(items, known, address)?;
-    put(items, load_element(width, to, OTHER_SCRATCH, low(address)))
+    let access = load_element(width, to, base_register(known), part_of(known, address));
+    put(items, access)
 }
 
 // Puts a store into the element of that number.
@@ -168,10 +198,8 @@ fn put_store_at(
 {
     let address = known_place(width, base, number);
     put_upper(items, known, address)?;
-    put(
-        items,
-        store_element(width, OTHER_SCRATCH, from, low(address)),
-    )
+    let access = store_element(width, base_register(known), from, part_of(known, address));
+    put(items, access)
 }
 
 // Puts a call of one of the machine's services.
@@ -348,8 +376,8 @@ pub(crate) fn function_items(
     requires few { length code.now ≤ 2 ^ 59 }
     ensures { IfOk result (λ items. items.items ≡ function_items (base_in bases.now) slots code.now) }
 {
-    let frame = Frame::new(alloc, slots, code)?;
-    let steps = addressed(alloc, bases, code)?;
+    let frame = Frame::new(alloc, gains(bases, code), slots, code)?;
+    let steps = addressed(alloc, bases, frame.sets_pointer(), code)?;
     let places = Places::new(alloc, &frame, steps.as_slice(), label_count(code))?;
     let mut items = Vec::new(alloc);
     frame.put_prologue(&mut items)?;

@@ -4,9 +4,12 @@ ghost use Rattle.std.specs.Prelude.{◌≡◌, ◌≤◌, ◌<◌, ◌+◌, ◌*
 ghost use Rattle.std.specs.List.{AllByRecursion};
 ghost use Rattle.cc_ltl.specs.Registers.{most_slots};
 ghost use Rattle.cc_emit.specs.Frames.{frame_size, frame_of, item_writes, writes, is_written, calls, is_call};
-ghost use Rattle.cc_emit.specs.Emission.{saving, restoring, prologue, epilogue, prologue_size, stack_moved_size};
+ghost use Rattle.cc_emit.specs.Emission.{saving, restoring, prologue, epilogue, pointer_size, prologue_size, stack_moved_size};
 
-use crate::instructions::{RETURN_ADDRESS, STACK, add_immediate, go_back, load, put, store};
+use crate::instructions::{
+    GLOBAL_POINTER, POINTER, RETURN_ADDRESS, STACK, add_immediate, go_back, high, load, load_upper,
+    low, put, store,
+};
 use crate::item::Item;
 use cc_linear::Item as LinearItem;
 use cc_ltl::Move;
@@ -17,9 +20,10 @@ use std::marker::Model;
 /// The registers that a function gives back as it got them.
 const KEPT: [u8; 12] = [8, 9, 18, 19, 20, 21, 22, 23, 24, 25, 26, 27];
 
-/// The frame of a function: at most 495 slots and 13 registers. A clause sees both.
+/// The frame of a function: whether it sets `x3`, at most 495 slots and 13 registers. A clause sees all three.
 #[derive(Drop)]
 pub(crate) struct Frame {
+    sets_pointer: bool,
     slots: u16,
     saved: Vec<u8>,
 }
@@ -32,16 +36,21 @@ impl Model for Frame {
 
     ghost Value = { Shown };
 
-    ghost view = { λ f. record { slots = f.slots; saved = f.saved.items } };
+    ghost view = { λ f. record { sets_pointer = f.sets_pointer; slots = f.slots; saved = f.saved.items } };
 
     ghost invariant = { λ f. (f.slots ≤ most_slots) × (length f.saved.items ≤ 13) × AllByRecursion (λ r. r < 32) f.saved.items };
 }
 
 impl Frame {
-    /// The frame of these steps.
-    pub(crate) fn new(alloc: Global, slots: u16, code: &[Step]) -> Result<Frame, AllocError>
+    /// The frame of these steps; `sets_pointer` where the function sets `x3`.
+    pub(crate) fn new(
+        alloc: Global,
+        sets_pointer: bool,
+        slots: u16,
+        code: &[Step],
+    ) -> Result<Frame, AllocError>
         requires { slots ≤ most_slots }
-        ensures { IfOk result (λ frame. frame ≡ frame_of slots code.now) }
+        ensures { IfOk result (λ frame. frame ≡ frame_of sets_pointer slots code.now) }
     {
         let mut saved = Vec::new(alloc);
         if calls(code) {
@@ -52,7 +61,18 @@ impl Frame {
                 saved.push(*register)?;
             }
         }
-        Ok(Frame { slots, saved })
+        Ok(Frame {
+            sets_pointer,
+            slots,
+            saved,
+        })
+    }
+
+    /// Whether the function sets `x3` to the global pointer.
+    pub(crate) fn sets_pointer(&self) -> bool
+        ensures { result ≡ self.now.sets_pointer }
+    {
+        self.sets_pointer
     }
 
     /// The registers that it saves, in the order of their places.
@@ -80,18 +100,22 @@ impl Frame {
         usize::from(self.size() != 0)
     }
 
-    /// How many items come before those of the function's steps: at most 14.
+    /// How many items come before those of the function's steps: at most 16.
     pub(crate) fn prologue_size(&self) -> usize
         ensures answer { result ≡ prologue_size self.now }
-        ensures few { result ≤ 14 }
+        ensures few { result ≤ 16 }
     {
-        self.moves() + self.saved.len()
+        pointer_size(self.sets_pointer) + (self.moves() + self.saved.len())
     }
 
-    /// The stack pointer goes down by the frame's size, and the registers are saved.
+    /// `x3` is set, the stack pointer goes down by the frame's size, and the registers are saved.
     pub(crate) fn put_prologue(&self, items: &mut Vec<Item>) -> Result<(), AllocError>
         ensures { OnOk result (items.new.items ≡ items.old.items ++ prologue self.now) }
     {
+        if self.sets_pointer {
+            put(items, load_upper(POINTER, high(GLOBAL_POINTER)))?;
+            put(items, add_immediate(POINTER, POINTER, low(GLOBAL_POINTER)))?;
+        }
         let size = self.size();
         if size != 0 {
             put(items, add_immediate(STACK, STACK, 0u32.wrapping_sub(size)))?;
@@ -110,6 +134,14 @@ impl Frame {
         }
         put(items, go_back())
     }
+}
+
+/// How many items set `x3`: two where the function sets it, else none.
+pub(crate) fn pointer_size(sets_pointer: bool) -> usize
+    ensures answer { result ≡ pointer_size sets_pointer }
+    ensures few { result ≤ 2 }
+{
+    if sets_pointer { 2 } else { 0 }
 }
 
 fn put_saving(items: &mut Vec<Item>, offset: u32, saved: &[u8]) -> Result<(), AllocError>

@@ -9,16 +9,20 @@ ghost use Rattle.cc_rv32.specs.declared.instr.LoadOperation.TheVariants.{Lw};
 ghost use Rattle.cc_rv32.specs.declared.instr.StoreOperation.TheVariants.{Sw};
 ghost use Rattle.cc_emit.specs.declared.item.Item.TheVariants.{Plain};
 ghost use Rattle.cc_emit.specs.Contract.{load_of, store_of};
-ghost use Rattle.cc_emit.specs.Emission.{low, high, known_place};
+ghost use Rattle.cc_emit.specs.Emission.{low, high, from_pointer, known_place};
 
 use crate::condition::Condition;
 use crate::item::Item;
 use cc_rv32::instr::{
     ImmediateOperation, Instr, LoadOperation, Operation, ShiftOperation, StoreOperation,
 };
+use cc_rv32::map::GLOBALS_FROM;
 use cc_rv32::operand::{BranchOffset, Immediate, Register, ShiftCount, UpperImmediate};
 use cc_words::Width;
 use std::alloc::AllocError;
+
+/// What `x3` holds where a function sets it: an access reaches the first 4 KiB of the globals from there.
+pub(crate) const GLOBAL_POINTER: u32 = GLOBALS_FROM + 2048;
 
 /// `x0`, which holds 0.
 pub(crate) const ZERO: u8 = 0;
@@ -26,6 +30,8 @@ pub(crate) const ZERO: u8 = 0;
 pub(crate) const RETURN_ADDRESS: u8 = 1;
 /// `x2`, the address of the frame.
 pub(crate) const STACK: u8 = 2;
+/// `x3`, the global pointer where a function sets it.
+pub(crate) const POINTER: u8 = 3;
 /// `x5`, for a result between two instructions of a step, and for an element's address.
 pub(crate) const SCRATCH: u8 = 5;
 /// `x6`, for the upper part of an address.
@@ -236,6 +242,14 @@ pub(crate) fn high(word: u32) -> u32
     ensures fits { result < 2 ^ 20 }
 {
     ((u64::from(word) + 2048) / 4096 % 1_048_576) as u32
+}
+
+/// How far from `x3` an address lies that it reaches.
+pub(crate) fn from_pointer(address: u32) -> u32
+    ensures value { result ≡ from_pointer address }
+    ensures fits { IsImmediate result }
+{
+    low(address.wrapping_add(0u32.wrapping_sub(GLOBAL_POINTER)))
 }
 
 /// The address of an element whose number is known.

@@ -120,28 +120,31 @@ fn is_near(first: &[usize], here: usize, label: u32) -> bool
     }
 }
 
-// How many items an access to an element takes whose number is in a register.
-fn access_size(known: Remembered, width: Width) -> usize
+/// How many items an access to an element takes whose number is in a register.
+pub(crate) fn access_size(known: Remembered, width: Width) -> usize
     ensures answer { result ≡ access_size known width }
     ensures few { result ≤ 4 }
 {
     match (known, width) {
         (Remembered::Nothing, Width::Byte) => 3,
         (Remembered::Nothing, Width::Word) => 4,
-        (Remembered::Upper, Width::Byte) => 2,
-        (Remembered::Upper, Width::Word) => 3,
-        (Remembered::Element, _) => 1,
+        (Remembered::Upper | Remembered::ByPointer, Width::Byte) => 2,
+        (Remembered::Upper | Remembered::ByPointer, Width::Word) => 3,
+        (Remembered::Element | Remembered::ElementByPointer, _) => 1,
     }
 }
 
-// How many items an access to an element takes whose number is known.
-fn known_access_size(known: Remembered) -> usize
+/// How many items an access to an element takes whose number is known.
+pub(crate) fn known_access_size(known: Remembered) -> usize
     ensures answer { result ≡ known_access_size known }
     ensures few { result ≤ 2 }
 {
     match known {
         Remembered::Nothing => 2,
-        Remembered::Upper | Remembered::Element => 1,
+        Remembered::Upper
+        | Remembered::Element
+        | Remembered::ByPointer
+        | Remembered::ElementByPointer => 1,
     }
 }
 

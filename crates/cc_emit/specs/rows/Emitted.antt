@@ -25,7 +25,7 @@ use Rattle.cc_emit.specs.Contract.{Code, filled}
 use Rattle.cc_emit.specs.Objects.{object_address}
 use Rattle.cc_emit.specs.Branches.{comparison, turned}
 use Rattle.cc_emit.specs.Emission.{addi, branch_items, load_element, load_word, store_element, store_word, const_size, is_close}
-use Rattle.cc_emit.specs.Function.{function_items}
+use Rattle.cc_emit.specs.Function.{function_items, items_with}
 
 -- 1 is added up once; the sum goes through a slot and through an element of the second object, whose address has a negative lower part
 abbrev loop : List linear.Item
@@ -172,6 +172,63 @@ far_between = refl
 -- a byte of the same number lies elsewhere: add x5, x7, x6
 byte_of_that_number : function_items near_by 0 (One (Load Word 0 10 7) ∷ One (Load Byte 1 11 7) ∷ []) ≡ whole (load_word 10 5 0) (Plain (Op operation.Add 5 7 6) ∷ load_element Byte 11 5 16 ∷ [])
 byte_of_that_number = refl
+
+-- ---- x3 as the global pointer
+
+-- lui x3, 0x201; addi x3, x3, -2048
+abbrev with_pointer : List Item → List Item
+with_pointer items = Plain (Lui 3 0x201) ∷ addi 3 3 0xfffff800 ∷ items
+
+-- three accesses of one instruction each, where each would make an upper part: object 1 lies at 0x200010, 2032 bytes before what x3 holds
+known_by_x3 : function_items near_by 0 (LoadAt Word 1 10 0 ∷ One (Label 1) ∷ LoadAt Word 1 11 0 ∷ One (Label 2) ∷ StoreAt Word 1 2 11 ∷ One Return ∷ [])
+    ≡ with_pointer (load_word 10 3 0xfffff810 ∷ load_word 11 3 0xfffff810 ∷ store_word 3 11 0xfffff818 ∷ Plain (Jalr 0 1 0) ∷ [])
+known_by_x3 = refl
+
+-- two save no more than setting x3 takes; nor do three of which one finds the upper part in x6
+two_alone : function_items near_by 0 (LoadAt Word 1 10 0 ∷ One (Label 1) ∷ LoadAt Word 1 11 0 ∷ LoadAt Word 2 12 0 ∷ []) ≡ Plain (Lui 6 0x200) ∷ load_word 10 6 16 ∷ Plain (Lui 6 0x200) ∷ load_word 11 6 16 ∷ load_word 12 6 32 ∷ []
+two_alone = refl
+
+-- elements: slli x5, x7, 2; add x5, x5, x3; the access; one of another object of the same number; of a byte add x5, x7, x3
+elements_by_x3 : items_with near_by true 0 (One (Load Word 0 10 7) ∷ One (Store Word 1 7 10) ∷ One (Load Byte 1 11 7) ∷ [])
+    ≡ with_pointer (Plain (Shift Slli 5 7 2) ∷ Plain (Op operation.Add 5 5 3) ∷ load_word 10 5 0xfffff800 ∷ store_word 5 10 0xfffff810 ∷ Plain (Op operation.Add 5 7 3) ∷ load_element Byte 11 5 0xfffff810 ∷ [])
+elements_by_x3 = refl
+
+-- two elements of the same number, whose objects lie at 0x200000 and 0x200c00 and have other upper parts: the second is one instruction from x3
+other_uppers : function_items near_by 0 (One (Load Word 0 10 7) ∷ One (Load Word 192 11 7) ∷ []) ≡ with_pointer (Plain (Shift Slli 5 7 2) ∷ Plain (Op operation.Add 5 5 3) ∷ load_word 10 5 0xfffff800 ∷ load_word 11 5 1024 ∷ [])
+other_uppers = refl
+
+-- objects 240 and 256 lie at 0x200f00, where x3 reaches, and at 0x201000, and have one upper part: without x3 the second access is one
+-- instruction, with it four, so the function does not gain
+abbrev from_one_upper : List Item → List Item
+from_one_upper items = Plain (Shift Slli 5 7 2) ∷ Plain (Lui 6 0x201) ∷ Plain (Op operation.Add 5 5 6) ∷ load_word 10 5 0xffffff00 ∷ load_word 11 5 0 ∷ items
+
+one_upper : function_items near_by 0
+    (One (Label 1) ∷ One (Load Word 240 10 7) ∷ One (Load Word 256 11 7) ∷ One (Label 2) ∷ One (Load Word 240 10 7) ∷ One (Load Word 256 11 7) ∷ One (Label 3) ∷ One (Load Word 240 10 7) ∷ One (Load Word 256 11 7) ∷ [])
+    ≡ from_one_upper (from_one_upper (from_one_upper []))
+one_upper = refl
+
+-- and where x5 holds that element's address by the upper part, x3 is not asked for
+by_upper_first : items_with near_by true 0 (One (Load Word 256 10 7) ∷ One (Load Word 240 11 7) ∷ [])
+    ≡ with_pointer (Plain (Shift Slli 5 7 2) ∷ Plain (Lui 6 0x201) ∷ Plain (Op operation.Add 5 5 6) ∷ load_word 10 5 0 ∷ load_word 11 5 0xffffff00 ∷ [])
+by_upper_first = refl
+
+-- the last byte that it reaches, at 0x200fff, and the word behind it, at 0x201000
+last_byte : items_with near_by true 0 (LoadAt Byte 255 10 15 ∷ LoadAt Word 255 10 4 ∷ []) ≡ with_pointer (load_element Byte 10 3 2047 ∷ Plain (Lui 6 0x201) ∷ load_word 10 6 0 ∷ [])
+last_byte = refl
+
+-- an object at 0x200ff0 begins where x3 reaches, and goes on beyond: its elements by a register all take its distance from x3
+beyond : items_with near_by true 0 (One (Load Word 255 10 7) ∷ []) ≡ with_pointer (Plain (Shift Slli 5 7 2) ∷ Plain (Op operation.Add 5 5 3) ∷ load_word 10 5 2032 ∷ [])
+beyond = refl
+
+-- the last word that it reaches, at 0x200ffc; object 256 lies at 0x201000, and its upper part stays in x6
+farthest : items_with near_by true 0 (LoadAt Word 255 10 3 ∷ LoadAt Word 256 11 0 ∷ LoadAt Word 255 12 0 ∷ LoadAt Word 256 13 1 ∷ [])
+    ≡ with_pointer (load_word 10 3 2044 ∷ Plain (Lui 6 0x201) ∷ load_word 11 6 0 ∷ load_word 12 3 2032 ∷ load_word 13 6 4 ∷ [])
+farthest = refl
+
+-- x3 is set before the frame, and stands behind a call
+behind_call : items_with near_by true 0 (One (Call 3) ∷ LoadAt Word 0 10 0 ∷ One Return ∷ [])
+    ≡ with_pointer (addi 2 2 0xfffffffc ∷ store_word 2 1 0 ∷ item.Call 3 ∷ load_word 10 3 0xfffff800 ∷ load_word 1 2 0 ∷ addi 2 2 4 ∷ Plain (Jalr 0 1 0) ∷ [])
+behind_call = refl
 
 -- comparisons: less than 2047, and at most 2046; at most 2^32 - 2, and less than 2^32 - 2048, unsigned; equal to 0, and not to 7; more than 0;
 -- at least 5; at most a register's word

@@ -4,4 +4,4 @@ use Rattle.cc_emit.proofs.Addressing.{SoFar}
 use Rattle.cc_emit.proofs.scratch.addressed.Given as goal
 
 abbrev pub invariant-loop-step : goal.invariant-loop-step
-invariant-loop-step l = SoFar (base_in l.bases) l.code l.step-index l.scratch l.steps.items
+invariant-loop-step l = SoFar (base_in l.bases) l.sets_pointer l.code l.step-index l.scratch l.steps.items
