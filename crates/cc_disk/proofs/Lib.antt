@@ -2,3 +2,4 @@ pub mod Images
 mod Zipped
 mod Moments
 mod Walk
+pub mod Crossing

@@ -6,14 +6,6 @@ use denote.Enum.Declared.{shape as enum_shape}
 use Rattle.std.proofs.Crossing.{crosses, Arc-send, Arc-sync, Vec-send, Vec-sync}
 use Rattle.std.proofs.MapsCrossing.{BTreeMap-send}
 use Rattle.cc_disk.specs.declared.disk.Disk.{Ghosts}
-use Rattle.cc_disk.specs.contracts.history.History as History
-use Rattle.cc_disk.specs.contracts.count.FailureCount as Count
-use Rattle.cc_disk.specs.contracts.count.FailureCount.TheInside as counts
-use Rattle.cc_disk.specs.contracts.memory.MemoryDisk as MemoryDisk
-use Rattle.cc_disk.specs.contracts.memory.MemoryDisk.TheInside as memories
-use Rattle.cc_disk.specs.contracts.cells.Cells as Cells
-use Rattle.cc_disk.specs.contracts.cells.Cells.TheInside as cells
-use Rattle.cc_disk.specs.contracts.fuse.FuseDisk as FuseDisk
 use Rattle.cc_journal.specs.contracts.body.Body as Body
 use Rattle.cc_journal.specs.contracts.body.Body.TheInside as bodies
 use Rattle.cc_journal.specs.contracts.log.Log as Log
@@ -50,21 +42,6 @@ use Rattle.cc_history.specs.contracts.entry.Entry as Entry
 use Rattle.cc_history.specs.contracts.entry.SharedEntry as SharedEntry
 use Rattle.cc_history.specs.contracts.entry.SharedEntry.TheInside as entries
 use Rattle.cc_history.specs.contracts.entry.Receipt as Receipt
-
-pub history_send : (T : RattleType) → IsSend T → IsSend (History.the_row T)
-history_send T s = search (sendable, crosses) depth 20
-
-count_send : IsSend Count.the_row
-count_send = view_send _ _ _ _ _ (recorded_send counts.the_field.row _ _ counts.the_type.to_one (struct_send (shape counts.the_type) (search sendable, (search (sendable, crosses) depth 20, tt))))
-
-cells_send : IsSend Cells.the_row
-cells_send = view_send _ _ _ _ _ (recorded_send cells.the_field.row _ _ cells.the_type.to_one (struct_send (shape cells.the_type) (search (sendable, crosses) depth 20, (search (sendable, crosses) depth 20, tt))))
-
-memory_send : IsSend MemoryDisk.the_row
-memory_send = view_send _ _ _ _ _ (recorded_send memories.the_field.row _ _ memories.the_type.to_one (struct_send (shape memories.the_type) (let c = cells_send in search (sendable, crosses) depth 20, (let c = cells_send in search (sendable, crosses) depth 20, tt))))
-
-pub fuse_send : (D : RattleType) → IsSend D → IsSend (FuseDisk.the_row D)
-fuse_send D s = let c = count_send in search (sendable, crosses) depth 20 fits 10000
 
 body_send : IsSend Body.the_row
 body_send = view_send _ _ _ _ _ (recorded_send bodies.the_field.row _ _ bodies.the_type.to_one (struct_send (shape bodies.the_type) (search (sendable, crosses) depth 20, (search sendable, tt))))

@@ -1,4 +1,4 @@
--- Threads may share a service, and a client may go to another thread.
+-- Threads may share a service, and it may go to another thread, and a client may.
 use denote.RattleType.{RattleType}
 use denote.Param.Send.{IsSend, IsSync, sendable, recorded_send, recorded_sync, view_send, struct_send, struct_sync}
 use denote.Struct.Declared.{shape}
@@ -7,8 +7,9 @@ use Rattle.std.proofs.sync.ledger.Book.TheSendSync as total
 use Rattle.std.proofs.sync.ledger.Share.TheSendSync as share
 use Rattle.std.specs.declared.sync.ledger.Ledger as Ledger
 use Rattle.cc_disk.specs.declared.disk.Disk as Disk
+use Rattle.cc_disk.proofs.Crossing.{history_send}
 use Rattle.cc_pool.specs.declared.named.Queued as Queued
-use Rattle.cc_pool.proofs.Sharing.{pass_send, pool_sync}
+use Rattle.cc_pool.proofs.Sharing.{pass_send, pool_send, pool_sync}
 use Rattle.cc_service.specs.declared.named.Named as Named
 use Rattle.cc_service.specs.contracts.client.Member as Member
 use Rattle.cc_service.specs.contracts.client.Member.TheInside as members
@@ -21,7 +22,7 @@ use Rattle.cc_service.specs.contracts.book.Book.TheInside as books
 use Rattle.cc_service.specs.contracts.desk.Desk as Desk
 use Rattle.cc_service.specs.contracts.desk.Desk.TheInside as desks
 use Rattle.cc_service.specs.contracts.service.Service as Service
-use Rattle.cc_service.proofs.Crossing.{history_send, change_send, map_send, library_send, shared_entry_send, receipt_send}
+use Rattle.cc_service.proofs.Crossing.{change_send, map_send, library_send, shared_entry_send, receipt_send}
 
 module _ (N : RattleType) (n : Named.Ghosts N.Denot) (l : Ledger.Ghosts N.Denot) (q : Queued.Ghosts N.Denot) where
   member_send : IsSend (Member.the_row N n l q)
@@ -57,3 +58,10 @@ module _ (N : RattleType) (n : Named.Ghosts N.Denot) (l : Ledger.Ghosts N.Denot)
         let c = desk_send in
         recorded_sync _ _ _ (Service.the_type N D n l q d).to_one (struct_sync (shape (Service.the_type N D n l q d))
         (search (sendable, crosses) depth 10, (search (sendable, crosses) depth 10, (pool_sync N q s y, tt))))
+
+    pub service_send : IsSend N → IsSend D → IsSend (Service.the_row N D n l q d)
+    service_send s t =
+        let b = book_send t in
+        let c = desk_send in
+        recorded_send _ _ _ (Service.the_type N D n l q d).to_one (struct_send (shape (Service.the_type N D n l q d))
+        (search (sendable, crosses) depth 10, (search (sendable, crosses) depth 10, (pool_send N q s, tt))))

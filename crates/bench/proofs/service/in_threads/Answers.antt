@@ -1,8 +1,8 @@
 -- The threads share the service, whose disk is a file.
 use denote.Param.Send.{sendable}
 use Rattle.std.proofs.Crossing.{crosses}
+use Rattle.cc_disk.proofs.Crossing.{file_send}
 use Rattle.cc_service.proofs.Sharing.{service_sync}
-use Rattle.bench.proofs.Crossing.{file_send}
 use Rattle.bench.proofs.service.in_threads.Goals as goal
 
 pub map_vec-requires-sync-F : goal.map_vec-requires-sync-F
