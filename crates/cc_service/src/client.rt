@@ -1,10 +1,11 @@
 // Who calls.
-ghost use Rattle.std.specs.Prelude.{◌≡◌, ◌-◌, [], length, slice_get};
+ghost use Rattle.std.specs.Prelude.{◌≡◌, ◌-◌, [], drop, length, slice_get};
 ghost use Rattle.std.specs.Option.{option_map};
+ghost use Rattle.cc_history.specs.Held.{at_most_told, receipts_bytes};
 ghost use Rattle.cc_history.specs.History.{IsOwn};
 
 use crate::named::Named;
-use cc_history::Receipt;
+use cc_history::{Receipt, held_by};
 use cc_pool::Pass;
 use std::alloc::Global;
 use std::marker::Model;
@@ -120,5 +121,17 @@ impl<N: Named> Client<N> {
         ensures { option_map (λ r. r.now) result ≡ slice_get self.now.holder.receipts (length self.now.holder.receipts - 1) }
     {
         self.receipts().last()
+    }
+
+    /// The bytes that the entries of its receipts behind the first so many are counted to hold, as `held_by` counts them: of a caller that
+    /// had seen so many, those of the new ones.
+    pub fn held_since(&self, seen: usize) -> u64
+        ensures { result ≡ at_most_told (receipts_bytes (drop seen self.now.holder.receipts)) }
+    {
+        let receipts = self.receipts();
+        if receipts.len() <= seen {
+            return 0;
+        }
+        held_by(&receipts[seen..])
     }
 }

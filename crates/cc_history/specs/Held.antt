@@ -1,0 +1,51 @@
+-- The bytes that a history is counted to hold.
+use Rattle.std.specs.Prelude.{ℕ, ◌+◌, ◌*◌, ◌-◌, ◌^◌, min, List, length, sum_by, Option, Some, None}
+use Rattle.cc_unit.specs.declared.unit.StoredUnit.{StoredUnit}
+use Rattle.cc_history.specs.declared.command.Command.{Command}
+use Rattle.cc_history.specs.declared.command.Command.TheVariants.{Add, Replace, Withdraw}
+use Rattle.cc_history.specs.declared.command.Asked.{Asked}
+use Rattle.cc_history.specs.declared.command.Asked.TheVariants.{Change, Fetch, Names}
+use Rattle.cc_history.specs.declared.reply.Reply.{Reply}
+use Rattle.cc_history.specs.declared.reply.Reply.TheVariants as reply
+use Rattle.cc_history.specs.declared.entry.Entry.{Entry}
+use Rattle.cc_history.specs.declared.entry.Receipt.{Receipt}
+
+-- the bytes of a certificate, where there is one
+abbrev pub certificate_bytes : Option (List ℕ) → ℕ
+certificate_bytes (Some bytes) = length bytes
+certificate_bytes None = 0
+
+-- of a unit: its source's bytes, four for each word of its code and of its globals, and its certificate's bytes
+abbrev pub unit_bytes : StoredUnit → ℕ
+unit_bytes unit = length unit.source + 4 * length unit.image.code + 4 * length unit.image.globals + certificate_bytes unit.certificate
+
+-- of a call: those of the unit that it hands in, whatever it is answered
+abbrev pub command_bytes : Command → ℕ
+command_bytes (Add name unit) = unit_bytes unit
+command_bytes (Replace name unit) = unit_bytes unit
+command_bytes (Withdraw name) = 0
+
+abbrev pub asked_bytes : Asked → ℕ
+asked_bytes (Change command) = command_bytes command
+asked_bytes (Fetch name) = 0
+asked_bytes Names = 0
+
+-- of an answer: 48 for each name of a list, which it takes in memory however short it is; a unit that is answered is the library's
+abbrev pub reply_bytes : Reply → ℕ
+reply_bytes reply.Done = 0
+reply_bytes reply.Exists = 0
+reply_bytes reply.Absent = 0
+reply_bytes (reply.Unit unit) = 0
+reply_bytes (reply.Names names) = 48 * length names
+
+-- of an entry: 256, and those of what was asked and answered
+abbrev pub entry_bytes : Entry → ℕ
+entry_bytes entry = 256 + asked_bytes entry.asked + reply_bytes entry.reply
+
+-- of the entries of these receipts
+abbrev pub receipts_bytes : List Receipt → ℕ
+receipts_bytes receipts = sum_by (λ receipt. entry_bytes receipt.entry) receipts
+
+-- so many, or the most that a number of 64 bits can say
+abbrev pub at_most_told : ℕ → ℕ
+at_most_told bytes = min bytes (2 ^ 64 - 1)

@@ -1,0 +1,79 @@
+// How many bytes a history is counted to hold, so that whoever keeps one can tell when it is too long.
+//
+// An entry is counted as 256 bytes, with the unit that a change handed in and the names that a list was answered. A unit that `fetch`
+// was answered is shared with the library, or with the entry that put it, and is not counted again.
+ghost use Rattle.std.specs.Prelude.{◌≡◌, ◌+◌, ◌≤◌};
+ghost use Rattle.cc_history.specs.Held.{asked_bytes, at_most_told, certificate_bytes, command_bytes, entry_bytes, receipts_bytes, reply_bytes, unit_bytes};
+
+use crate::command::{Asked, Command};
+use crate::entry::{Entry, Receipt};
+use crate::reply::Reply;
+use cc_link::{Certificate, StoredUnit};
+
+// What an entry is counted as, beside its unit or its names.
+const ENTRY_BYTES: u64 = 256;
+
+// What a name takes in memory.
+const NAME_BYTES: u64 = 48;
+
+fn certificate_held(certificate: &Option<Certificate>) -> u64
+    ensures { result ≡ certificate_bytes certificate.now }
+{
+    match certificate {
+        Some(certificate) => certificate.bytes().len() as u64,
+        None => 0,
+    }
+}
+
+fn unit_held(unit: &StoredUnit) -> u64
+    ensures { result ≡ at_most_told (unit_bytes unit.now) }
+{
+    let source = unit.source.bytes().len() as u64;
+    let code = unit.image.code.words().len() as u64;
+    let globals = unit.image.globals.words().len() as u64;
+    (source + 4 * code + 4 * globals).saturating_add(certificate_held(&unit.certificate))
+}
+
+fn asked_held(asked: &Asked) -> u64
+    ensures { result ≡ at_most_told (asked_bytes asked.now) }
+{
+    match asked {
+        Asked::Change(Command::Add(_, unit)) | Asked::Change(Command::Replace(_, unit)) => {
+            unit_held(unit.stored())
+        }
+        Asked::Change(Command::Withdraw(_)) | Asked::Fetch(_) | Asked::Names => 0,
+    }
+}
+
+fn reply_held(reply: &Reply) -> u64
+    ensures { result ≡ at_most_told (reply_bytes reply.now) }
+{
+    match reply {
+        Reply::Names(names) => NAME_BYTES.saturating_mul(names.as_slice().len() as u64),
+        Reply::Done | Reply::Exists | Reply::Absent | Reply::Unit(_) => 0,
+    }
+}
+
+impl Entry {
+    /// The bytes that it is counted to hold: 256; of a change that hands in a unit its source's bytes, 4 for each word of its code and
+    /// of its globals, and its certificate's bytes, whatever the change was answered; of a list 48 for each name. `u64::MAX` where they
+    /// are more than that.
+    pub fn held(&self) -> u64
+        ensures { result ≡ at_most_told (entry_bytes self.now) }
+    {
+        ENTRY_BYTES
+            .saturating_add(asked_held(&self.asked))
+            .saturating_add(reply_held(&self.reply))
+    }
+}
+
+/// The bytes that the entries of these receipts are counted to hold, together. `u64::MAX` where they are more than that.
+pub fn held_by(receipts: &[Receipt]) -> u64
+    ensures { result ≡ at_most_told (receipts_bytes receipts.now) }
+{
+    let mut held = 0u64;
+    for receipt in receipts {
+        held = held.saturating_add(receipt.entry.entry().held());
+    }
+    held
+}
