@@ -1,8 +1,10 @@
 pub mod Calling
+pub mod Chains
 pub mod Ends
 pub mod Fetching
 pub mod Lines
 pub mod Obeying
 pub mod Playing
 pub mod Putting
+pub mod Sharing
 pub mod Spooling

@@ -5,3 +5,5 @@ pub mod Steps
 pub mod Auditing
 -- how a script from a spool ended
 pub mod Ends
+-- when a generation ends
+pub mod Enough

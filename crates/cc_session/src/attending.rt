@@ -4,6 +4,7 @@ ghost use Rattle.cc_session.specs.Playing.{IsPlayedBy};
 ghost use Rattle.cc_session.specs.Spooling.{HasDone, IsDoneBy, given_by};
 ghost use Rattle.cc_session.specs.internal.Ends.{EndOf};
 
+use crate::bounds::Meter;
 use crate::calls::Caller;
 use crate::talk::Talk;
 use cc_disk::Disk;
@@ -93,13 +94,15 @@ where
     spool.deliver(script, answer, end_of(played));
 }
 
-// Does the next script of a spool, where there is one; whether more may come.
+// Does the next script of a spool, where there is one; whether more may come. The meter counts it from when it was taken until its answer is
+// handed over, with the receipts that it brought.
 fn attend_one<N, H, S, D>(
     rt: &H,
     alloc: Global,
     service: &Service<N, D>,
     client: &mut Client<N>,
     spool: &mut S,
+    meter: &Meter,
 ) -> bool
 where
     N: Named + Send + Sync + 'static,
@@ -111,14 +114,22 @@ where
     if spool.is_over() {
         return false;
     }
+    if meter.is_full() {
+        return false;
+    }
     if let Some((script, answer)) = spool.next() {
+        meter.begin_script();
+        let seen = client.receipts().len();
         attend_script(rt, alloc, service, client, spool, script, answer);
+        let entries = client.receipts().len().saturating_sub(seen);
+        meter.end_script(entries as u64, client.held_since(seen));
     }
     true
 }
 
-/// Does the scripts of a spool one after another, by one client of a service, until the spool says that no more is to be taken. Of each
-/// 65,536 lines are done at most; of one that has more the answer ends in the line of 52.
+/// Does the scripts of a spool one after another, by one client of a service, until the spool says that no more is to be taken, or the
+/// meter is full that all clients of the service share. Of each 65,536 lines are done at most; of one that has more the answer ends in the line
+/// of 52.
 ///
 /// A fault that ends a script, 51 to 54, ends it alone: its answer is handed over with the fault's number, and the next is taken. The line
 /// of the fault is the answer's last, but of 54 there is none: what becomes of an answer that can't be written is the spool's matter.
@@ -128,6 +139,7 @@ pub fn attend<N, H, S, D>(
     service: &Service<N, D>,
     client: &mut Client<N>,
     spool: &mut S,
+    meter: &Meter,
 )
 where
     N: Named + Send + Sync + 'static,
@@ -137,7 +149,7 @@ where
     ensures { HasDone (given_by S.taken S.ended spool.old) client.old.holder (given_by S.taken S.ended spool.new) client.new.holder }
 {
     for _ in rt.forever() {
-        if !attend_one(rt, alloc, service, client, spool) {
+        if !attend_one(rt, alloc, service, client, spool, meter) {
             break;
         }
     }

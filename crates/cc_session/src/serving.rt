@@ -15,8 +15,10 @@ ghost use Rattle.cc_session.specs.declared.end.SessionEnd.TheVariants.{Fault};
 ghost use Rattle.cc_session.specs.Spooling.{HasDone, HaveServed, ServingEnds, given_by};
 
 use crate::attending::attend;
+use crate::bounds::{Bounds, Meter};
 use crate::end::SessionEnd;
 use crate::running::{Begun, begin, finish, refused};
+use crate::steward::Steward;
 use crate::talk::Talk;
 use cc_disk::Disk;
 use cc_library::LibraryFault;
@@ -128,7 +130,13 @@ fn dismiss<N: Named, S: Drop>(
     }
 }
 
-fn attend_post<N, H, S, D>(rt: &H, alloc: Global, service: &Service<N, D>, post: &mut Post<N, S>)
+fn attend_post<N, H, S, D>(
+    rt: &H,
+    alloc: Global,
+    service: &Service<N, D>,
+    post: &mut Post<N, S>,
+    meter: &Meter,
+)
 where
     N: Named + Send + Sync + 'static,
     H: Wait,
@@ -136,12 +144,18 @@ where
     D: Disk,
     ensures { HasDone (given_by S.taken S.ended post.old.spool) post.old.client.holder (given_by S.taken S.ended post.new.spool) post.new.client.holder }
 {
-    attend(rt, alloc, service, &mut post.client, &mut post.spool);
+    attend(rt, alloc, service, &mut post.client, &mut post.spool, meter);
 }
 
 // Each client does the scripts of its spool, in a thread of its own where one can be made. Those for which none can be made begin when others
 // have ended.
-fn attend_all<N, H, S, D>(rt: &H, alloc: Global, service: &Service<N, D>, posts: &mut [Post<N, S>])
+fn attend_all<N, H, S, D>(
+    rt: &H,
+    alloc: Global,
+    service: &Service<N, D>,
+    posts: &mut [Post<N, S>],
+    meter: &Meter,
+)
 where
     N: Named + Send + Sync + 'static,
     H: Threads + Wait + Send + Sync,
@@ -159,7 +173,7 @@ where
         rt,
         posts,
         count,
-        &|_, post| attend_post(rt, alloc, service, post),
+        &|_, post| attend_post(rt, alloc, service, post, meter),
     );
 }
 
@@ -172,13 +186,15 @@ struct Worked<N: Named, S> {
 }
 
 // A client for each spool does what this gives. Where the service has too few of them nothing is done.
-fn work<N, H, S, W, E, D>(
+fn work<N, H, S, W, E, D, T>(
     rt: &H,
     alloc: Global,
     talk: &mut Talk<io::Empty, W, E>,
     service: &Service<N, D>,
     room: Room<N, S>,
     spools: Vec<S>,
+    meter: &Meter,
+    steward: &mut T,
 ) -> Worked<N, S>
 where
     N: Named + Send + Sync + 'static,
@@ -187,6 +203,7 @@ where
     W: Write,
     E: Write,
     D: Disk + Send,
+    T: Steward,
     requires posts { (room.posts.items ≡ []) × (vec_len spools ≤ vec_capacity room.posts) }
     requires clients { (room.clients.items ≡ []) × (vec_len spools ≤ vec_capacity room.clients) }
     requires spools { (room.spools.items ≡ []) × (vec_len spools ≤ vec_capacity room.spools) }
@@ -200,7 +217,8 @@ where
     match hire(rt, alloc, service, spools.len(), &mut clients) {
         Ok(()) => {
             pair(&mut clients, spools, &mut posts);
-            attend_all(rt, alloc, service, posts.as_mut_slice());
+            talk.tell_opened(steward);
+            attend_all(rt, alloc, service, posts.as_mut_slice(), meter);
             dismiss(posts, &mut clients, &mut left);
             Worked {
                 clients,
@@ -248,13 +266,15 @@ fn unserved<S: Spool + Drop, W: Write, E: Write, D: Disk + Drop>(
 }
 
 // The clients of a service do what the spools give, and it is ended.
-fn serve_opened<N, H, S, W, E, D>(
+fn serve_opened<N, H, S, W, E, D, T>(
     rt: &H,
     alloc: Global,
     talk: &mut Talk<io::Empty, W, E>,
     service: Service<N, D>,
     room: Room<N, S>,
     spools: Vec<S>,
+    bounds: Bounds,
+    steward: &mut T,
 ) -> Served<D, S>
 where
     N: Named + Send + Sync + 'static,
@@ -263,6 +283,7 @@ where
     W: Write,
     E: Write,
     D: Disk + Send + Drop,
+    T: Steward,
     requires posts { (room.posts.items ≡ []) × (vec_len spools ≤ vec_capacity room.posts) }
     requires clients { (room.clients.items ≡ []) × (vec_len spools ≤ vec_capacity room.clients) }
     requires spools { (room.spools.items ≡ []) × (vec_len spools ≤ vec_capacity room.spools) }
@@ -270,17 +291,21 @@ where
     ensures { (bytes : List ℕ) → (IsTrue D.honest → Recovers bytes N.base) → HasEnded D.honest bytes D.may_leave D.left_since N.from N.left
         (HaveServed (map (given_by S.taken S.ended) spools.items) (map (given_by S.taken S.ended) result.spools.items)) result.end result.disk }
 {
+    let meter = Meter::new(bounds);
     let Worked {
         clients,
         spools,
         end: worked,
-    } = work(rt, alloc, talk, &service, room, spools);
+    } = work(rt, alloc, talk, &service, room, spools, &meter, steward);
     let (disk, end) = finish(rt, alloc, talk, service, clients, worked);
+    if worked == SessionEnd::Finished {
+        talk.tell_ended(steward, meter.generation(end));
+    }
     Served { disk, spools, end }
 }
 
 // Opens a service for the spools, where there is room for them.
-fn serve_begun<N, H, S, W, E, D, G>(
+fn serve_begun<N, H, S, W, E, D, G, T>(
     rt: &H,
     alloc: Global,
     talk: &mut Talk<io::Empty, W, E>,
@@ -288,6 +313,8 @@ fn serve_begun<N, H, S, W, E, D, G>(
     spools: Vec<S>,
     workers: usize,
     gate: G,
+    bounds: Bounds,
+    steward: &mut T,
 ) -> Served<D, S>
 where
     N: Named + Send + Sync + 'static,
@@ -297,6 +324,7 @@ where
     E: Write,
     D: Disk + Send + Drop,
     G: Gate + Drop + Send + Sync + 'static,
+    T: Steward,
     requires ledger { begun.fresh.ledger ≡ N.name }
     requires parts { N.parts ≡ 1025 }
     requires queue { begun.fresh.queue ≡ N.queue }
@@ -320,7 +348,7 @@ where
         return unserved(alloc, talk, spools, disk, fault);
     };
     match Service::<N, D>::open(rt, alloc, fresh, disk, workers, gate) {
-        Ok(service) => serve_opened(rt, alloc, talk, service, room, spools),
+        Ok(service) => serve_opened(rt, alloc, talk, service, room, spools, bounds, steward),
         Err((fault, disk)) => {
             drop(room);
             unserved(alloc, talk, spools, disk, fault)
@@ -329,14 +357,15 @@ where
 }
 
 /// Opens the library on a disk as a service with this many workers, 1 to 8, and a client for each spool, 1,024 at most. Each client does
-/// the scripts that its spool gives, as `attend` says, until this is over; then the service is ended. It does so in a thread of its own
-/// where one can be made; those for which none can be made begin when others have ended. The workers pass `gate`, so that who waits can be
-/// told how far a long `add` is.
+/// the scripts that its spool gives, as `attend` says, until this is over or the clients together have done as much as `bounds` says; then
+/// the service is ended. It does so in a thread of its own where one can be made; those for which none can be made begin when others have
+/// ended. The workers pass `gate`, so that who waits can be told how far a long `add` is. `steward` is told when scripts are taken and, where
+/// they were, how the service ended.
 ///
 /// The line of a fault of the opening (35, 37, 38, 40, 41; 30 where there are too many spools) or of the end (39, 40) goes to `writer`,
 /// and what helps a person with it to `explanations`. Each is written; `end` is the first. A fault that ends a script is told in its answer
 /// alone. Disk and spools are handed back after each.
-pub fn serve<H, S, W, E, D, G>(
+pub fn serve<H, S, W, E, D, G, T>(
     rt: &H,
     alloc: Global,
     spools: Vec<S>,
@@ -345,6 +374,8 @@ pub fn serve<H, S, W, E, D, G>(
     disk: D,
     workers: usize,
     gate: G,
+    bounds: Bounds,
+    steward: &mut T,
 ) -> Served<D, S>
 where
     H: Threads + Wait + Copy + Send + Sync + 'static,
@@ -353,6 +384,7 @@ where
     E: Write,
     D: Disk + Send + Drop,
     G: Gate + Drop + Send + Sync + 'static,
+    T: Steward,
     requires some { 1 ≤ workers }
     requires few { workers ≤ 8 }
     ensures answers { ServingEnds D.honest D.seen D.may_leave D.moment D.left_since D.failures
@@ -360,8 +392,8 @@ where
 {
     let mut talk = Talk::new(io::empty(), writer, explanations);
     match begin(alloc, disk) {
-        Ok(begun) => serve_begun::<Brand, H, S, &mut W, &mut E, D, G>(
-            rt, alloc, &mut talk, begun, spools, workers, gate,
+        Ok(begun) => serve_begun::<Brand, H, S, &mut W, &mut E, D, G, T>(
+            rt, alloc, &mut talk, begun, spools, workers, gate, bounds, steward,
         ),
         Err((fault, disk)) => {
             drop(gate);

@@ -5,6 +5,7 @@ ghost use Rattle.cc_script.specs.Reading.{Between, IsLine, IsNext, IsNoSource, I
 ghost use Rattle.cc_script.specs.declared.fault.ScriptFault.TheVariants.{WriteFault};
 ghost use Rattle.cc_session.specs.internal.Steps.{HasSent, IsNoLine, IsSentAs, MayFollow};
 
+use crate::steward::{Generation, Steward};
 use crate::words::{explain_refusal, explain_words};
 use cc_history::Receipt;
 use cc_link::{Audit, PieceFault};
@@ -277,6 +278,16 @@ impl<R: Read, W: Write, E: Write> Talk<R, W, E> {
             Ok(receipt) => written(write_number(receipt.number, &mut self.answers)),
             Err(fault) => self.tell_refusal(alloc, fault, source),
         }
+    }
+
+    // Tells who keeps a server that scripts are taken from now on.
+    pub(crate) fn tell_opened<T: Steward>(&mut self, steward: &mut T) {
+        steward.opened(&mut self.explanations);
+    }
+
+    // Tells who keeps a server what a generation did.
+    pub(crate) fn tell_ended<T: Steward>(&mut self, steward: &mut T, generation: Generation) {
+        steward.ended(generation, &mut self.explanations);
     }
 
     // Writes the line of a fault of the script, and explains it. Of one of the answers there is no line.

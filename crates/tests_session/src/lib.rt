@@ -1,8 +1,8 @@
 //! Tests of sessions, from outside: scripts with their answers, scripts that are refused, streams and disks that fail.
 //!
 //! `helpers` runs a script on a formatted disk, `scripts` has the worked scripts, `audits` those that audit, `earlier` a library of before
-//! selection, `refusals` what is refused, `failing` readers and writers that fail, `files` a library in a file, `serving` many clients at
-//! once.
+//! selection, `refusals` what is refused, `failing` readers and writers that fail, `files` a library in a file, `spools` scripts of
+//! several clients, `serving` many clients at once, `generations` one service behind the other.
 #![tactic(auto)]
 
 #[cfg(test)]
@@ -14,6 +14,8 @@ mod failing;
 #[cfg(test)]
 mod files;
 #[cfg(test)]
+mod generations;
+#[cfg(test)]
 mod helpers;
 #[cfg(test)]
 mod refusals;
@@ -21,3 +23,5 @@ mod refusals;
 mod scripts;
 #[cfg(test)]
 mod serving;
+#[cfg(test)]
+mod spools;

@@ -1,141 +1,19 @@
 // Many clients at once: the scripts of spools in memory are done as a session does them, whatever the other clients do.
 
 use crate::helpers::{answers_on, formatted};
+use crate::spools::{
+    CLIENTS, Page, Paper, ROOM, SCRIPTS, answers_of, is_right, of_client, page_of, script_of,
+    spool_of, without_numbers,
+};
 use cc_disk::MemoryDisk;
 use cc_pool::NoGate;
-use cc_session::{Served, SessionEnd, serve, session};
+use cc_session::{BOUNDS, NoSteward, Served, SessionEnd, serve, session};
 use cc_spool::MemorySpool;
 use std::alloc::{AllocError, Global};
-use std::collections::VecDeque;
-use std::io::{self, ErrorKind, Read, Write};
+use std::io;
 use std::sync::Wait;
 use std::test::Fail;
 use std::thread::Threads;
-
-// The scripts of a client, in turn, with the lines of their answers: `@` stands for the client's letter, `#` for a receipt's number.
-static SCRIPTS: [(&str, &str); 14] = [
-    (
-        "add @ 16\nint main(void){}\nrun @ 1000\n",
-        "ok #\nexited 0\n",
-    ),
-    ("add @ 16\nint main(void){}\n", "fault 31 Exists\n"),
-    (
-        "add @2 40\nint main(void){write_word(7);return -2;}\nrun @2 1000\nrun @2 1\n",
-        "ok #\n7\nexited -2\ngoing\n",
-    ),
-    (
-        "replace @ 40\nint main(void){write_word(7);return -2;}\nrun @ 1000\n",
-        "ok #\n7\nexited -2\n",
-    ),
-    ("withdraw @2\nwithdraw @2\n", "ok #\nfault 32 Absent\n"),
-    (
-        "hello\nadd @3 26\nint main(void){return 1 2}\n",
-        "fault 50 BadLine\nfault 5 Unexpected at 1:25\n",
-    ),
-    ("compact\n", "ok\n"),
-    (
-        "add @3 19\nint main(void)\n{x;}\nrun @3 5\n",
-        "fault 11 Unknown at 2:2\nfault 32 Absent\n",
-    ),
-    ("", ""),
-    ("replace @9 16\nint main(void){}\n", "fault 32 Absent\n"),
-    ("add @4 0\n\n", "fault 5 Unexpected at 1:1\n"),
-    (
-        "add A 4\nlist\nrun @ 1000\n",
-        "fault 33 BadName\n7\nexited -2\n",
-    ),
-    ("withdraw @\n", "ok #\n"),
-    ("add @ 16\nint main(void){}\n", "ok #\n"),
-];
-
-// The clients, each with how many of the scripts it does: forty in all.
-const CLIENTS: [(u8, usize); 3] = [(b'a', 14), (b'b', 13), (b'c', 13)];
-
-/// A script. One that is torn can't be read behind its bytes.
-#[derive(Drop)]
-struct Paper {
-    bytes: VecDeque<u8>,
-    is_torn: bool,
-}
-
-impl Read for Paper {
-    fn read(&mut self, buf: &mut [u8]) -> io::Result<usize> {
-        if self.is_torn && self.bytes.is_empty() {
-            return Err(io::Error::from(ErrorKind::BrokenPipe));
-        }
-        self.bytes.read(buf)
-    }
-}
-
-/// What an answer is written to. A write of more bytes than there is room for fails.
-#[derive(Drop)]
-struct Page {
-    bytes: Vec<u8>,
-    room: usize,
-}
-
-impl Write for Page {
-    fn write(&mut self, buf: &[u8]) -> io::Result<usize> {
-        if buf.len() > self.room {
-            return Err(io::Error::from(ErrorKind::StorageFull));
-        }
-        self.room -= buf.len();
-        self.bytes.write(buf)
-    }
-
-    fn flush(&mut self) -> io::Result<()> {
-        Ok(())
-    }
-}
-
-// The most bytes of an answer that has all the room that it needs.
-const ROOM: usize = 4_000_000;
-
-fn page_of(alloc: Global, room: usize) -> Page {
-    Page {
-        bytes: Vec::new(alloc),
-        room,
-    }
-}
-
-// A text with the client's letter in it.
-fn of_client(alloc: Global, text: &str, letter: u8) -> Result<Vec<u8>, AllocError> {
-    let mut bytes = Vec::new(alloc);
-    for byte in text.bytes() {
-        bytes.push(if byte == b'@' { letter } else { byte })?;
-    }
-    Ok(bytes)
-}
-
-// The lines with `#` for the number of each receipt.
-fn without_numbers(alloc: Global, lines: &[u8]) -> Result<Vec<u8>, AllocError> {
-    let mut kept = Vec::new(alloc);
-    for line in lines.split_inclusive(|byte| *byte == b'\n') {
-        let is_receipt = line.starts_with(b"ok ".as_slice());
-        kept.extend_from_slice(if is_receipt {
-            b"ok #\n".as_slice()
-        } else {
-            line
-        })?;
-    }
-    Ok(kept)
-}
-
-fn spool_of(
-    alloc: Global,
-    letter: u8,
-    count: usize,
-) -> Result<MemorySpool<Paper, Page>, AllocError> {
-    let mut scripts = Vec::new(alloc);
-    for (script, _) in SCRIPTS.iter().take(count) {
-        let paper = Paper {
-            bytes: VecDeque::from(of_client(alloc, script, letter)?),
-            is_torn: false,
-        };
-        scripts.push((paper, page_of(alloc, ROOM)))?;
-    }
-    MemorySpool::new(alloc, scripts)
-}
 
 fn served<H>(
     rt: &H,
@@ -147,7 +25,18 @@ fn served<H>(
 where
     H: Threads + Wait + Copy + Send + Sync + 'static,
 {
-    serve(rt, alloc, spools, written, &mut io::sink(), disk, 2, NoGate)
+    serve(
+        rt,
+        alloc,
+        spools,
+        written,
+        &mut io::sink(),
+        disk,
+        2,
+        NoGate,
+        BOUNDS,
+        &mut NoSteward,
+    )
 }
 
 // What a session answers to the scripts of a client, one behind the other.
@@ -182,17 +71,8 @@ fn three_clients_with_forty_scripts(rt: HostRuntime) -> Result<(), Fail> {
     assert!(rt; left.end == SessionEnd::Finished && written.is_empty());
     assert!(rt; left.spools.len() == 3);
     for ((letter, count), spool) in CLIENTS.iter().zip(left.spools.as_slice()) {
-        let mut all = Vec::new(alloc);
-        assert!(rt; spool.answered().len() == *count);
-        for ((script, lines), done) in SCRIPTS.iter().zip(spool.answered()) {
-            let wanted = of_client(alloc, lines, *letter)?;
-            let kept = without_numbers(alloc, done.answer.bytes.as_slice())?;
-            assert!(rt;
-                done.fault.is_none() && kept.as_slice() == wanted.as_slice(),
-                "for {script}"
-            );
-            all.extend_from_slice(kept.as_slice())?;
-        }
+        let all = answers_of(alloc, spool)?;
+        assert!(rt; is_right(alloc, *letter, *count, spool)?, "for {letter}");
         let alone = answered_alone(&rt, alloc, *letter, *count)?;
         assert!(rt; without_numbers(alloc, alone.as_slice())?.as_slice() == all.as_slice());
     }
@@ -227,15 +107,6 @@ fn refused(alloc: Global, count: usize, end: &[u8]) -> Result<Vec<u8>, AllocErro
     }
     lines.extend_from_slice(end)?;
     Ok(lines)
-}
-
-fn script_of(alloc: Global, script: &[u8], is_torn: bool) -> Result<Paper, AllocError> {
-    let mut bytes = Vec::new(alloc);
-    bytes.extend_from_slice(script)?;
-    Ok(Paper {
-        bytes: VecDeque::from(bytes),
-        is_torn,
-    })
 }
 
 /// A script, whether it is torn, and the room for its answer; its answer, and the fault that ends it.

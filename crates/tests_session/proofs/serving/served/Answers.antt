@@ -1,10 +1,10 @@
 -- The disk and the spools go to the threads.
 use denote.Param.Send.{IsSend, sendable}
 use Rattle.std.proofs.Crossing.{crosses}
+use Rattle.cc_disk.proofs.Crossing.{memory_send}
 use Rattle.cc_spool.proofs.Crossing.{spool_send}
-use Rattle.tests_session.specs.contracts.serving.Page as Page
-use Rattle.tests_session.specs.contracts.serving.Paper as Paper
-use Rattle.tests_session.proofs.Crossing.{memory_send}
+use Rattle.tests_session.specs.contracts.spools.Page as Page
+use Rattle.tests_session.specs.contracts.spools.Paper as Paper
 use Rattle.tests_session.proofs.serving.served.Goals as goal
 
 paper_send : IsSend Paper.the_row

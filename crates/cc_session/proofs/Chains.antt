@@ -1,0 +1,28 @@
+-- One generation more goes on from what the ones before it left. Between the two each spool was asked whether it is over, which changes nothing.
+use Rattle.std.proofs.Common.{◌≡◌, ℕ, suc, List, Option, sym, subst}
+use Rattle.cc_session.specs.Generations.{ServesOn}
+use Rattle.cc_session.specs.Spooling.{Given, given_by}
+use Rattle.cc_session.specs.declared.end.SessionEnd.{SessionEnd}
+use Rattle.cc_session.specs.declared.end.SessionEnd.TheVariants.{Finished}
+
+-- a spool that has given and was handed the same
+pub same_given : {S : Type 0} (taken : S → List (Option (List ℕ))) (ended : S → List (Option ℕ)) (x y : S) → taken x ≡ taken y → ended x ≡ ended y
+    → given_by taken ended x ≡ given_by taken ended y
+same_given taken ended x y one two = λ i. record { taken = one i; ended = two i }
+
+module _ {D : Type 0} (Ends : List Given → List Given → D → D → SessionEnd → Type 0) (earlier : ℕ) where
+  -- what was left is as it was
+  pub serves_still : (before left now : List Given) (first between later : D) (ended end : SessionEnd) → now ≡ left → later ≡ between → end ≡ ended
+      → ServesOn Ends earlier before left first between ended → ServesOn Ends earlier before now first later end
+  serves_still before left now first between later ended end same kept told chain =
+      subst (λ (e : SessionEnd). ServesOn Ends earlier before now first later e) (sym told)
+      (subst (λ (d : D). ServesOn Ends earlier before now first d ended) (sym kept) (subst (λ (g : List Given). ServesOn Ends earlier before g first between ended) (sym same) chain))
+
+  pub serves_one_more : (before left now after : List Given) (first between later last : D) (ended end : SessionEnd) → ended ≡ Finished → now ≡ left → later ≡ between
+      → ServesOn Ends earlier before left first between ended → Ends now after later last end → ServesOn Ends (suc earlier) before after first last end
+  serves_one_more before left now after first between later last ended end well same kept chain one = (
+    now,
+    later,
+    serves_still before left now first between later ended Finished same kept (sym well) chain,
+    one,
+  )

@@ -1,0 +1,51 @@
+// Who is told what a server does.
+
+use crate::end::SessionEnd;
+use std::io::Write;
+
+/// Why the clients of a generation took no further script.
+#[derive(Clone, Copy, Debug, Drop, PartialEq, Eq)]
+pub enum GenerationEnd {
+    /// Each spool is over.
+    Over,
+    /// Its history holds as many bytes as its bounds say.
+    Bytes,
+    /// As many scripts were taken as its bounds say.
+    Scripts,
+}
+
+/// What a generation did, from the opening of its service to the end.
+#[derive(Clone, Copy, Debug, Drop, PartialEq, Eq)]
+pub struct Generation {
+    /// The scripts that were taken. Each was done, and its answer handed over.
+    pub scripts: u64,
+    /// The calls that its history has: those of its clients' receipts.
+    pub entries: u64,
+    /// The bytes that its history is counted to hold.
+    pub bytes: u64,
+    /// Why its clients took no further script.
+    pub why: GenerationEnd,
+    /// How its service ended.
+    pub end: SessionEnd,
+}
+
+/// Who is told when a generation begins and ends, and may do something then: write a line, clean a folder. Both calls come from the thread
+/// that serves, between generations, so no script is being done and none is taken before they return. `told` is where what helps a person
+/// with a fault goes.
+pub trait Steward {
+    /// The library is open, and scripts are taken from now on.
+    fn opened<E: Write>(&mut self, told: &mut E);
+
+    /// The service was ended, and the disk is at rest. It comes once for each `opened`.
+    fn ended<E: Write>(&mut self, generation: Generation, told: &mut E);
+}
+
+/// Who does nothing.
+#[derive(Drop)]
+pub struct NoSteward;
+
+impl Steward for NoSteward {
+    fn opened<E: Write>(&mut self, _told: &mut E) {}
+
+    fn ended<E: Write>(&mut self, _generation: Generation, _told: &mut E) {}
+}
