@@ -3,7 +3,7 @@ use Rattle.std.specs.Prelude.{◌≤◌, ℕ, Option, Some, None}
 use Rattle.cc_command_line.specs.declared.command_line.Task.{Task}
 use Rattle.cc_command_line.specs.declared.command_line.Task.TheVariants.{Check, Interpret, Run, Asm}
 use Rattle.cc_command_line.specs.declared.command_line.Work.{Work}
-use Rattle.cc_command_line.specs.declared.command_line.Work.TheVariants.{One, Library}
+use Rattle.cc_command_line.specs.declared.command_line.Work.TheVariants.{One, Library, Serve, Submit}
 
 -- how many steps a run may take, or instructions
 abbrev pub most_steps : ℕ
@@ -20,6 +20,14 @@ abbrev pub IsArea : Option ℕ → Type 0
 IsArea None = Unit {0}
 IsArea (Some area) = (64 ≤ area) × (area ≤ 1073741824)
 
+-- for how many seconds a script waits, where that is given
+abbrev pub IsWait : Option ℕ → Type 0
+IsWait None = Unit {0}
+IsWait (Some seconds) = (1 ≤ seconds) × (seconds ≤ 86400)
+
 abbrev pub IsAllowed : Work → Type 0
 IsAllowed (One task) = IsWithinLimits task
-IsAllowed (Library disk area workers) = IsArea area × (1 ≤ workers) × (workers ≤ 8)
+IsAllowed (Library asked) = IsArea asked.area × (1 ≤ asked.workers) × (asked.workers ≤ 8)
+IsAllowed (Serve asked) =
+    IsArea asked.area × (1 ≤ asked.workers) × (asked.workers ≤ 8) × (1 ≤ asked.clients) × (asked.clients ≤ 64) × (1 ≤ asked.keep) × (asked.keep ≤ 3650)
+IsAllowed (Submit asked) = IsWait asked.wait

@@ -3,8 +3,9 @@
 ghost use Rattle.std.specs.Prelude.{◌≤◌, IfOk};
 ghost use Rattle.cc_command_line.specs.Task.{IsWithinLimits, IsAllowed};
 
-use crate::library::{library_command, library_of};
+use crate::library::{Session, library_command, library_of};
 use crate::numbers::number_in;
+use crate::spool::{Client, Server, serve_command, serve_of, submit_command, submit_of};
 use clap::error::ErrorKind;
 use clap::{Arg, ArgAction, ArgMatches, Command, Error};
 use std::alloc::{AllocError, Global};
@@ -28,6 +29,8 @@ Examples:
   cclib interpret 1000 < examples/quotient.c
   cclib run 10000 2 104 105 < examples/checksum.c
   cclib library units.disk --format 65536 < examples/units.script
+  cclib serve units.disk spool
+  cclib submit spool add quotient < examples/quotient.c
 
 The C program is read from standard input. The WORDs are the program's own input;
 a negative one is written modulo 4294967296: 4294967293 for -3.
@@ -39,6 +42,8 @@ a negative one is written modulo 4294967296: 4294967293 for -3.
   run a 1000         exited 0
   list               unit a, then ok 3
 
+`serve` does such scripts for many clients at once; `submit` is such a client.
+
 Exit status: 0 for an answer, 1 for a fault, 2 for a command line that is refused.";
 
 /// What the program is asked to do.
@@ -46,13 +51,12 @@ Exit status: 0 for an answer, 1 for a fault, 2 for a command line that is refuse
 pub enum Work {
     /// A task for the text on standard input.
     One(Task),
-    /// The script on standard input, over the library in the file `disk`, which is made anew with two areas of `area` bytes where that is
-    /// given, by this many workers.
-    Library {
-        disk: String,
-        area: Option<u32>,
-        workers: usize,
-    },
+    /// The script on standard input, over a library.
+    Library(Session),
+    /// The scripts that are left in a folder, over a library.
+    Serve(Server),
+    /// Leave a script in a folder, and wait for its answer.
+    Submit(Client),
 }
 
 /// What the program is asked to do with the text on standard input.
@@ -151,7 +155,9 @@ fn command<'a>(alloc: Global) -> Result<Command<'a>, AllocError> {
     let whole = with_part(whole, runner_command(alloc, &RUN))?;
     let asm = "Compile the program and list its image";
     let whole = whole.subcommand(plain_command(alloc, "asm", asm))?;
-    with_part(whole, library_command(alloc))
+    let whole = with_part(whole, library_command(alloc))?;
+    let whole = with_part(whole, serve_command(alloc))?;
+    with_part(whole, submit_command(alloc))
 }
 
 // The error of clap for a word of that command that breaks this rule.
@@ -233,6 +239,12 @@ fn work_of(alloc: Global, matches: &ArgMatches<'_>) -> Result<Work, Error>
 {
     if let Some(("library", given)) = matches.subcommand() {
         return library_of(alloc, given);
+    }
+    if let Some(("serve", given)) = matches.subcommand() {
+        return serve_of(alloc, given);
+    }
+    if let Some(("submit", given)) = matches.subcommand() {
+        return submit_of(alloc, given);
     }
     match task_of(alloc, matches) {
         Ok(task) => Ok(Work::One(task)),

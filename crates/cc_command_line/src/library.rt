@@ -18,13 +18,15 @@ pub const MOST_AREA: u64 = 1_073_741_824;
 /// The most workers of a service.
 pub const MOST_WORKERS: u64 = 8;
 
-const FORMAT: &str = "format";
+pub(crate) const FORMAT: &str = "format";
 
-const AREA_RULE: &str = "AREA is a decimal number of bytes from 64 to 1073741824";
+pub(crate) const AREA_RULE: &str = "AREA is a decimal number of bytes from 64 to 1073741824";
 
-const WORKERS: &str = "workers";
+pub(crate) const WORKERS: &str = "workers";
 
-const WORKERS_RULE: &str = "N is a decimal number from 1 to 8";
+pub(crate) const WORKERS_RULE: &str = "N is a decimal number from 1 to 8";
+
+pub(crate) const PATH_RULE: &str = "a path of no letters names no file and no folder";
 
 // What a person reads below the options of the command.
 const LIBRARY_HELP: &str = "\
@@ -42,24 +44,47 @@ A newline follows the LEN bytes. What is answered `ok` is kept, whatever happens
 Example, with a new file:
   cclib library units.disk --format 65536 < examples/units.script";
 
+/// A session of the library in a file.
+#[derive(Drop)]
+pub struct Session {
+    /// The path of the file.
+    pub disk: String,
+    /// How many bytes each of two areas has, where the file is to be made anew: 64 to 1,073,741,824.
+    pub area: Option<u32>,
+    /// How many threads compile: 1 to 8.
+    pub workers: usize,
+}
+
+// An option with a value, which a person reads under that name.
+pub(crate) fn option<'a>(
+    alloc: Global,
+    name: &'static str,
+    value: &'static str,
+    about: &'static str,
+) -> Arg<'a> {
+    Arg::new(alloc, name)
+        .long(name)
+        .value_name(value)
+        .action(ArgAction::Set)
+        .help(about)
+}
+
+/// The option for how many threads compile.
+pub(crate) fn workers_option<'a>(alloc: Global) -> Arg<'a> {
+    option(alloc, WORKERS, "N", "How many threads compile: 1 to 8").default_value("2")
+}
+
 /// The command with its options.
 pub(crate) fn library_command<'a>(alloc: Global) -> Result<Command<'a>, AllocError> {
     let disk = Arg::new(alloc, "DISK")
         .required(true)
         .help("The file that has the library");
-    let area = Arg::new(alloc, FORMAT)
-        .long(FORMAT)
-        .value_name("AREA")
-        .action(ArgAction::Set)
-        .help(
-            "Make the file anew, with room for AREA bytes of records: 64 to 1073741824. What it had is lost",
-        );
-    let workers = Arg::new(alloc, WORKERS)
-        .long(WORKERS)
-        .value_name("N")
-        .action(ArgAction::Set)
-        .default_value("2")
-        .help("How many threads compile: 1 to 8");
+    let area = option(
+        alloc,
+        FORMAT,
+        "AREA",
+        "Make the file anew, with room for AREA bytes of records: 64 to 1073741824. What it had is lost",
+    );
     let begun = Command::new(alloc, "library")
         .about(
             "Keep compiled programs in a file that survives a power cut, by the commands of a script",
@@ -67,7 +92,7 @@ pub(crate) fn library_command<'a>(alloc: Global) -> Result<Command<'a>, AllocErr
         .after_help(LIBRARY_HELP)
         .arg(disk)?
         .arg(area)?;
-    begun.arg(workers)
+    begun.arg(workers_option(alloc))
 }
 
 // The error of clap for a value that breaks this rule.
@@ -100,16 +125,30 @@ fn workers_of(alloc: Global, given: &ArgMatches<'_>) -> Result<usize, Error>
     }
 }
 
+/// The path that a word gives; none where the word is empty, as that of a variable that was not set.
+pub(crate) fn path_of(
+    alloc: Global,
+    given: &ArgMatches<'_>,
+    name: &str,
+) -> Result<Option<String>, AllocError> {
+    match given.get_str(name) {
+        Some(path) if !path.is_empty() => Ok(Some(String::from_str(alloc, path)?)),
+        _ => Ok(None),
+    }
+}
+
 /// What the command asks for.
 pub(crate) fn library_of(alloc: Global, given: &ArgMatches<'_>) -> Result<Work, Error>
     ensures { IfOk result IsAllowed }
 {
     let area = area_of(alloc, given)?;
     let workers = workers_of(alloc, given)?;
-    let disk = String::from_str(alloc, given.get_str("DISK").unwrap_or(""))?;
-    Ok(Work::Library {
+    let Some(disk) = path_of(alloc, given, "DISK")? else {
+        return Err(refused(alloc, PATH_RULE)?);
+    };
+    Ok(Work::Library(Session {
         disk,
         area,
         workers,
-    })
+    }))
 }

@@ -1,16 +1,18 @@
--- A spool in memory may go to another thread, where its scripts and the writers of its answers may.
+-- A spool may go to another thread: one in memory where its scripts and the writers of its answers may, one in a folder where its handle of files may.
 use denote.RattleType.{RattleType}
 use denote.Param.Send.{IsSend, sendable, recorded_send, struct_send}
 use denote.Builtin.{u32}
 use denote.Struct.Declared.{shape}
 use Rattle.std.proofs.Crossing.{crosses}
 use Rattle.std.specs.contracts.option.Option as Option
-use Rattle.cc_disk.specs.contracts.history.History as History
+use Rattle.cc_disk.proofs.Crossing.{history_send}
+use Rattle.cc_spool.specs.contracts.folder.FolderSpool as FolderSpool
+use Rattle.cc_spool.specs.contracts.claims.Ending as Ending
+use Rattle.cc_spool.specs.contracts.folder.Queue as Queue
+use Rattle.cc_spool.specs.contracts.folder.Unanswered as Unanswered
+use Rattle.cc_spool.specs.contracts.layout.Layout as Layout
 use Rattle.cc_spool.specs.contracts.memory.Answered as Answered
 use Rattle.cc_spool.specs.contracts.memory.MemorySpool as MemorySpool
-
-history_send : (T : RattleType) → IsSend T → IsSend (History.the_row T)
-history_send T s = search (sendable, crosses) depth 20
 
 answered_send : (W : RattleType) → IsSend W → IsSend (Answered.the_row W)
 answered_send W t = search (sendable, crosses) depth 20
@@ -22,3 +24,42 @@ pub spool_send : (R W : RattleType) → IsSend R → IsSend W → IsSend (Memory
 spool_send R W s t =
     recorded_send _ _ _ (MemorySpool.the_type R W).to_one (struct_send (shape (MemorySpool.the_type R W))
     (search (sendable, crosses) depth 20, (let a = answered_send W t in search (sendable, crosses) depth 20, (history_send R s, (history_send (Option.the_row u32) end_send, tt)))))
+
+layout_send : (R : RattleType) → IsSend R → IsSend (Layout.the_row R)
+layout_send R s = search (sendable, crosses) depth 20
+
+ending_send : IsSend Ending.the_row
+ending_send = search (sendable, crosses) depth 20
+
+unanswered_send : IsSend Unanswered.the_row
+unanswered_send = let e = ending_send in search (sendable, crosses) depth 20
+
+queue_send : (R : RattleType) → IsSend R → IsSend (Queue.the_field R).row
+queue_send R s =
+    struct_send (shape (Queue.the_type R)) (
+      let l = layout_send R s in search (sendable, crosses) depth 20,
+      (
+        search (sendable, crosses) depth 20,
+        (
+          search (sendable, crosses) depth 20,
+          (
+            search (sendable, crosses) depth 20,
+            (
+              search (sendable, crosses) depth 20,
+              (
+                search (sendable, crosses) depth 20,
+                (
+                  search (sendable, crosses) depth 20,
+                  (search (sendable, crosses) depth 20, (let u = unanswered_send in search (sendable, crosses) depth 20, tt)),
+                ),
+              ),
+            ),
+          ),
+        ),
+      ),
+    )
+
+pub folder_send : (R : RattleType) → IsSend R → IsSend (FolderSpool.the_row R)
+folder_send R s =
+    recorded_send _ _ _ (FolderSpool.the_type R).to_one (struct_send (shape (FolderSpool.the_type R))
+    (queue_send R s, (search (sendable, crosses) depth 20, (history_send (Option.the_row u32) end_send, tt))))

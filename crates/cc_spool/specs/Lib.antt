@@ -1,0 +1,2 @@
+-- What serving says of the names of scripts.
+pub mod Names

@@ -1,11 +1,35 @@
 //! Spools: where the scripts of one client come from, and where their answers go.
 //!
-//! `spool` is what serving needs of a spool, `memory` a spool in memory. It knows nothing of libraries; of `cc_disk` it has the history that
-//! contracts alone read. Hands out `Spool`, `MemorySpool` and `Answered`.
+//! `spool` is what serving needs of a spool, `memory` a spool in memory, `folder` one in a folder in which clients of other processes leave
+//! scripts and find their answers. Of that, `layout` has the parts, `rights` how they are made, `names` which files are taken, `claims` how
+//! a script is claimed and answered, `answer` the file that its answer is written to, `recovery` what a server that was killed left,
+//! `submission` how a client leaves a script and waits for its answer, `lines` which fault that tells, `fault` why one of these is refused.
+//!
+//! It knows nothing of libraries; of `cc_disk` it has the history that contracts alone read. It needs no handle but files and the clock.
+//! Hands out `Spool`, `MemorySpool` and `Answered`; `FolderSpool`, `Layout`, `SpoolFault`, and what a server (`take_folder`, `wide_parts`,
+//! `recover`, `clear_old`, `count_entries`) and a client (`submit`) do in a folder; and which names are plain (`specs/`).
 #![tactic(auto)]
 
+mod answer;
+mod claims;
+mod fault;
+mod folder;
+mod layout;
+mod lines;
 mod memory;
+mod names;
+mod recovery;
+mod rights;
 mod spool;
+mod submission;
 
+pub use answer::AnswerFile;
+pub use fault::SpoolFault;
+pub use folder::{FolderSpool, MOST_ENTRIES, count_entries};
+pub use layout::{Held, Layout};
 pub use memory::{Answered, MemorySpool};
+pub use names::is_plain;
+pub use recovery::{Recovered, clear_old, recover};
+pub use rights::{WidePart, take_folder, wide_parts};
 pub use spool::Spool;
+pub use submission::{Submission, submit};

@@ -1,15 +1,20 @@
-// The command `library`: a session over a file.
+// The command `library`: a session over a file; and the file of a library that is served.
 
-ghost use Rattle.std.specs.Prelude.{◌≤◌};
+ghost use Rattle.std.specs.Prelude.{◌≡◌, ◌≤◌};
 
 use crate::device::{NoDisk, may_overwrite};
+use crate::telling::{Persons, Telling};
+use cc_command_line::Session;
 use cc_disk::FileDisk;
 use cc_journal::format;
 use cc_library::LibraryFault;
 use cc_pool::Gate;
 use cc_session::{SessionEnd, explain_words, session, session_and_explain};
 use std::alloc::AllocError;
+use std::fs::{self, File};
 use std::io::{self, BufWriter, Input, Print, Write};
+use std::os::unix::fs::MetadataExt;
+use std::path::Path;
 use std::sync::Wait;
 use std::thread::Threads;
 
@@ -17,19 +22,6 @@ use std::thread::Threads;
 const GREETING: &str =
     "cclib: add NAME LEN, replace NAME LEN, withdraw NAME, list, run NAME STEPS, compact or audit, one a line; \
     a source of LEN bytes follows its line; end by Ctrl-D\n";
-
-/// What the command line says of a library.
-#[derive(Clone, Copy, Drop)]
-pub struct Asked<'a> {
-    pub path: &'a str,
-    pub area: Option<u32>,
-    pub workers: usize,
-    pub is_quiet: bool,
-    /// Whether the script comes from a person.
-    pub is_typed: bool,
-    /// Whether a person sees standard error.
-    pub is_watched: bool,
-}
 
 // Tells a person how far a long `add` is: the workers pass it before each function.
 #[derive(Drop)]
@@ -82,6 +74,75 @@ fn disk_of(files: &HostRuntime, path: &str, area: Option<u32>) -> Result<FileDis
     }
 }
 
+// Gives a new disk its name, where nothing has it, and syncs that.
+fn name_disk(files: &HostRuntime, making: &str, path: &str) -> io::Result<()> {
+    fs::hard_link(files, making, path)?;
+    fs::remove_file(files, making)?;
+    let folder = match Path::new(path).parent() {
+        Some(folder) if !folder.as_str().is_empty() => folder.as_str(),
+        _ => ".",
+    };
+    File::open(files, folder)?.sync_all()
+}
+
+// Whether two names are those of one file.
+fn is_same(files: &HostRuntime, one: &str, other: &str) -> bool {
+    match (
+        fs::symlink_metadata(files, one),
+        fs::symlink_metadata(files, other),
+    ) {
+        (Ok(one), Ok(other)) => one.dev() == other.dev() && one.ino() == other.ino(),
+        _ => false,
+    }
+}
+
+// A new library's disk under a name that it has only until it is whole. A file of that name that has another one too is a library, of which a
+// server was killed between the two: it loses this name, and is not touched.
+fn disk_to_name(files: &HostRuntime, making: &str, area: u32) -> Result<FileDisk, NoDisk> {
+    if let Ok(found) = fs::symlink_metadata(files, making)
+        && found.nlink() > 1
+        && fs::remove_file(files, making).is_err()
+    {
+        return Err(NoDisk::Refused(LibraryFault::DiskFault));
+    }
+    disk_of(files, making, Some(area))
+}
+
+/// The disk of a server: the file as it is; where nothing is there and an area is given, a new one. It gets its name when it is whole, so
+/// that a server that was killed while it made the file leaves none. Where an area is given though the file is there, that is told.
+pub(crate) fn disk_to_serve<E: Write>(
+    files: &HostRuntime,
+    path: &str,
+    area: Option<u32>,
+    told: &mut E,
+) -> Result<FileDisk, NoDisk> {
+    let Some(area) = area else {
+        return disk_of(files, path, None);
+    };
+    let Ok(making) = format!(in files.alloc(); "{path}.new") else {
+        return Err(NoDisk::Refused(LibraryFault::OutOfMemory));
+    };
+    if fs::symlink_metadata(files, path).is_ok() {
+        if is_same(files, path, making.as_str()) {
+            let _ = fs::remove_file(files, making.as_str());
+        }
+        let _ = writeln!(
+            told,
+            "cclib: {path} is there, and is opened as it is; `--format` is for a new file"
+        );
+        let _ = told.flush();
+        return disk_of(files, path, None);
+    }
+    let disk = disk_to_name(files, making.as_str(), area)?;
+    match name_disk(files, making.as_str(), path) {
+        Ok(()) => Ok(disk),
+        Err(_) => {
+            drop(disk);
+            Err(NoDisk::Refused(LibraryFault::DiskFault))
+        }
+    }
+}
+
 // Tells a person why there is no disk.
 fn explain<E: Write>(reason: NoDisk, path: &str, errors: &mut E) -> io::Result<()> {
     match reason {
@@ -98,18 +159,18 @@ fn explain<E: Write>(reason: NoDisk, path: &str, errors: &mut E) -> io::Result<(
 }
 
 // Writes why there is no disk; the status.
-fn no_disk<W: Write, E: Write>(
+pub(crate) fn no_disk<W: Write, E: Write>(
     reason: NoDisk,
-    asked: Asked<'_>,
+    path: &str,
     writer: &mut W,
     errors: &mut E,
-) -> u8 {
+) -> u8
+    ensures { result ≡ 1 }
+{
     let fault = reason.fault();
     let _ = writeln!(writer, "fault {} {fault}", fault.number());
     let _ = writer.flush();
-    if !asked.is_quiet {
-        let _ = explain(reason, asked.path, errors);
-    }
+    let _ = explain(reason, path, errors);
     1
 }
 
@@ -124,26 +185,31 @@ fn status(end: SessionEnd) -> u8 {
 pub fn library<R, E: Write + Drop>(
     rt: &R,
     files: &HostRuntime,
-    asked: Asked<'_>,
+    asked: &Session,
+    persons: Persons,
     errors: E,
 ) -> Result<u8, AllocError>
 where
     R: AllocGlobal + Input + Print + Eprint + Threads + Wait + Copy + Send + Sync + 'static,
-    requires some { 1 ≤ asked.workers }
-    requires few { asked.workers ≤ 8 }
+    requires some { 1 ≤ asked.now.workers }
+    requires few { asked.now.workers ≤ 8 }
 {
-    let (Ok(mut writer), Ok(mut errors)) = (
+    let (Ok(mut writer), Ok(errors)) = (
         BufWriter::new(rt.alloc(), io::writer(rt)),
         BufWriter::new(rt.alloc(), errors),
     ) else {
         return Err(AllocError);
     };
-    let disk = match disk_of(files, asked.path, asked.area) {
+    let mut told = Telling {
+        errors,
+        is_quiet: persons.is_quiet,
+    };
+    let disk = match disk_of(files, asked.disk.as_str(), asked.area) {
         Ok(disk) => disk,
-        Err(reason) => return Ok(no_disk(reason, asked, &mut writer, &mut errors)),
+        Err(reason) => return Ok(no_disk(reason, asked.disk.as_str(), &mut writer, &mut told)),
     };
     let mut reader = rt.reader();
-    let (disk, end) = if asked.is_quiet {
+    let (disk, end) = if persons.is_quiet {
         session(
             rt,
             rt.alloc(),
@@ -153,20 +219,20 @@ where
             asked.workers,
         )
     } else {
-        if asked.is_typed {
-            let _ = errors.write_all(GREETING.as_bytes());
-            let _ = errors.flush();
+        if persons.is_typed {
+            let _ = told.write_all(GREETING.as_bytes());
+            let _ = told.flush();
         }
         let progress = Progress {
             rt: *rt,
-            is_shown: asked.is_watched,
+            is_shown: persons.is_watched,
         };
         session_and_explain(
             rt,
             rt.alloc(),
             &mut reader,
             &mut writer,
-            &mut errors,
+            &mut told,
             disk,
             asked.workers,
             progress,

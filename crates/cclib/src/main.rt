@@ -1,37 +1,41 @@
 // The program `cclib`: reads a C program from standard input, and checks, interprets, runs or lists it, or does a script over a library.
 // How a command line is read is the matter of `cc_command_line`, how a task is done that of `cc_program`, a script that of `cc_session`, the
-// file of a library that of `filing`, a device in its place that of `device`, what the stack needs that of `stack`.
+// file of a library that of `filing`, a device in its place that of `device`, a server that of `serving`, its clients that of `submitting`,
+// what a person is told that of `telling`, what the stack needs that of `stack`.
 #![tactic(auto)]
+
+ghost use Rattle.cc_command_line.specs.Task.{IsAllowed};
 
 mod device;
 mod filing;
+mod serving;
 mod stack;
+mod submitting;
+mod telling;
 
 use cc_command_line::{Request, Task, Work, read_request, refused_bytes};
 use cc_program::{Fault, perform, perform_and_explain};
 use clap::Error;
 use clap::error::ErrorKind;
-use filing::{Asked, library};
+use filing::library;
+use serving::serve_folder;
 use stack::reserve_stack;
 use std::alloc::AllocError;
+use std::fs::File;
 use std::io::{self, BufWriter, IsTerminal, Write};
-use std::process::ExitCode;
-use std::rt::Env;
+use std::process::{self, ExitCode};
+use std::rt::{Clock, Env, Files};
 use std::sync::Wait;
 use std::thread::Threads;
-
-// Where a person sits: who writes standard input, and who sees standard error.
-#[derive(Clone, Copy)]
-struct Persons {
-    is_typed: bool,
-    is_watched: bool,
-}
+use submitting::submit_script;
+use telling::Persons;
 
 /// Does what the command line asks; the status is 0 for an answer, 1 for a fault, 2 for a refused command line.
 fn main(rt: HostRuntime) -> ExitCode {
     let persons = Persons {
         is_typed: rt.stdin().is_terminal(),
         is_watched: rt.stderr().is_terminal(),
+        is_quiet: false,
     };
     match run(&rt, &rt, rt.stderr(), persons) {
         Ok(status) => ExitCode::from(status),
@@ -72,15 +76,29 @@ fn refuse<R: Eprint + Print>(rt: &R, error: Error) -> Result<u8, AllocError> {
     Ok(if error.exit_code() == 0 { 0 } else { 2 })
 }
 
-// The status; the error is lack of memory before the work began. Files are opened by a handle of their own.
+// Does what the command line asks; the status. The error is lack of memory before the work began. Files are opened by a handle of their own.
 fn run<R, E: Write + Drop>(
     rt: &R,
     files: &HostRuntime,
     errors: E,
-    persons: Persons,
+    mut persons: Persons,
 ) -> Result<u8, AllocError>
 where
-    R: AllocGlobal + Env + Input + Print + Eprint + Threads + Wait + Copy + Send + Sync + 'static,
+    R: AllocGlobal
+        + Env
+        + Files<File = File>
+        + Clock
+        + Input
+        + Print
+        + Eprint
+        + Threads
+        + Wait
+        + Copy
+        + Clone
+        + Send
+        + Sync
+        + Drop
+        + 'static,
 {
     reserve_stack(rt.alloc())?;
     let words = match std::env::args(rt) {
@@ -97,22 +115,42 @@ where
         Ok(request) => request,
         Err(error) => return refuse(rt, error),
     };
+    persons.is_quiet = is_quiet;
+    do_work(rt, files, errors, persons, work)
+}
+
+// Does a work.
+fn do_work<R, E: Write + Drop>(
+    rt: &R,
+    files: &HostRuntime,
+    errors: E,
+    persons: Persons,
+    work: Work,
+) -> Result<u8, AllocError>
+where
+    R: AllocGlobal
+        + Files<File = File>
+        + Clock
+        + Input
+        + Print
+        + Eprint
+        + Threads
+        + Wait
+        + Copy
+        + Clone
+        + Send
+        + Sync
+        + Drop
+        + 'static,
+    requires allowed { IsAllowed work }
+{
     match work {
-        Work::One(task) => start(rt, task, is_quiet, errors),
-        Work::Library {
-            disk,
-            area,
-            workers,
-        } => {
-            let asked = Asked {
-                path: disk.as_str(),
-                area,
-                workers,
-                is_quiet,
-                is_typed: persons.is_typed,
-                is_watched: persons.is_watched,
-            };
-            library(rt, files, asked, errors)
+        Work::One(task) => start(rt, task, persons.is_quiet, errors),
+        Work::Library(asked) => library(rt, files, &asked, persons, errors),
+        Work::Serve(asked) => serve_folder(rt, files, &asked, persons.is_quiet, errors),
+        Work::Submit(asked) => {
+            let process = process::id(files.process());
+            submit_script(rt, process, &asked, persons, errors)
         }
     }
 }

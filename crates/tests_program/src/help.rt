@@ -17,6 +17,8 @@ Commands:
   run        Compile the program and run its image: print the words that it writes, and how it ends
   asm        Compile the program and list its image
   library    Keep compiled programs in a file that survives a power cut, by the commands of a script
+  serve      Do the scripts that others leave in a folder, many at a time, over a library in a file
+  submit     Leave a script for a server, wait for its answer and print it
   help       Print this message or the help of the given subcommand(s)
 
 Options:
@@ -29,6 +31,8 @@ Examples:
   cclib interpret 1000 < examples/quotient.c
   cclib run 10000 2 104 105 < examples/checksum.c
   cclib library units.disk --format 65536 < examples/units.script
+  cclib serve units.disk spool
+  cclib submit spool add quotient < examples/quotient.c
 
 The C program is read from standard input. The WORDs are the program's own input;
 a negative one is written modulo 4294967296: 4294967293 for -3.
@@ -39,6 +43,8 @@ a negative one is written modulo 4294967296: 4294967293 for -3.
   int main(void){}
   run a 1000         exited 0
   list               unit a, then ok 3
+
+`serve` does such scripts for many clients at once; `submit` is such a client.
 
 Exit status: 0 for an answer, 1 for a fault, 2 for a command line that is refused.
 ";

@@ -21,4 +21,6 @@ mod programs;
 #[cfg(test)]
 mod refusals;
 #[cfg(test)]
+mod spools;
+#[cfg(test)]
 mod words;

@@ -1,6 +1,6 @@
 // The command line.
 
-use cc_command_line::{Request, Task, Work, line, read_request, refused_bytes};
+use cc_command_line::{Request, Session, Task, Work, line, read_request, refused_bytes};
 use std::alloc::Global;
 
 fn asks_to_check(alloc: Global, words: &'static [&'static str]) -> bool {
@@ -45,11 +45,13 @@ fn asks_for_library(
 ) -> bool {
     match line(alloc, words) {
         Ok(
-            Work::Library {
-                disk,
-                area,
-                workers,
-            },
+            Work::Library(
+                Session {
+                    disk,
+                    area,
+                    workers,
+                },
+            ),
         ) => disk.as_str() == path && area == wanted && workers == count,
         other => {
             drop(other);
@@ -97,7 +99,7 @@ fn tasks(rt: HostRuntime) {
 }
 
 // Refused with status 2, the text on standard error.
-fn is_refused(alloc: Global, words: &'static [&'static str]) -> bool {
+pub fn is_refused(alloc: Global, words: &'static [&'static str]) -> bool {
     match line(alloc, words) {
         Ok(task) => {
             drop(task);

@@ -1,5 +1,4 @@
 -- Each call below has a block less to take.
-use Rattle.std.proofs.Common.{ℕ}
 use Rattle.cclib.proofs.stack.+touch.Given as goal
 
 abbrev pub decreases-touch : goal.decreases-touch

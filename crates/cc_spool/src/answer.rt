@@ -1,0 +1,93 @@
+// The file that an answer is written to.
+
+ghost use Rattle.std.specs.Prelude.{◌≡◌, ◌+◌, true, false, IfOk, IfErr, OnOk};
+ghost use Rattle.std.specs.Io.{WritesAtMost};
+
+use std::alloc::Global;
+use std::fs::File;
+use std::io::{self, BufWriter, Write};
+
+/// The most bytes of an answer.
+const MOST_BYTES: u64 = 16_777_216;
+
+/// An answer that is being written, of 16,777,216 bytes at most. After a write or a flush that was refused all later ones are, since what
+/// stands in the file is not what was to be written.
+#[derive(Drop)]
+pub struct AnswerFile {
+    writer: BufWriter<File>,
+    left: u64,
+    is_refused: bool,
+}
+
+impl AnswerFile {
+    /// An answer to a new file.
+    pub(crate) fn new(alloc: Global, file: File) -> io::Result<AnswerFile>
+        ensures room { IfOk result (λ answer. answer.left ≡ 16777216) }
+        ensures fresh { IfOk result (λ answer. answer.is_refused ≡ false) }
+    {
+        Ok(AnswerFile {
+            writer: BufWriter::new(alloc, file)?,
+            left: MOST_BYTES,
+            is_refused: false,
+        })
+    }
+
+    /// Writes what is left to write, and settles it. An `Err` where something of the answer was refused.
+    pub(crate) fn settle(&mut self) -> io::Result<()>
+        ensures whole { OnOk result (self.old.is_refused ≡ false) }
+    {
+        self.pass_on()?;
+        self.writer.get_ref().sync_all()
+    }
+
+    // Takes some of these bytes. An interrupted write may be tried again; any other that is refused is the last.
+    fn take(&mut self, bytes: &[u8]) -> io::Result<usize>
+        ensures bound { WritesAtMost result bytes.now }
+        ensures room { IfOk result (λ count. count + self.new.left ≡ self.old.left) }
+        ensures whole { OnOk result (self.old.is_refused ≡ false) }
+        ensures kept { self.old.is_refused ≡ true → self.new.is_refused ≡ true }
+    {
+        if self.is_refused || self.left < bytes.len() as u64 {
+            self.is_refused = true;
+            return Err(io::Error::from(io::ErrorKind::FileTooLarge));
+        }
+        match self.writer.write(bytes) {
+            Ok(count) => {
+                self.left -= count as u64;
+                Ok(count)
+            }
+            Err(error) => {
+                self.is_refused = error.kind() != io::ErrorKind::Interrupted;
+                Err(error)
+            }
+        }
+    }
+
+    // Passes what was taken on to the file.
+    fn pass_on(&mut self) -> io::Result<()>
+        ensures whole { OnOk result (self.old.is_refused ≡ false) }
+        ensures kept { self.old.is_refused ≡ true → self.new.is_refused ≡ true }
+        ensures refused { IfErr result (λ _. self.new.is_refused ≡ true) }
+    {
+        if self.is_refused {
+            return Err(io::Error::from(io::ErrorKind::FileTooLarge));
+        }
+        match self.writer.flush() {
+            Ok(()) => Ok(()),
+            Err(error) => {
+                self.is_refused = true;
+                Err(error)
+            }
+        }
+    }
+}
+
+impl Write for AnswerFile {
+    fn write(&mut self, bytes: &[u8]) -> io::Result<usize> {
+        self.take(bytes)
+    }
+
+    fn flush(&mut self) -> io::Result<()> {
+        self.pass_on()
+    }
+}

@@ -1,0 +1,2 @@
+-- What stands behind a line that `submit` sends.
+pub mod Sent

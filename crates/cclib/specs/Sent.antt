@@ -1,0 +1,25 @@
+-- What stands behind the line of a command.
+use Rattle.std.specs.Prelude.{Bool, true, false, Option, Some, None}
+use Rattle.cc_script.specs.Line.{Asked, Add, Replace, Withdraw, Names, Run, Compact, Audit}
+
+-- a line that has a source behind it
+abbrev pub has_source : Option Asked → Bool
+has_source None = false
+has_source (Some (Add name length)) = true
+has_source (Some (Replace name length)) = true
+has_source (Some (Withdraw name)) = false
+has_source (Some Names) = false
+has_source (Some (Run name steps)) = false
+has_source (Some Compact) = false
+has_source (Some Audit) = false
+
+-- a line that is a whole command
+abbrev pub is_whole : Option Asked → Bool
+is_whole None = false
+is_whole (Some (Add name length)) = false
+is_whole (Some (Replace name length)) = false
+is_whole (Some (Withdraw name)) = true
+is_whole (Some Names) = true
+is_whole (Some (Run name steps)) = true
+is_whole (Some Compact) = true
+is_whole (Some Audit) = true

@@ -1,0 +1,320 @@
+// The command `submit`: a script for a server.
+
+ghost use Rattle.std.specs.Prelude.{◌≡◌, ◌≢◌, ◌++◌, ◌∷◌, [], None, Ok, IfOk};
+ghost use Rattle.cc_script.specs.Line.{asked_of};
+ghost use Rattle.cc_spool.specs.declared.submission.Submission.TheVariants.{Answered};
+ghost use Rattle.cclib.specs.Sent.{has_source, is_whole};
+
+use crate::telling::{Persons, Telling};
+use cc_command_line::{Client, Task};
+use cc_program::perform_and_explain;
+use cc_script::{Command, command_of};
+use cc_session::{explain_words, words_of};
+use cc_spool::{Layout, SpoolFault, Submission, submit};
+use std::alloc::{AllocError, Global};
+use std::fs::File;
+use std::io::{self, BufWriter, Input, Print, Read, Write};
+use std::rt::{Clock, Files};
+
+/// The most bytes of a source that are sent: one more than a source may have, so that the server sees that it is too long.
+const MOST_SOURCE: usize = 65_537;
+
+const READ_FAULT: &[u8] = b"fault 53 ReadFault\n";
+
+const NO_COMMAND: &str =
+    "cclib: the words are no command of a script: add NAME, replace NAME, withdraw NAME, list, run NAME STEPS, compact or audit\n";
+
+// What is sent.
+#[derive(Drop)]
+enum Sent {
+    // The script on standard input.
+    Script,
+    // A line that takes no source.
+    Line(Vec<u8>),
+    // A line with its source, and how many bytes the line has.
+    Source(Vec<u8>, usize),
+}
+
+// Whether a line takes a source: it is one with a length behind it.
+fn takes_source(alloc: Global, line: &str) -> Result<bool, AllocError>
+    ensures { IfOk result (λ takes. takes ≡ has_source (asked_of (line.now ++ 32 ∷ 48 ∷ []))) }
+{
+    let mut with_length = Vec::new(alloc);
+    with_length.extend_from_slice(line.as_bytes())?;
+    with_length.extend_from_slice(b" 0")?;
+    Ok(match command_of(with_length.as_slice()) {
+        Some(Command::Add { name: _, length: _ }) | Some(Command::Replace { name: _, length: _ }) =>
+            true,
+        _ => false,
+    })
+}
+
+// Whether a line is a whole command.
+fn is_whole(line: &str) -> bool
+    ensures { result ≡ is_whole (asked_of line.now) }
+{
+    match command_of(line.as_bytes()) {
+        Some(Command::Add { name: _, length: _ })
+        | Some(Command::Replace { name: _, length: _ })
+        | None => false,
+        Some(_) => true,
+    }
+}
+
+// The source on standard input, up to a byte more than it may have.
+fn source<R: Input>(rt: &R, alloc: Global) -> io::Result<Vec<u8>> {
+    let mut reader = rt.reader();
+    let mut source = Vec::new(alloc);
+    let mut piece = [0u8; 4096];
+    for _ in 0..u64::MAX {
+        let count = match reader.read(&mut piece) {
+            Ok(count) => count,
+            Err(error) if error.kind() == io::ErrorKind::Interrupted => continue,
+            Err(error) => return Err(error),
+        };
+        if count == 0 || source.len() >= MOST_SOURCE {
+            break;
+        }
+        source.extend_from_slice(&piece[..count])?;
+    }
+    source.truncate(MOST_SOURCE);
+    Ok(source)
+}
+
+// What is sent for a line; none where it is no command.
+fn sent_of<R: Input>(rt: &R, alloc: Global, line: Option<&String>) -> io::Result<Option<Sent>> {
+    let Some(line) = line else {
+        return Ok(Some(Sent::Script));
+    };
+    let line = line.as_str();
+    let mut bytes = Vec::new(alloc);
+    if takes_source(alloc, line)? {
+        let source = source(rt, alloc)?;
+        let text = format!(in alloc; "{line} {}\n", source.len())?;
+        bytes.extend_from_slice(text.as_bytes())?;
+        let begin = bytes.len();
+        bytes.extend_from_slice(source.as_slice())?;
+        bytes.push(b'\n')?;
+        return Ok(Some(Sent::Source(bytes, begin)));
+    }
+    if !is_whole(line) {
+        return Ok(None);
+    }
+    bytes.extend_from_slice(line.as_bytes())?;
+    bytes.push(b'\n')?;
+    Ok(Some(Sent::Line(bytes)))
+}
+
+// Leaves what is sent in the folder, and writes the answer.
+fn send<R, W: Write, E: Write>(
+    rt: &R,
+    layout: &Layout<R>,
+    process: u32,
+    wait: Option<u32>,
+    sent: &Sent,
+    writer: &mut W,
+    watched: &mut E,
+) -> io::Result<Submission>
+where
+    R: Files<File = File> + Clock + Input + Copy + Clone + Drop,
+{
+    match sent {
+        Sent::Script => submit(
+            layout,
+            process,
+            b"",
+            &mut rt.reader(),
+            writer,
+            watched,
+            wait,
+        ),
+        Sent::Line(bytes) | Sent::Source(bytes, _) => submit(
+            layout,
+            process,
+            bytes.as_slice(),
+            &mut io::empty(),
+            writer,
+            watched,
+            wait,
+        ),
+    }
+}
+
+// Writes the line of a fault; the status.
+fn fault<W: Write>(fault: SpoolFault, writer: &mut W) -> u8
+    ensures { result ≡ 1 }
+{
+    let _ = writeln!(writer, "fault {} {fault}", fault.number());
+    let _ = writer.flush();
+    1
+}
+
+// Tells a person what is known of the fault that an answer told last: of one that stands in the source what `check` tells of that.
+fn explain<R: AllocGlobal, E: Write>(
+    rt: &R,
+    number: u32,
+    sent: &Sent,
+    told: &mut E,
+) -> io::Result<()> {
+    if number == SpoolFault::Interrupted.number() {
+        writeln!(
+            told,
+            "cclib: the server ended while it did the script; `list` tells whether the last command was done"
+        )?;
+        return told.flush();
+    }
+    if words_of(number).is_some() {
+        return explain_words(number, told);
+    }
+    if let Sent::Source(bytes, begin) = sent
+        && let Some(mut source) = bytes.as_slice().get(*begin..bytes.len().saturating_sub(1))
+    {
+        let _status = perform_and_explain(rt, Task::Check, &mut source, &mut io::sink(), told);
+    }
+    Ok(())
+}
+
+// Writes the line of a fault of the folder, and tells why and where the script is; the status.
+fn folder_fault<W: Write, E: Write>(
+    folder: &str,
+    why: &io::Error,
+    name: Option<&str>,
+    writer: &mut W,
+    told: &mut E,
+) -> u8
+    ensures { result ≡ 1 }
+{
+    let status = fault(SpoolFault::FolderFault, writer);
+    let _ = writeln!(told, "cclib: the folder {folder} can't be used: {why}");
+    let _ = match name {
+        None => writeln!(told, "cclib: nothing of the script is done"),
+        Some(name) => writeln!(
+            told,
+            "cclib: the script was left as {folder}/new/{name}; its answer comes to {folder}/done/{name}"
+        ),
+    };
+    let _ = told.flush();
+    status
+}
+
+// Tells that a script was taken back; the status.
+fn not_taken<W: Write, E: Write>(asked: &Client, writer: &mut W, told: &mut E) -> u8
+    ensures { result ≡ 1 }
+{
+    let status = fault(SpoolFault::NotTaken, writer);
+    let folder = asked.folder.as_str();
+    let _ = match asked.wait {
+        None => writeln!(
+            told,
+            "cclib: no server works in {folder}; nothing of the script is done"
+        ),
+        Some(_) => writeln!(
+            told,
+            "cclib: no server took the script; nothing of it is done"
+        ),
+    };
+    let _ = told.flush();
+    status
+}
+
+// Writes what became of a script, and tells a person of it; the status.
+fn finish<R: AllocGlobal, W: Write, E: Write>(
+    rt: &R,
+    done: io::Result<Submission>,
+    asked: &Client,
+    sent: &Sent,
+    writer: &mut W,
+    told: &mut E,
+) -> u8
+    ensures well { done ≡ Ok (Answered None) → result ≡ 0 }
+    ensures fault { done ≢ Ok (Answered None) → result ≡ 1 }
+{
+    let folder = asked.folder.as_str();
+    match &done {
+        Ok(Submission::Answered(None)) => 0,
+        Ok(Submission::Answered(Some(number))) => {
+            let _ = explain(rt, *number, sent, told);
+            1
+        }
+        Ok(Submission::NotTaken) => not_taken(asked, writer, told),
+        Ok(Submission::Unread) => {
+            let _ = writer.write_all(READ_FAULT);
+            let _ = writer.flush();
+            1
+        }
+        Ok(Submission::Unwritten(name)) => {
+            let _ = writeln!(
+                told,
+                "cclib: the answer could not be written; it stays as {folder}/done/{name}"
+            );
+            let _ = told.flush();
+            1
+        }
+        Ok(Submission::CutShort(name, why)) => {
+            // What was written of the answer may have ended within a line.
+            let _ = writer.write_all(b"\n");
+            folder_fault(folder, why, Some(name.as_str()), writer, told)
+        }
+        Ok(Submission::Lost(name, why)) => folder_fault(
+            folder,
+            why,
+            Some(name.as_str()),
+            writer,
+            told,
+        ),
+        Err(why) => folder_fault(folder, why, None, writer, told),
+    }
+}
+
+/// Leaves a script for the server of a folder, and prints its answer; the status. The error is lack of memory before it began.
+pub fn submit_script<R, E: Write + Drop>(
+    rt: &R,
+    process: u32,
+    asked: &Client,
+    persons: Persons,
+    errors: E,
+) -> Result<u8, AllocError>
+where
+    R: AllocGlobal + Files<File = File> + Clock + Input + Print + Copy + Clone + Drop,
+{
+    let alloc = rt.alloc();
+    let (Ok(mut writer), Ok(errors)) = (
+        BufWriter::new(alloc, io::writer(rt)),
+        BufWriter::new(alloc, errors),
+    ) else {
+        return Err(AllocError);
+    };
+    let mut told = Telling {
+        errors,
+        is_quiet: persons.is_quiet,
+    };
+    let layout = Layout::new(*rt, alloc, asked.folder.as_str())?;
+    let sent = match sent_of(rt, alloc, asked.line.as_ref()) {
+        Ok(Some(sent)) => sent,
+        Ok(None) => {
+            let _ = told.errors.write_all(NO_COMMAND.as_bytes());
+            let _ = told.errors.flush();
+            return Ok(2);
+        }
+        Err(_) => {
+            let _ = writer.write_all(READ_FAULT);
+            let _ = writer.flush();
+            return Ok(1);
+        }
+    };
+    // That it waits is told to who sees it, and not to a file.
+    told.is_quiet = persons.is_quiet || !persons.is_watched;
+    let done = send(
+        rt,
+        &layout,
+        process,
+        asked.wait,
+        &sent,
+        &mut writer,
+        &mut told,
+    );
+    told.is_quiet = persons.is_quiet;
+    let status = finish(rt, done, asked, &sent, &mut writer, &mut told);
+    drop(sent);
+    Ok(status)
+}

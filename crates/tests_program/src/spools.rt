@@ -1,0 +1,178 @@
+// The command lines of a server and its clients.
+
+use crate::words::is_refused;
+use cc_command_line::{Client, Server, Work, line};
+use std::alloc::Global;
+
+// What a command line asks of a server, of the file `a.disk` and the folder `spool`.
+#[derive(Clone, Copy)]
+struct Asked {
+    words: &'static [&'static str],
+    area: Option<u32>,
+    workers: usize,
+    clients: usize,
+    keep: u32,
+}
+
+static SERVERS: [Asked; 3] = [
+    Asked {
+        words: &["cclib", "serve", "a.disk", "spool"],
+        area: None,
+        workers: 2,
+        clients: 4,
+        keep: 7,
+    },
+    Asked {
+        words: &[
+            "cclib",
+            "serve",
+            "--format",
+            "1073741824",
+            "a.disk",
+            "--workers=8",
+            "spool",
+            "--clients",
+            "64",
+            "--keep",
+            "3650",
+        ],
+        area: Some(1_073_741_824),
+        workers: 8,
+        clients: 64,
+        keep: 3650,
+    },
+    Asked {
+        words: &[
+            "cclib",
+            "serve",
+            "a.disk",
+            "spool",
+            "--format=64",
+            "--workers=1",
+            "--clients=1",
+            "--keep=1",
+        ],
+        area: Some(64),
+        workers: 1,
+        clients: 1,
+        keep: 1,
+    },
+];
+
+fn asks_for_server(alloc: Global, asked: &Asked) -> bool {
+    match line(alloc, asked.words) {
+        Ok(
+            Work::Serve(
+                Server {
+                    disk,
+                    folder,
+                    area,
+                    workers,
+                    clients,
+                    keep,
+                },
+            ),
+        ) => {
+            disk.as_str() == "a.disk"
+                && folder.as_str() == "spool"
+                && area == asked.area
+                && workers == asked.workers
+                && clients == asked.clients
+                && keep == asked.keep
+        }
+        other => {
+            drop(other);
+            false
+        }
+    }
+}
+
+#[test]
+fn servers(rt: HostRuntime) {
+    for asked in SERVERS.iter() {
+        assert!(rt; asks_for_server(rt.alloc(), asked));
+    }
+}
+
+// Command lines of clients of the folder `spool`, with the line of a script that each asks for, and for how many seconds it waits.
+static CLIENTS: [(&[&str], Option<&str>, Option<u32>); 5] = [
+    (&["cclib", "submit", "spool"], None, None),
+    (
+        &["cclib", "submit", "spool", "add", "quotient"],
+        Some("add quotient"),
+        None,
+    ),
+    (
+        &[
+            "cclib", "submit", "--wait", "86400", "spool", "run", "a", "1000",
+        ],
+        Some("run a 1000"),
+        Some(86_400),
+    ),
+    (
+        &["cclib", "submit", "spool", "--wait=1", "list"],
+        Some("list"),
+        Some(1),
+    ),
+    (
+        &["cclib", "submit", "spool", "hello", "world"],
+        Some("hello world"),
+        None,
+    ),
+];
+
+fn is_line(line: &Option<String>, wanted: Option<&str>) -> bool {
+    match (line, wanted) {
+        (Some(line), Some(wanted)) => line.as_str() == wanted,
+        (None, None) => true,
+        _ => false,
+    }
+}
+
+fn asks_for_client(
+    alloc: Global,
+    words: &'static [&'static str],
+    wanted: Option<&str>,
+    seconds: Option<u32>,
+) -> bool {
+    match line(alloc, words) {
+        Ok(Work::Submit(Client { folder, line, wait })) => {
+            folder.as_str() == "spool" && is_line(&line, wanted) && wait == seconds
+        }
+        other => {
+            drop(other);
+            false
+        }
+    }
+}
+
+#[test]
+fn clients(rt: HostRuntime) {
+    for (words, wanted, seconds) in CLIENTS.iter() {
+        assert!(rt; asks_for_client(rt.alloc(), words, *wanted, *seconds));
+    }
+}
+
+static REFUSED: [&[&str]; 14] = [
+    &["cclib", "serve"],
+    &["cclib", "serve", "a.disk"],
+    &["cclib", "serve", "a.disk", "spool", "more"],
+    &["cclib", "serve", "a.disk", "spool", "--format", "63"],
+    &["cclib", "serve", "a.disk", "spool", "--workers", "9"],
+    &["cclib", "serve", "a.disk", "spool", "--clients", "0"],
+    &["cclib", "serve", "a.disk", "spool", "--clients", "65"],
+    &["cclib", "serve", "a.disk", "spool", "--keep", "0"],
+    &["cclib", "serve", "a.disk", "spool", "--keep", "3651"],
+    &["cclib", "submit"],
+    &["cclib", "submit", "spool", "--wait", "0"],
+    &["cclib", "submit", "spool", "--wait", "86401"],
+    &["cclib", "submit", "spool", "add", "a b"],
+    &["cclib", "submit", "spool", "add", "a\nlist"],
+];
+
+#[test]
+fn refused_servers_and_clients(rt: HostRuntime) {
+    for words in REFUSED.iter() {
+        assert!(rt; is_refused(rt.alloc(), words));
+    }
+}
