@@ -3,7 +3,8 @@
 
 compare.py [COUNT] [SEED]: COUNT programs (100), from a seed (1). The programs have both types, casts, all operators, arrays of words and of bytes, locals,
 functions of up to eight parameters without side effects, words of the input and all statements but goto; shifts and divisions are
-guarded, and sums wrap (-fwrapv). The words have to be the same, and the word that main returns; gcc tells only the last eight bits of
+guarded, and sums wrap (-fwrapv). Every second program has more objects between its own, so that some of these lie beyond the first 4 KiB of
+the globals, or across their end. The words have to be the same, and the word that main returns; gcc tells only the last eight bits of
 that. A program in which an operation goes wrong is passed over, once it is seen that it is compiled. The program has to be built
 (./cclib --help), or CCLIB names one that is. The text of a program with other words is printed."""
 
@@ -114,8 +115,18 @@ class Writer:
             return f"for(int {n}=0;{n}<{turns};{n}++){{{s()}{leave}{s()}}}"
         return f"{{int {n}={turns};do{{{s()}{n}--;}}while({n}>0);}}"
 
-    def program(self):
-        return BEGIN + "".join(self.statement(3) + "\n" for _ in range(40)) + "return a;\n}\n"
+    def begin(self, seed):
+        """The objects and the helpers; of an odd seed with up to 5,000 words between two objects, mostly so few that the 4 KiB end among them."""
+        pads = random.Random(-seed)
+        lines = BEGIN.splitlines(keepends=True)
+        for at in range(5, 0, -1) if seed % 2 else ():
+            if pads.random() < 0.6:
+                size = pads.choice([1, 3, 250, 900, 1016, 1020, 1024, pads.randrange(1, 5000)])
+                lines.insert(at, f"{pads.choice(['int', 'unsigned char'])} pad{at}[{size}];\n")
+        return "".join(lines)
+
+    def program(self, seed):
+        return self.begin(seed) + "".join(self.statement(3) + "\n" for _ in range(40)) + "return a;\n}\n"
 
 
 def lines_of(command, text=""):
@@ -155,7 +166,7 @@ def main():
     same, words, passed_over, other = 0, 0, 0, 0
     with tempfile.TemporaryDirectory() as room:
         for seed in range(first, first + count):
-            text = Writer(seed).program()
+            text = Writer(seed).program(seed)
             found = judged(text, room)
             if found is None:
                 passed_over += 1
