@@ -213,13 +213,13 @@ fn code_lines(alloc: Global, text: &str) -> Result<Vec<u8>, AllocError> {
 
 // A listing behind its first three lines, which are the start.
 fn behind_start(listing: &[u8]) -> &[u8] {
-    let mut lines = 0u32;
+    let mut left = 3u32;
     for at in 0..listing.len() {
-        if lines == 3 {
+        if left == 0 {
             return &listing[at..];
         }
         if listing[at] == b'\n' {
-            lines += 1;
+            left -= 1;
         }
     }
     b""
