@@ -68,6 +68,13 @@ fn write_step<W: Write>(step: &Step, writer: &mut W) -> io::Result<()> {
             let mark = width.mark();
             write!(writer, "{mark}object{object}[{number}] = {from}")
         }
+        Step::Branch { .. } | Step::BranchImmediate { .. } => write_branch(step, writer),
+    }
+}
+
+// Writes a step that compares, and no other.
+fn write_branch<W: Write>(step: &Step, writer: &mut W) -> io::Result<()> {
+    match step {
         Step::Branch {
             operator,
             nonzero,
@@ -87,6 +94,9 @@ fn write_step<W: Write>(step: &Step, writer: &mut W) -> io::Result<()> {
         } => {
             let (sense, name) = (sense(*nonzero), immediate_name(*operator));
             write!(writer, "branch {sense}{name} {from}, {word} -> {to}")
+        }
+        Step::One(_) | Step::Immediate { .. } | Step::LoadAt { .. } | Step::StoreAt { .. } => {
+            Ok(())
         }
     }
 }
