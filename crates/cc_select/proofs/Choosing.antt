@@ -33,24 +33,24 @@ use Rattle.cc_select.proofs.Choices.{nonzero_gives, zero_gives, binary_gives, lo
 abbrev pub Holds : Known → Locations → Type 0
 Holds k l = (r w : ℕ) → k r ≡ Some w → l (Register r) ≡ w
 
-unknown_holds : (l : Locations) → Holds unknown l
+pub unknown_holds : (l : Locations) → Holds unknown l
 unknown_holds l r w e = none_some w e
 
-forget_holds : (to v : ℕ) (k : Known) (l : Locations) → Holds k l → Holds (forget to k) (put (Register to) v l)
+pub forget_holds : (to v : ℕ) (k : Known) (l : Locations) → Holds k l → Holds (forget to k) (put (Register to) v l)
 forget_holds to v k l h r w e = by (to == r) e
   where
     by : (b : Bool) → (if b then None else k r) ≡ Some w → (if b then v else l (Register r)) ≡ w
     by true e = none_some w e
     by false e = h r w e
 
-learn_holds : (to v : ℕ) (k : Known) (l : Locations) → Holds k l → Holds (learn to v k) (put (Register to) v l)
+pub learn_holds : (to v : ℕ) (k : Known) (l : Locations) → Holds k l → Holds (learn to v k) (put (Register to) v l)
 learn_holds to v k l h r w e = by (to == r) e
   where
     by : (b : Bool) → (if b then Some v else k r) ≡ Some w → (if b then v else l (Register r)) ≡ w
     by true e = cc
     by false e = h r w e
 
-call_holds : (v : ℕ) (ws : List ℕ) (k : Known) (l : Locations) → Holds k l → Holds (λ r. if survives r then k r else None) (put (Register 10) v (after_call ws l))
+pub call_holds : (v : ℕ) (ws : List ℕ) (k : Known) (l : Locations) → Holds k l → Holds (λ r. if survives r then k r else None) (put (Register 10) v (after_call ws l))
 call_holds v ws k l h r w e = by (10 == r) refl (survives r) refl e
   where
     ten : survives 10 ≡ false

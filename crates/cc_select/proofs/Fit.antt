@@ -15,14 +15,16 @@ use Rattle.cc_select.specs.declared.step.Step.{Step}
 use Rattle.cc_select.specs.declared.step.Step.TheVariants.{One}
 use Rattle.cc_select.specs.Selected.{labels, IsStep, IsSelected}
 use Rattle.cc_select.specs.Known.{Known, unknown, forget, learn, known_behind, choose, chosen}
+use Rattle.cc_select.specs.Threading.{threaded}
 use Rattle.cc_select.specs.Live.{Registers, live}
 use Rattle.cc_select.specs.Table.{table}
-use Rattle.cc_select.specs.Selection.{lean, Test, test_of, behind, Truth, truth_of, is_alone, joined, fused, selected}
+use Rattle.cc_select.specs.Selection.{lean, Test, test_of, behind, Truth, truth_of, is_alone, joined, fused, trimmed, selected}
 use Rattle.cc_select.proofs.Basics.{none_some, either_way}
 use Rattle.cc_select.proofs.Places.{IsThere, there_labels}
 use Rattle.cc_select.proofs.Forms.{right_is, left_is}
 use Rattle.cc_select.proofs.Choices.{nonzero_gives, zero_gives, binary_gives, load_gives, store_gives, nonzero_there, zero_there, binary_there, load_there, store_there}
 use Rattle.cc_select.proofs.Fused.{is_truth}
+use Rattle.cc_select.proofs.Threading_fits.{threaded_linear}
 
 -- ---- labels
 
@@ -61,8 +63,8 @@ fused_labels at [] = refl
 fused_labels at (One (Label n) ∷ steps) = ap (λ (ls : List ℕ). n ∷ ls) (fused_labels at steps)
 fused_labels at (s ∷ steps) = joined_labels at s (truth_of s) (test_of steps) steps refl refl tt ∙ fused_labels at steps
 
-pub selected_labels : (is : List linear.Item) → labels (selected is) ≡ above.labels is
-selected_labels is =
+trimmed_labels : (is : List linear.Item) → labels (trimmed (chosen unknown is)) ≡ above.labels is
+trimmed_labels is =
     let steps = chosen unknown is in
     fused_labels (table steps) (lean (table steps) steps) ∙ lean_labels (table steps) steps ∙ chosen_labels unknown is
 
@@ -161,18 +163,21 @@ module _ (slots functions : ℕ) (all : List ℕ) where
   fused_fits at [] f = tt
   fused_fits at (s ∷ steps) f = joined_fits at s (truth_of s) (test_of steps) steps (fused at steps) refl refl f.0 f.1 (fused_fits at steps f.1)
 
-  selected_fits : (is : List linear.Item) → AllByRecursion (IsItem slots functions all) is → AreFit (selected is)
-  selected_fits is f =
+  trimmed_fits : (is : List linear.Item) → AllByRecursion (IsItem slots functions all) is → AreFit (trimmed (chosen unknown is))
+  trimmed_fits is f =
       let steps = chosen unknown is in
       fused_fits (table steps) (lean (table steps) steps) (lean_fits (table steps) steps (chosen_fits is unknown f words_unknown))
 
 -- ---- the whole
 
-pub is_selected : (slots functions : ℕ) (is : List linear.Item) → IsLinear slots functions is → IsSelected slots functions (selected is)
-is_selected slots functions is p =
-    let e = sym (selected_labels is) in
+are_trimmed : (slots functions : ℕ) (is : List linear.Item) → IsLinear slots functions is → IsSelected slots functions (trimmed (chosen unknown is))
+are_trimmed slots functions is p =
+    let e = sym (trimmed_labels is) in
     record {
       few = p.few;
       distinct = subst (λ (ls : List ℕ). AllPairs (λ (a b : ℕ). a ≢ b) ls) e p.distinct;
-      fit = subst (λ (ls : List ℕ). AllByRecursion (IsStep slots functions ls) (selected is)) e (selected_fits slots functions (above.labels is) is p.fit);
+      fit = subst (λ (ls : List ℕ). AllByRecursion (IsStep slots functions ls) (trimmed (chosen unknown is))) e (trimmed_fits slots functions (above.labels is) is p.fit);
     }
+
+pub is_selected : (slots functions : ℕ) (is : List linear.Item) → IsLinear slots functions is → IsSelected slots functions (selected is)
+is_selected slots functions is p = are_trimmed slots functions (threaded is) (threaded_linear slots functions is p)

@@ -1,15 +1,13 @@
--- What is known, as the code keeps it: a set of registers and a word for each. And the steps so far with those of the items to come.
-use Rattle.std.proofs.Common.{◌≡◌, ℕ, ◌+◌, ◌<◌, List, [], ◌∷◌, ◌++◌, length, get_or, set, drop, refl, sym, ap, ◌∙◌, Bool, true, false, ◌==◌, ◌&&◌, ◌||◌, not, if◌then◌else◌, Option, Some, None, inl, inr, append_assoc}
+-- What is known, as the code keeps it: a set of registers and a word for each.
+use Rattle.std.proofs.Common.{◌≡◌, ℕ, ◌<◌, List, length, get_or, set, refl, sym, ap, ◌∙◌, Bool, true, false, ◌==◌, ◌&&◌, ◌||◌, not, if◌then◌else◌, Option, Some, None, inl, inr}
 use Rattle.std.proofs.Math.Path.{fun_ext}
-use Rattle.std.proofs.lemmas.List.{get_or-set_same, get_or-set_other, drop_more}
+use Rattle.std.proofs.lemmas.List.{get_or-set_same, get_or-set_other}
 use Rattle.std.proofs.lemmas.Bool.Decides.{eqb_tells}
 use Rattle.cc_runs.specs.Unknown.{survives}
-use Rattle.cc_linear.specs.declared.item.Item.{Item}
-use Rattle.cc_select.specs.declared.step.Step.{Step}
 use Rattle.cc_select.specs.declared.registers.Registers as bits
 use Rattle.cc_select.specs.declared.known.Known as found
 use Rattle.cc_select.specs.Live.{nothing, with, without}
-use Rattle.cc_select.specs.Known.{Known, unknown, forget, learn, known_behind, choose, chosen}
+use Rattle.cc_select.specs.Known.{unknown, forget, learn}
 use Rattle.cc_select.specs.internal.Sets.{holds, surviving, known_in, kept_by_call}
 
 abbrev made : (some : bits.Registers) → (words : List ℕ) → found.Known
@@ -49,19 +47,3 @@ some_survive s s' words e = fun_ext (λ r. ap (λ (b : Bool). if b then Some (ge
     here : (b h : Bool) (x : Option ℕ) → (if b && h then x else None) ≡ (if b then (if h then x else None) else None)
     here true h x = refl
     here false h x = refl
-
--- ---- the walk
-
--- the steps so far, and those of the items to come, are all
-abbrev pub Chosen : List Item → (index : ℕ) → Known → List Step → Type 0
-Chosen items i k steps = steps ++ chosen k (drop i items) ≡ chosen unknown items
-
-pub one_chosen : (items : List Item) (i : ℕ) (item : Item) (k k' : Known) (steps steps' : List Step) → i < length items → item ≡ get_or items i item → steps' ≡ steps ++ (choose k item ∷ []) → k' ≡ known_behind item k
-    → Chosen items i k steps → Chosen items (i + 1) k' steps'
-one_chosen items i item k k' steps steps' lt is put behind so_far =
-    let rest : drop i items ≡ item ∷ drop (i + 1) items = drop_more items i item lt ∙ ap (λ x. x ∷ drop (i + 1) items) (sym is) in
-    ap (λ xs. xs ++ chosen k' (drop (i + 1) items)) put
-    ∙ append_assoc steps (choose k item ∷ []) (chosen k' (drop (i + 1) items))
-    ∙ ap (λ n. steps ++ (choose k item ∷ chosen n (drop (i + 1) items))) behind
-    ∙ ap (λ xs. steps ++ chosen k xs) (sym rest)
-    ∙ so_far

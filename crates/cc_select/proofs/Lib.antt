@@ -30,5 +30,10 @@ pub mod Knowing
 -- the sweeps, and the two passes
 pub mod Sweeping
 pub mod Passing
+-- tests that go before labels, and the run with them there
+pub mod Tests
+pub mod Threaded
+pub mod Threading_fits
+pub mod Gathering
 -- from the pass to a pair
 pub mod Handing

@@ -1,5 +1,5 @@
--- From a pair of Linear to a pair of Selected: the run by the steps of a function's items keeps up with the function, at the rate that the
--- items had, times how many steps there were before constants went, and again before comparisons were joined.
+-- From a pair of Linear to a pair of Selected: the run by the steps of a function's items keeps up with the function, at twice the
+-- rate that the items had, times how many steps there were before constants went, and again before comparisons were joined.
 use Rattle.std.proofs.Common.{ℕ, ◌≤◌, List, length}
 use Rattle.cc_syntax.specs.Tree.{External}
 use Rattle.cc_typing.specs.Typed.{IsWithinLimits}
@@ -8,15 +8,18 @@ use Rattle.cc_runs.specs.Meaning.{Meaning}
 use Rattle.cc_runs.specs.Tracks.{TracksForAll}
 use Rattle.cc_runs.proofs.Simulating.{coarser}
 use Rattle.cc_linear.specs.declared.item.Item as linear
-use Rattle.cc_linear.specs.Linear.{linear_move, linear_output, linear_start}
+use Rattle.cc_linear.specs.Linear.{labels, linear_move, linear_output, linear_start}
 use Rattle.cc_linear.specs.Pair as above
 use Rattle.cc_select.specs.declared.step.Step.{Step}
 use Rattle.cc_select.specs.Selected.{selected_move, selected_output, selected_start}
 use Rattle.cc_select.specs.Known.{unknown, chosen}
+use Rattle.cc_select.specs.Threading.{threaded}
 use Rattle.cc_select.specs.Table.{table}
 use Rattle.cc_select.specs.Selection.{lean, trimmed, selected}
 use Rattle.cc_select.specs.Pair.{IsPair, KeepsUp}
 use Rattle.cc_select.proofs.Settled.{is_settled}
+use Rattle.cc_select.proofs.Tests.{Distinct}
+use Rattle.cc_select.proofs.Threaded.{threaded_tracks}
 use Rattle.cc_select.proofs.Choosing.{chosen_tracks}
 use Rattle.cc_select.proofs.Lean.{lean_settled, lean_tracks}
 use Rattle.cc_select.proofs.Fused.{fused_tracks}
@@ -34,14 +37,19 @@ trimmed_tracks meaning f rate slots steps few keeps =
     let settled = is_settled steps in
     fused_tracks meaning f (coarser rate (length steps)) slots (lean at steps) at (lean_settled at steps settled) few (lean_tracks meaning f rate slots steps at settled few keeps)
 
-pub selected_tracks : (meaning : Meaning) (f rate slots : ℕ) (items : List linear.Item) → ((g : ℕ) → meaning.arity g ≤ 8) → TracksForAll meaning f rate (linear_move meaning.arity items) linear_output (linear_start slots items)
-    → TracksForAll meaning f (trimmed_rate rate (chosen unknown items)) (selected_move meaning.arity (selected items)) selected_output (selected_start slots (selected items))
-selected_tracks meaning f rate slots items few keeps = trimmed_tracks meaning f rate slots (chosen unknown items) few (chosen_tracks meaning f rate slots items keeps)
+abbrev selected_rate : (rate : ℕ) → List linear.Item → ℕ
+selected_rate rate items = trimmed_rate (coarser rate 1) (chosen unknown (threaded items))
 
-pub keeps_up_selected : (unit : List External) (f slots : ℕ) (items : List linear.Item) → IsWithinLimits unit → above.KeepsUp unit f slots items → KeepsUp unit f slots (selected items)
-keeps_up_selected unit f slots items limits (rate, keeps) = (
-  trimmed_rate rate (chosen unknown items),
-  λ meaning is. selected_tracks meaning f rate slots items (few_of_meaning unit meaning limits is) (keeps meaning is),
+pub selected_tracks : (meaning : Meaning) (f rate slots : ℕ) (items : List linear.Item) → Distinct (labels items) → ((g : ℕ) → meaning.arity g ≤ 8)
+    → TracksForAll meaning f rate (linear_move meaning.arity items) linear_output (linear_start slots items)
+    → TracksForAll meaning f (selected_rate rate items) (selected_move meaning.arity (selected items)) selected_output (selected_start slots (selected items))
+selected_tracks meaning f rate slots items distinct few keeps =
+    trimmed_tracks meaning f (coarser rate 1) slots (chosen unknown (threaded items)) few (chosen_tracks meaning f (coarser rate 1) slots (threaded items) (threaded_tracks meaning f rate slots items distinct keeps))
+
+pub keeps_up_selected : (unit : List External) (f slots : ℕ) (items : List linear.Item) → IsWithinLimits unit → Distinct (labels items) → above.KeepsUp unit f slots items → KeepsUp unit f slots (selected items)
+keeps_up_selected unit f slots items limits distinct (rate, keeps) = (
+  selected_rate rate items,
+  λ meaning is. selected_tracks meaning f rate slots items distinct (few_of_meaning unit meaning limits is) (keeps meaning is),
 )
 
 -- with what `TypedUnit::externals` says of the unit's limits
@@ -55,5 +63,5 @@ pair_selected p is limits =
       few = is.few;
       ltl_keeps_up = is.ltl_keeps_up;
       selected = is_selected p.ltl.slots (length (functions unit)) p.code is.linear;
-      keeps_up = keeps_up_selected unit p.function p.ltl.slots p.code limits is.keeps_up;
+      keeps_up = keeps_up_selected unit p.function p.ltl.slots p.code limits is.linear.distinct is.keeps_up;
     }

@@ -1,5 +1,6 @@
--- The steps of a function: constants known from label to label go into the operations that read them; then the constants go that nobody
--- reads, and a comparison and the test of its truth value directly behind it are one, if nobody else reads that value.
+-- The steps of a function: tests go before labels and into jumps (Threading), and constants known from label to label into the operations that
+-- read them (Known); then the constants go that nobody reads, and a comparison and the test of its truth value directly behind it are one, if
+-- nobody else reads that value.
 use Rattle.std.specs.Prelude.{ℕ, Bool, true, false, not, ◌&&◌, ◌==◌, if◌then◌else◌, Option, Some, None, List, [], ◌∷◌}
 use Rattle.cc_words.specs.declared.operators.Unary.TheVariants.{IsZero}
 use Rattle.cc_words.specs.declared.operators.Binary.TheVariants.{Xor, Ne}
@@ -9,6 +10,7 @@ use Rattle.cc_select.specs.declared.step.Step.{Step}
 use Rattle.cc_select.specs.declared.step.Step.TheVariants.{One, Immediate, Branch, BranchImmediate}
 use Rattle.cc_select.specs.Immediates.{is_comparison, gains}
 use Rattle.cc_select.specs.Known.{unknown, chosen}
+use Rattle.cc_select.specs.Threading.{threaded}
 use Rattle.cc_select.specs.Live.{Registers, live}
 use Rattle.cc_select.specs.Table.{table}
 
@@ -77,4 +79,4 @@ trimmed steps = fused (table steps) (lean (table steps) steps)
 
 -- the steps of a function's items
 abbrev pub selected : List linear.Item → List Step
-selected items = trimmed (chosen unknown items)
+selected items = trimmed (chosen unknown (threaded items))

@@ -1,8 +1,8 @@
 //! Which words are known: what the items since the last label say of the registers. An operation of which an operand is known has it as a
 //! word, where it can, an access to an element whose number is known has the number, and a branch that is certain to be taken is a jump.
 
-ghost use Rattle.std.specs.Prelude.{◌≡◌, ◌<◌, None, Some, IfOk};
-ghost use Rattle.cc_select.specs.Known.{unknown, learn, forget, known_behind, choose, chosen, is_taken, with_left, with_number, with_right, with_word};
+ghost use Rattle.std.specs.Prelude.{◌≡◌, ◌<◌, None, Some};
+ghost use Rattle.cc_select.specs.Known.{unknown, learn, forget, known_behind, choose, is_taken, with_left, with_number, with_right, with_word};
 ghost use Rattle.cc_linear.specs.declared.item.Item.TheVariants.{Copy};
 ghost use Rattle.cc_select.specs.declared.step.Step.TheVariants.{LoadAt, StoreAt};
 ghost use Rattle.cc_select.specs.internal.Sets.{known_in, kept_by_call};
@@ -13,7 +13,6 @@ use crate::step::{Immediate, Step};
 use cc_linear::Item;
 use cc_ltl::{Move, Register};
 use cc_words::{Binary, Width};
-use std::alloc::{AllocError, Global};
 
 /// Of which registers a word is known, and which.
 #[derive(Drop)]
@@ -23,8 +22,8 @@ pub(crate) struct Known {
 }
 
 impl Known {
-    // Of none.
-    fn nothing() -> Known
+    /// Of none.
+    pub(crate) fn nothing() -> Known
         ensures { known_in result ≡ unknown }
     {
         Known {
@@ -33,8 +32,8 @@ impl Known {
         }
     }
 
-    // The word of a register, where one is known.
-    fn word(&self, register: Register) -> Option<u32>
+    /// The word of a register, where one is known.
+    pub(crate) fn word(&self, register: Register) -> Option<u32>
         ensures { result ≡ known_in self.now register }
     {
         let register = register.number();
@@ -86,8 +85,8 @@ impl Known {
         }
     }
 
-    // What is known behind an item.
-    fn go_behind(&mut self, item: &Item)
+    /// What is known behind an item.
+    pub(crate) fn go_behind(&mut self, item: &Item)
         ensures { known_in self.new ≡ known_behind item.now (known_in self.old) }
     {
         match *item {
@@ -185,8 +184,8 @@ fn store_at(number: Option<u32>, width: Width, object: u32, from: Register, othe
     }
 }
 
-// Whether a branch on a word that may be known is certain to be taken.
-fn is_taken(nonzero: bool, word: Option<u32>) -> bool
+/// Whether a branch on a word that may be known is certain to be taken.
+pub(crate) fn is_taken(nonzero: bool, word: Option<u32>) -> bool
     ensures { result ≡ is_taken nonzero word }
 {
     match word {
@@ -195,8 +194,8 @@ fn is_taken(nonzero: bool, word: Option<u32>) -> bool
     }
 }
 
-// The step of an item.
-fn choose(known: &Known, item: Item) -> Step
+/// The step of an item.
+pub(crate) fn choose(known: &Known, item: Item) -> Step
     ensures { result ≡ choose (known_in known.now) item }
 {
     match item {
@@ -229,17 +228,4 @@ fn choose(known: &Known, item: Item) -> Step
         } => store_at(known.word(index), width, object, from, Step::One(item)),
         _ => Step::One(item),
     }
-}
-
-/// The steps of a function's items, one for each.
-pub(crate) fn chosen(alloc: Global, items: &[Item]) -> Result<Vec<Step>, AllocError>
-    ensures { IfOk result (λ steps. steps.items ≡ chosen unknown items.now) }
-{
-    let mut known = Known::nothing();
-    let mut steps = Vec::with_capacity(alloc, items.len())?;
-    for item in items {
-        steps.push(choose(&known, *item))?;
-        known.go_behind(item);
-    }
-    Ok(steps)
 }

@@ -1,12 +1,12 @@
 //! Selection: from a function of Linear to the steps that machine code is made of, one by one.
 //!
 //! `step` has the steps, `pair` the type that keeps that a function's steps do what the function does. What one step does is defined in
-//! `specs/Selected.antt`, and which steps stand for a function's items in `specs/Selection.antt`: constants that are known within a
-//! straight piece go into the operations that read them, the constants go that nobody reads then, and a comparison and the branch on its
-//! truth value are one.
+//! `specs/Selected.antt`, and which steps stand for a function's items in `specs/Selection.antt`: tests go before labels and into jumps,
+//! constants that are known within a straight piece go into the operations that read them, the constants go that nobody reads then, and a
+//! comparison and the branch on its truth value are one.
 //!
-//! `selection` is the whole. `immediate` says which operators have a word, `known` walks over the items with the words that are known;
-//! `registers` has sets of registers, `live` which are live before a step, `table` those at labels, and `constants` and `fuse` are the two
+//! `selection` is the whole. `immediate` says which operators have a word, `known` which words are known, and `threading` walks over the items
+//! with them; `registers` has sets of registers, `live` which are live before a step, `table` those at labels, and `constants` and `fuse` are the two
 //! passes that need them.
 #![tactic(auto)]
 
@@ -20,6 +20,7 @@ mod registers;
 mod selection;
 mod step;
 mod table;
+mod threading;
 
 pub use pair::SelectedPair;
 pub use selection::select;

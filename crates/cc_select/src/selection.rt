@@ -7,10 +7,10 @@ ghost use Rattle.cc_select.specs.Selection.{trimmed, selected};
 
 use crate::constants::without_unread;
 use crate::fuse::fused;
-use crate::known::chosen;
 use crate::pair::SelectedPair;
 use crate::step::Step;
 use crate::table::settle;
+use crate::threading::chosen;
 use cc_linear::{Item, LinearPair};
 use cc_typing::TypedUnit;
 use std::alloc::{AllocError, Global};
@@ -44,8 +44,8 @@ fn is_within_limits(unit: &TypedUnit)
     unit.externals();
 }
 
-/// The steps of a function of a unit, those of `specs/Selection.antt`: no more than its items of Linear. That their run keeps up with
-/// the function belongs to the answer's type. The LTL is kept beside them.
+/// The steps of a function of a unit, those of `specs/Selection.antt`: at most one for each item of Linear, and one more for each jump. That
+/// their run keeps up with the function belongs to the answer's type. The LTL is kept beside them.
 ///
 /// It fails only for lack of memory (40); the pair is gone then.
 pub fn select(alloc: Global, pair: LinearPair) -> Result<SelectedPair, AllocError>

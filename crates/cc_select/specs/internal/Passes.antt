@@ -3,6 +3,7 @@ use Rattle.std.specs.Prelude.{ℕ, Bool, true, false, not, ◌&&◌, ◌==◌, i
 use Rattle.cc_words.specs.declared.operators.Unary.TheVariants.{IsZero}
 use Rattle.cc_words.specs.declared.operators.Binary as binary
 use Rattle.cc_words.specs.declared.operators.Binary.TheVariants as operators
+use Rattle.cc_linear.specs.declared.item.Item as linear
 use Rattle.cc_linear.specs.declared.item.Item.TheVariants.{Label, IfNonzero, IfZero, Const, Unary, Binary}
 use Rattle.cc_select.specs.declared.step.Step.{Step}
 use Rattle.cc_select.specs.declared.step.Step.TheVariants.{One, Immediate, Branch, BranchImmediate}
@@ -72,3 +73,11 @@ abbrev pub first_branch : Table → List Step → Option Step
 first_branch t [] = None
 first_branch t (step ∷ []) = None
 first_branch t (step ∷ next ∷ steps) = branch_of t step (test_in next) (next ∷ steps)
+
+-- ---- threading
+
+-- the label to which a branch leads
+abbrev pub branched_to : linear.Item → Option ℕ
+branched_to (IfNonzero from to) = Some to
+branched_to (IfZero from to) = Some to
+branched_to item = None

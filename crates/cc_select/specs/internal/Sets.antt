@@ -6,8 +6,10 @@ use Rattle.cc_select.specs.declared.step.Step.{Step}
 use Rattle.cc_select.specs.declared.registers.Registers as bits
 use Rattle.cc_select.specs.declared.live.LiveTable as rows
 use Rattle.cc_select.specs.declared.known.Known as found
+use Rattle.cc_select.specs.declared.threading.Tests as gone
 use Rattle.cc_select.specs.Live.{Registers, is_argument, live}
 use Rattle.cc_select.specs.Known.{Known}
+use Rattle.cc_select.specs.Threading.{Tests}
 use Rattle.cc_select.specs.Table.{Table, all_below}
 
 -- ---- sets
@@ -61,3 +63,7 @@ SameTable s t = (label : ℕ) → Same (s label) (t label)
 -- a set for each step: what is live behind it
 abbrev pub AreBehind : Table → List Step → List bits.Registers → Type 0
 AreBehind t steps sets = (j : ℕ) (d : bits.Registers) → j < length steps → Same (holds (get_or sets j d)) (live t (drop (j + 1) steps))
+
+-- the test that goes before a label
+abbrev pub tests_in : gone.Tests → Tests
+tests_in t label = get_or t.rows.items label None

@@ -304,13 +304,14 @@ another_register : selected (Binary operators.LtS 10 10 11 ∷ IfNonzero 12 1 �
 unfolding table
 another_register = refl
 
--- ---- a loop: its back jump asks for a second sweep; the constant in it goes, those before it stay
+-- ---- a loop: its back jump asks for a second sweep; the constant in it goes, those before it stay, and its test goes before its label and into
+-- its back jump
 
 abbrev loop : List linear.Item
 loop = Const 18 10 ∷ Const 19 0 ∷ Label 7 ∷ IfZero 18 9 ∷ Binary operators.Add 19 19 18 ∷ Const 7 1 ∷ Binary operators.Sub 18 18 7 ∷ Jump 7 ∷ Label 9 ∷ Copy (Between 10 19) ∷ Return ∷ []
 
 loop_selected : selected loop
-    ≡ One (Const 18 10) ∷ One (Const 19 0) ∷ One (Label 7) ∷ One (IfZero 18 9) ∷ One (Binary operators.Add 19 19 18) ∷ Immediate immediate.Sub 18 18 1 ∷ One (Jump 7) ∷ One (Label 9) ∷ One (Copy (Between 10 19)) ∷ One Return ∷ []
+    ≡ One (Const 18 10) ∷ One (Const 19 0) ∷ One (Jump 7) ∷ One (Label 7) ∷ One (Binary operators.Add 19 19 18) ∷ Immediate immediate.Sub 18 18 1 ∷ One (IfZero 18 9) ∷ One (Jump 7) ∷ One (Label 9) ∷ One (Copy (Between 10 19)) ∷ One Return ∷ []
 unfolding table
 loop_selected = refl
 

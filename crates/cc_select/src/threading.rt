@@ -1,0 +1,249 @@
+//! Jump threading: a test that stands directly behind a label goes before the label and into each jump there, if only jumps lead to the label.
+//! So a truth value is tested where it is made, and a jump takes the place of the test where the value is known. The steps of the items are
+//! chosen as they come.
+//!
+//! Two walks make the table of these tests: from the back, the test behind each label, and then none for the labels that branches lead to.
+
+ghost use Rattle.std.specs.Prelude.{◌≡◌, ◌++◌, ◌∷◌, [], ℕ, drop, None, false, not, IfOk, if◌then◌else◌, ◌==◌};
+ghost use Rattle.cc_linear.specs.declared.item.Item.TheVariants.{Jump};
+ghost use Rattle.cc_select.specs.Known.{unknown, is_taken, chosen};
+ghost use Rattle.cc_select.specs.Threading.{branches_to, first_test, test_behind, tests, way, is_jump, before_label, before_jump, in_jump, piece, is_before_gone, threaded_by, threaded};
+ghost use Rattle.cc_select.specs.internal.Sets.{known_in, tests_in};
+ghost use Rattle.cc_select.specs.internal.Passes.{branched_to};
+
+use crate::known::{Known, choose, is_taken};
+use crate::step::Step;
+use cc_linear::Item;
+use std::alloc::{AllocError, Global};
+
+/// The test that goes before each label, by its number.
+#[derive(Drop)]
+struct Tests {
+    rows: Vec<Option<Item>>,
+}
+
+impl Tests {
+    // That of a label.
+    fn row(&self, label: u32) -> Option<Item>
+        ensures { result ≡ tests_in self.now label }
+    {
+        match self.rows.get(label as usize) {
+            Some(row) => *row,
+            None => None,
+        }
+    }
+
+    // Puts that of a label in. Without memory all stays as it was.
+    fn put(&mut self, label: u32, row: Option<Item>) -> Result<(), AllocError>
+        ensures { IfOk result (λ _. (n : ℕ) → tests_in self.new n ≡ (if label == n then row else tests_in self.old n)) }
+    {
+        let at = label as usize;
+        if self.rows.len() <= at {
+            self.rows.resize(at + 1, None)?;
+        }
+        self.rows[at] = row;
+        Ok(())
+    }
+}
+
+// The test that these items have at a place.
+fn first_test(items: &[Item], at: usize) -> Option<Item>
+    ensures { result ≡ first_test (drop at items.now) }
+{
+    match items.get(at) {
+        Some(Item::IfNonzero { from, to }) => Some(Item::IfNonzero {
+            from: *from,
+            to: *to,
+        }),
+        Some(Item::IfZero { from, to }) => Some(Item::IfZero {
+            from: *from,
+            to: *to,
+        }),
+        _ => None,
+    }
+}
+
+// The test directly behind each label.
+fn tests_behind(alloc: Global, items: &[Item]) -> Result<Tests, AllocError>
+    ensures { IfOk result (λ found. (n : ℕ) → tests_in found n ≡ test_behind items.now n) }
+{
+    let mut found = Tests {
+        rows: Vec::new(alloc),
+    };
+    let mut at = items.len();
+    while at > 0 {
+        at -= 1;
+        if let Item::Label { label } = items[at] {
+            found.put(label, first_test(items, at + 1))?;
+        }
+    }
+    Ok(found)
+}
+
+// The label that an item may lead to beside the next item.
+fn branched_to(item: &Item) -> Option<u32>
+    ensures { result ≡ branched_to item.now }
+{
+    match item {
+        Item::IfNonzero { to, .. } | Item::IfZero { to, .. } => Some(*to),
+        _ => None,
+    }
+}
+
+// None for the labels to which branches lead.
+fn without_branched(found: &mut Tests, items: &[Item]) -> Result<(), AllocError>
+    ensures { IfOk result (λ _. (n : ℕ) → tests_in found.new n ≡ (if branches_to items.now n then None else tests_in found.old n)) }
+{
+    for item in items {
+        if let Some(to) = branched_to(item) {
+            found.put(to, None)?;
+        }
+    }
+    Ok(())
+}
+
+// The tests that go before labels.
+fn find_tests(alloc: Global, items: &[Item]) -> Result<Tests, AllocError>
+    ensures { IfOk result (λ found. (n : ℕ) → tests_in found n ≡ tests items.now n) }
+{
+    let mut found = tests_behind(alloc, items)?;
+    without_branched(&mut found, items)?;
+    Ok(found)
+}
+
+// What is done in place of a test: a jump to one of two labels where the word is known, else the test.
+fn decided(nonzero: bool, word: Option<u32>, to: u32, label: u32, test: Item) -> Item
+    ensures { result ≡ (if is_taken nonzero word then Jump to else (if is_taken (not nonzero) word then Jump label else test)) }
+{
+    if is_taken(nonzero, word) {
+        Item::Jump { to }
+    } else if is_taken(!nonzero, word) {
+        Item::Jump { to: label }
+    } else {
+        test
+    }
+}
+
+// A test before a jump to a label or the label itself.
+fn way(known: &Known, test: Item, label: u32) -> Item
+    ensures { result ≡ way (known_in known.now) test label }
+{
+    match test {
+        Item::IfNonzero { from, to } => decided(true, known.word(from), to, label, test),
+        Item::IfZero { from, to } => decided(false, known.word(from), to, label, test),
+        _ => test,
+    }
+}
+
+// Whether an item is a jump.
+fn is_jump(item: &Item) -> bool
+    ensures { result ≡ is_jump item.now }
+{
+    matches!(item, Item::Jump { .. })
+}
+
+// Pushes the steps of a label and of the test that goes before it.
+fn push_label(
+    steps: &mut Vec<Step>,
+    tests: &Tests,
+    known: &Known,
+    label: u32,
+) -> Result<(), AllocError>
+    ensures { IfOk result (λ _. steps.new.items ≡ steps.old.items ++ chosen (known_in known.now) (before_label (known_in known.now) (tests_in tests.now label) label)) }
+{
+    if let Some(test) = tests.row(label) {
+        steps.push(choose(known, way(known, test, label)))?;
+    }
+    steps.push(Step::One(Item::Label { label }))?;
+    Ok(())
+}
+
+// Pushes the step of an item, and a jump to the label behind it unless the item is `alone`.
+fn push_step(
+    steps: &mut Vec<Step>,
+    known: &Known,
+    item: Item,
+    label: u32,
+    alone: bool,
+) -> Result<(), AllocError>
+    ensures { IfOk result (λ _. steps.new.items ≡ steps.old.items ++ chosen (known_in known.now) (item ∷ (if alone then [] else Jump label ∷ []))) }
+{
+    steps.push(choose(known, item))?;
+    if !alone {
+        steps.push(Step::One(Item::Jump { to: label }))?;
+    }
+    Ok(())
+}
+
+// Pushes the steps of a jump to a label and of the test that goes before the label.
+fn push_jump(
+    steps: &mut Vec<Step>,
+    tests: &Tests,
+    known: &Known,
+    label: u32,
+) -> Result<(), AllocError>
+    ensures { IfOk result (λ _. steps.new.items ≡ steps.old.items ++ chosen (known_in known.now) (in_jump (known_in known.now) (tests_in tests.now label) label)) }
+{
+    match tests.row(label) {
+        Some(test) => {
+            let way = way(known, test, label);
+            let alone = is_jump(&way);
+            push_step(steps, known, way, label, alone)
+        }
+        None => push_step(steps, known, Item::Jump { to: label }, label, true),
+    }
+}
+
+// Pushes the steps of what stands for an item.
+fn push_piece(
+    steps: &mut Vec<Step>,
+    tests: &Tests,
+    known: &Known,
+    item: Item,
+) -> Result<(), AllocError>
+    ensures { IfOk result (λ _. steps.new.items ≡ steps.old.items ++ chosen (known_in known.now) (piece (tests_in tests.now) (known_in known.now) item)) }
+{
+    match item {
+        Item::Label { label } => push_label(steps, tests, known, label),
+        Item::Jump { to } => push_jump(steps, tests, known, to),
+        _ => push_step(steps, known, item, 0, true),
+    }
+}
+
+// Whether the item behind this one is a test that has gone before its label.
+fn is_before_gone(tests: &Tests, item: &Item) -> bool
+    ensures { result ≡ is_before_gone (tests_in tests.now) item.now }
+{
+    match item {
+        Item::Label { label } => tests.row(*label).is_some(),
+        _ => false,
+    }
+}
+
+// The steps of the items with these tests before labels.
+fn chosen_by(alloc: Global, tests: &Tests, items: &[Item]) -> Result<Vec<Step>, AllocError>
+    ensures { IfOk result (λ steps. steps.items ≡ chosen unknown (threaded_by (tests_in tests.now) unknown false items.now)) }
+{
+    let mut known = Known::nothing();
+    let mut steps = Vec::with_capacity(alloc, items.len())?;
+    let mut gone = false;
+    for item in items {
+        if gone {
+            gone = false;
+        } else {
+            push_piece(&mut steps, tests, &known, *item)?;
+            gone = is_before_gone(tests, item);
+            known.go_behind(item);
+        }
+    }
+    Ok(steps)
+}
+
+/// The steps of a function's items with tests before the labels to which only jumps lead: one for each item, and at most one more for each
+/// jump.
+pub(crate) fn chosen(alloc: Global, items: &[Item]) -> Result<Vec<Step>, AllocError>
+    ensures { IfOk result (λ steps. steps.items ≡ chosen unknown (threaded items.now)) }
+{
+    let tests = find_tests(alloc, items)?;
+    chosen_by(alloc, &tests, items)
+}
