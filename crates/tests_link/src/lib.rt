@@ -1,5 +1,6 @@
 //! Tests of the compiler from text to run: the worked rows, the pieces of a unit in every order, each refusal, the limits, comparisons with
-//! constants, and eight programs whose words are gcc's. `audits` has those of the audit, `build` those of the protocol core with the build that compiles.
+//! constants, and eight programs whose words are gcc's. `audits` has those of the audit, `build` those of the protocol core with the build that compiles,
+//! `stages` those of what is shown of each stage.
 #![tactic(auto)]
 
 #[cfg(test)]
@@ -26,3 +27,5 @@ mod refusals;
 mod registers;
 #[cfg(test)]
 mod rows;
+#[cfg(test)]
+mod stages;

@@ -1,0 +1,8 @@
+-- Which names are those of functions.
+use Rattle.std.specs.Prelude.{ℕ, ◌≡◌, List, Some, slice_get}
+use Rattle.cc_syntax.specs.Tree.{Source}
+use Rattle.cc_typing.specs.Typed.{defined_names}
+
+-- the unit defines a function of this name
+abbrev pub IsDefined : Source → (name : List ℕ) → Type 0
+IsDefined s name = (f : ℕ) × (slice_get (defined_names s) f ≡ Some name)

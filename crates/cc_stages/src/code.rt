@@ -1,0 +1,136 @@
+//! The listing of a unit's image, and where in it each function's lines stand: behind three lines, those of the start that calls `main`, the
+//! functions follow one another in the order of their definitions, a line for each word.
+
+ghost use Rattle.std.specs.Prelude.{◌≡◌, IfErr};
+ghost use Rattle.cc_stages.specs.declared.fault.StagesFault.TheVariants.{UnknownFunction};
+
+use crate::fault::StagesFault;
+use cc_emit::Piece;
+use cc_link::{compile_function, link};
+use cc_rv32::listing::list;
+use cc_typing::TypedUnit;
+use std::alloc::{AllocError, Global};
+use std::sync::Arc;
+
+// How many words stand before the functions.
+const START_WORDS: usize = 3;
+
+/// The listing of a unit's image.
+#[derive(Drop)]
+pub(crate) struct Listing {
+    lines: Vec<u8>,
+    // Where the lines of function k begin, at k, and where those of the last one end.
+    places: Vec<usize>,
+}
+
+impl Listing {
+    /// The lines of a function's code, none where the unit has no such function.
+    pub(crate) fn of_function(&self, function: usize) -> &[u8] {
+        let from = self.places.get(function).copied();
+        let to = self.places.get(function.saturating_add(1)).copied();
+        match (from, to) {
+            (Some(from), Some(to)) => self.lines.get(from..to).unwrap_or(b""),
+            _ => b"",
+        }
+    }
+}
+
+// The pieces of a unit's functions, in their order.
+fn pieces(alloc: Global, unit: &Arc<TypedUnit>) -> Result<Vec<Piece>, StagesFault>
+    ensures { IfErr result (λ fault. ¬ (fault ≡ UnknownFunction)) }
+{
+    let mut pieces = Vec::new(alloc);
+    for function in 0..unit.functions() {
+        let piece = match compile_function(alloc, unit, function) {
+            Ok(piece) => piece,
+            Err(fault) => {
+                drop(pieces);
+                return Err(StagesFault::Piece(fault));
+            }
+        };
+        if pieces.push(piece).is_err() {
+            drop(pieces);
+            return Err(StagesFault::OutOfMemory);
+        }
+    }
+    Ok(pieces)
+}
+
+// How many words the code of each piece has.
+fn sizes(alloc: Global, pieces: &[Piece]) -> Result<Vec<usize>, AllocError> {
+    let mut sizes = Vec::with_capacity(alloc, pieces.len())?;
+    for piece in pieces {
+        sizes.push(piece.items().len())?;
+    }
+    Ok(sizes)
+}
+
+// Where so many lines end that begin at an offset of a text; its end where it has fewer.
+fn behind_lines(text: &[u8], from: usize, count: usize) -> usize {
+    let mut left = count;
+    for at in from..text.len() {
+        if left == 0 {
+            return at;
+        }
+        if text[at] == b'\n' {
+            left -= 1;
+        }
+    }
+    text.len()
+}
+
+// Where the lines of each function begin, and where the last ones end.
+fn places(alloc: Global, lines: &[u8], sizes: &[usize]) -> Result<Vec<usize>, AllocError> {
+    let mut place = behind_lines(lines, 0, START_WORDS);
+    let mut places = Vec::new(alloc);
+    places.push(place)?;
+    for size in sizes {
+        place = behind_lines(lines, place, *size);
+        places.push(place)?;
+    }
+    Ok(places)
+}
+
+// The lines of the image of a unit, whose pieces these are.
+fn lines(alloc: Global, unit: &Arc<TypedUnit>, pieces: Vec<Piece>) -> Result<Vec<u8>, StagesFault>
+    ensures { IfErr result (λ fault. ¬ (fault ≡ UnknownFunction)) }
+{
+    let linked = match link(alloc, unit, pieces) {
+        Ok(linked) => linked,
+        Err(fault) => return Err(StagesFault::Link(fault)),
+    };
+    let lines = list(alloc, &linked.stored().image);
+    drop(linked);
+    match lines {
+        Ok(lines) => Ok(lines),
+        Err(_) => Err(StagesFault::OutOfMemory),
+    }
+}
+
+/// The listing of a unit's image. Refusals: 22 or 24 for the first function without a piece, 25 where there would be more than 131,072
+/// words of code, 40 where memory ran out.
+pub(crate) fn list_unit(alloc: Global, unit: &Arc<TypedUnit>) -> Result<Listing, StagesFault>
+    ensures { IfErr result (λ fault. ¬ (fault ≡ UnknownFunction)) }
+{
+    let pieces = pieces(alloc, unit)?;
+    let Ok(sizes) = sizes(alloc, pieces.as_slice()) else {
+        drop(pieces);
+        return Err(StagesFault::OutOfMemory);
+    };
+    let lines = match lines(alloc, unit, pieces) {
+        Ok(lines) => lines,
+        Err(fault) => {
+            drop(sizes);
+            return Err(fault);
+        }
+    };
+    let places = places(alloc, lines.as_slice(), sizes.as_slice());
+    drop(sizes);
+    match places {
+        Ok(places) => Ok(Listing { lines, places }),
+        Err(_) => {
+            drop(lines);
+            Err(StagesFault::OutOfMemory)
+        }
+    }
+}

@@ -1,0 +1,55 @@
+//! The stages of a function, and how each is written: a line that begins it, `== f: RTL`, and its text.
+
+use std::fmt::Display;
+use std::io::{self, Write};
+
+/// What is shown of a function, in this order.
+#[derive(Clone, Copy)]
+pub(crate) enum Stage {
+    Cminor,
+    /// RTL as it is generated.
+    Rtl,
+    /// RTL in which the nodes that nobody needs are nops.
+    Pruned,
+    /// Validated LTL.
+    Ltl,
+    Linear,
+    /// The steps that selection gives.
+    Selected,
+    /// The lines of its code in the image's listing.
+    Code,
+}
+
+impl Stage {
+    // Its name in the line that begins it.
+    fn title(self) -> &'static str {
+        match self {
+            Stage::Cminor => "Cminor",
+            Stage::Rtl => "RTL",
+            Stage::Pruned => "RTL without dead nodes",
+            Stage::Ltl => "LTL",
+            Stage::Linear => "Linear",
+            Stage::Selected => "Selected",
+            Stage::Code => "code",
+        }
+    }
+
+    /// Writes the line that begins it, for the function of this name. No line of a stage begins with `==`.
+    pub(crate) fn begin<W: Write>(self, name: &[u8], writer: &mut W) -> io::Result<()> {
+        let title = self.title();
+        writer.write_all(b"== ")?;
+        writer.write_all(name)?;
+        writeln!(writer, ": {title}")
+    }
+
+    /// Writes it with its text.
+    pub(crate) fn write<T: Display, W: Write>(
+        self,
+        name: &[u8],
+        text: &T,
+        writer: &mut W,
+    ) -> io::Result<()> {
+        self.begin(name, writer)?;
+        write!(writer, "{text}")
+    }
+}

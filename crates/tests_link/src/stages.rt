@@ -1,0 +1,303 @@
+//! What is shown of a unit's functions, stage by stage.
+//!
+//! `row` has the texts of one program.
+
+#[cfg(test)]
+mod row;
+
+use super::helpers::{Part, text_of};
+use super::orders::shared_unit;
+use super::rows::LONG;
+use cc_link::compile;
+use cc_rv32::listing::list;
+use cc_stages::{StagesFault, stages};
+use row::ROW;
+use std::alloc::{AllocError, Global};
+use std::test::Fail;
+use tests_texts::programs::{CRC, FIB, GCD, MATMUL, NEST, REGS, SIEVE, SORT};
+
+/// A function with each form of step.
+const FORMS: &str =
+    "unsigned char c[2];int a[3];int f(int n,int k){do n=n+1;while(n>=k);do a[n&1]=c[1];while(n<=0);c[0]=a[2];if(n<k)return n<<3;return -n;}int main(void){write_word(f(read_word(),9));}";
+
+/// Its steps. The word of each constant stands in the operation that reads it, an element of a known number has the number, and a
+/// comparison and the test of its value are one branch.
+const FORMS_SELECTED: &str = "== f: Selected
+f0 slots 0
+1:
+  x10 = add x10, 1
+  branch not lt_s x10, x11 -> 1
+6:
+  x28 = and x10, 1
+  x29 = byte object0[1]
+  object1[x28] = x29
+  branch le_s x10, 0 -> 6
+  x28 = object1[2]
+  byte object0[0] = x28
+  branch lt_s x10, x11 -> 21
+  x10 = neg x10
+  return
+21:
+  x10 = shl x10, 3
+  return
+";
+
+static PROGRAMS: [&str; 10] = [LONG, FORMS, CRC, FIB, GCD, MATMUL, NEST, REGS, SIEVE, SORT];
+
+// What is written of the functions of a text or of one, and the number of the fault, or 0.
+#[derive(Drop)]
+struct Written {
+    text: Vec<u8>,
+    number: u32,
+}
+
+fn shown(alloc: Global, text: &[u8], function: Option<&[u8]>) -> Result<Written, Fail> {
+    let unit = shared_unit(alloc, text)?;
+    let mut written = Vec::new(alloc);
+    let number = match stages(alloc, &unit, function, &mut written) {
+        Ok(()) => 0,
+        Err(fault) => {
+            let number = fault.number();
+            drop(fault);
+            number
+        }
+    };
+    drop(unit);
+    Ok(Written {
+        text: written,
+        number,
+    })
+}
+
+// Puts a text behind another.
+fn add(text: &mut Vec<u8>, part: &str) -> Result<(), AllocError> {
+    text.extend_from_slice(part.as_bytes())
+}
+
+// The stages of the row, of all functions or of one.
+fn row_text(alloc: Global, function: &str) -> Result<Vec<u8>, AllocError> {
+    let mut text = Vec::new(alloc);
+    for (name, stage, lines) in ROW.iter() {
+        if function.is_empty() || *name == function {
+            add(&mut text, "== ")?;
+            add(&mut text, name)?;
+            add(&mut text, ": ")?;
+            add(&mut text, stage)?;
+            add(&mut text, "\n")?;
+            add(&mut text, lines)?;
+        }
+    }
+    Ok(text)
+}
+
+// Whether the stages of the row are these, of all functions (an empty name) or of one.
+fn shows_row(alloc: Global, function: &str) -> Result<bool, Fail> {
+    let wanted = match function {
+        "" => None,
+        name => Some(name.as_bytes()),
+    };
+    let found = shown(alloc, LONG.as_bytes(), wanted)?;
+    let lines = row_text(alloc, function)?;
+    let right = found.number == 0 && found.text.as_slice() == lines.as_slice();
+    drop(found);
+    drop(lines);
+    Ok(right)
+}
+
+#[test]
+fn texts_of_the_row(rt: HostRuntime) -> Result<(), Fail> {
+    for function in ["", "f", "main"] {
+        let right = shows_row(rt.alloc(), function)?;
+        assert!(rt; right, "{function}");
+    }
+    Ok(())
+}
+
+#[test]
+fn each_form_of_step(rt: HostRuntime) -> Result<(), Fail> {
+    let found = shown(rt.alloc(), FORMS.as_bytes(), Some(b"f"))?;
+    let text = str::from_utf8(found.text.as_slice())?;
+    let right = found.number == 0 && text.contains(FORMS_SELECTED);
+    drop(found);
+    assert!(rt; right);
+    Ok(())
+}
+
+// The labels of a stage: those that its code leads to, and those that stand.
+#[derive(Drop)]
+struct Labels {
+    named: Vec<u32>,
+    standing: Vec<u32>,
+}
+
+impl Labels {
+    fn new(alloc: Global) -> Labels {
+        Labels {
+            named: Vec::new(alloc),
+            standing: Vec::new(alloc),
+        }
+    }
+
+    // Adds those of a text that lists labels.
+    fn add_named(&mut self, list: &str) -> Result<(), Fail> {
+        for label in list.split(", ") {
+            self.named.push(label.parse::<u32>()?)?;
+        }
+        Ok(())
+    }
+
+    // Adds those of a line.
+    fn add_line(&mut self, line: &str) -> Result<(), Fail> {
+        if let Some((label, _)) = line.split_once(':') {
+            self.standing.push(label.parse::<u32>()?)?;
+        }
+        if let Some((_, list)) = line.split_once(" -> ") {
+            self.add_named(list)?;
+        }
+        if let Some(label) = line.trim().strip_prefix("jump ") {
+            self.add_named(label)?;
+        }
+        Ok(())
+    }
+
+    // Whether each that is named stands.
+    fn all_stand(&self) -> bool {
+        self.named.iter().all(|label| self.standing.contains(label))
+    }
+}
+
+// How many stages of a text there are, and in how many of them some label is named that does not stand.
+fn stages_lacking_labels(alloc: Global, text: &str) -> Result<(usize, usize), Fail> {
+    let (mut count, mut lacking) = (0usize, 0usize);
+    let mut labels = Labels::new(alloc);
+    for line in text.lines() {
+        if line.starts_with("== ") {
+            count = count.saturating_add(1);
+            lacking = lacking.saturating_add(usize::from(!labels.all_stand()));
+            labels = Labels::new(alloc);
+        } else {
+            labels.add_line(line)?;
+        }
+    }
+    lacking = lacking.saturating_add(usize::from(!labels.all_stand()));
+    drop(labels);
+    Ok((count, lacking))
+}
+
+#[test]
+fn labels_stand(rt: HostRuntime) -> Result<(), Fail> {
+    for program in PROGRAMS.iter() {
+        let found = shown(rt.alloc(), program.as_bytes(), None)?;
+        let text = str::from_utf8(found.text.as_slice())?;
+        let (count, lacking) = stages_lacking_labels(rt.alloc(), text)?;
+        drop(found);
+        assert!(rt; count >= 7 && count % 7 == 0 && lacking == 0, "{program}");
+    }
+    Ok(())
+}
+
+// The lines of code in the stages of a text.
+fn code_lines(alloc: Global, text: &str) -> Result<Vec<u8>, AllocError> {
+    let mut lines = Vec::new(alloc);
+    let mut is_code = false;
+    for line in text.lines() {
+        if line.starts_with("== ") {
+            is_code = line.ends_with(": code");
+        } else if is_code {
+            add(&mut lines, line)?;
+            add(&mut lines, "\n")?;
+        }
+    }
+    Ok(lines)
+}
+
+// A listing behind its first three lines, which are the start.
+fn behind_start(listing: &[u8]) -> &[u8] {
+    let mut left = 3u32;
+    for at in 0..listing.len() {
+        if left == 0 {
+            return &listing[at..];
+        }
+        if listing[at] == b'\n' {
+            left -= 1;
+        }
+    }
+    b""
+}
+
+// Whether the code in the stages of a program is its image's listing.
+fn code_is_listing(alloc: Global, program: &str) -> Result<bool, Fail> {
+    let found = shown(alloc, program.as_bytes(), None)?;
+    let lines = code_lines(alloc, str::from_utf8(found.text.as_slice())?)?;
+    let unit = compile(alloc, program.as_bytes())?;
+    let listing = list(alloc, &unit.stored().image)?;
+    let same = lines.as_slice() == behind_start(listing.as_slice());
+    let right = found.number == 0 && !lines.is_empty() && same;
+    drop(found);
+    drop(lines);
+    drop(unit);
+    drop(listing);
+    Ok(right)
+}
+
+#[test]
+fn all_code_is_the_listing(rt: HostRuntime) -> Result<(), Fail> {
+    for program in PROGRAMS.iter() {
+        let right = code_is_listing(rt.alloc(), program)?;
+        assert!(rt; right, "{program}");
+    }
+    Ok(())
+}
+
+#[test]
+fn unknown_names(rt: HostRuntime) -> Result<(), Fail> {
+    for name in ["g", "", "mai", "main1", "write_word", "x"] {
+        let found = shown(rt.alloc(), LONG.as_bytes(), Some(name.as_bytes()))?;
+        let right = found.number == 59 && found.text.is_empty();
+        drop(found);
+        assert!(rt; right, "{name}");
+    }
+    Ok(())
+}
+
+/// The parts of a text whose `main` would have more than 4,096 nodes.
+static LARGE: [Part<'static>; 3] = [
+    ("int f(int x){return x;}int main(void){", 1),
+    ("write_word(0);", 1_365),
+    ("}", 1),
+];
+
+// Whether the stages of that text's functions, or of one, end so, and with fault 22.
+fn ends_large(alloc: Global, function: Option<&[u8]>, end: &str) -> Result<bool, Fail> {
+    let text = text_of(alloc, LARGE.as_slice())?;
+    let found = shown(alloc, text.as_slice(), function);
+    drop(text);
+    let found = found?;
+    let right = found.number == 22 && found.text.as_slice().ends_with(end.as_bytes());
+    drop(found);
+    Ok(right)
+}
+
+#[test]
+fn a_function_with_too_many_nodes(rt: HostRuntime) -> Result<(), Fail> {
+    let refused = "  skip\n== main: RTL\nrefused: more than 4096 nodes\n";
+    let other = "  return\n== f: code\nnone: the program has no image\n";
+    let all = ends_large(rt.alloc(), None, refused)?;
+    let alone = ends_large(rt.alloc(), Some(b"main"), refused)?;
+    let another = ends_large(rt.alloc(), Some(b"f"), other)?;
+    assert!(rt; all && alone && another);
+    Ok(())
+}
+
+#[test]
+fn a_writer_that_fails(rt: HostRuntime) -> Result<(), Fail> {
+    let unit = shared_unit(rt.alloc(), FORMS.as_bytes())?;
+    let mut room = [0u8; 300];
+    let mut writer = room.as_mut_slice();
+    let told = stages(rt.alloc(), &unit, None, &mut writer);
+    let right = matches!(told, Err(StagesFault::Write));
+    drop(told);
+    drop(unit);
+    assert!(rt; right);
+    Ok(())
+}
