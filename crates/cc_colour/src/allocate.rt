@@ -48,20 +48,20 @@ fn coloured(alloc: Global, shape: &Shape<'_>) -> Result<Option<Ltl>, AllocError>
     }
 }
 
-// The whole webs of a function, with their graph.
+// The webs of a function, whole or cut, with their graph.
 #[derive(Clone, Copy)]
-struct Whole<'a> {
+struct Known<'a> {
     code: Code<'a>,
     graph: &'a Graph,
 }
 
 fn coloured_whole(alloc: Global, code: Code<'_>) -> Result<Option<Ltl>, AllocError> {
     let graph = Graph::of(alloc, code)?;
-    let whole = Whole {
+    let whole = Known {
         code,
         graph: &graph,
     };
-    let mut cut = Vec::new(alloc);
+    let mut cut = Vec::with_capacity(alloc, graph.webs.len())?;
     for web in &graph.webs {
         cut.push(is_cheap_to_cut(web))?;
     }
@@ -86,14 +86,17 @@ fn is_cheap_to_cut(web: &Web) -> bool {
     web.kept > 0 && by_slot <= moves.saturating_add(SAVING)
 }
 
-// The same with some webs cut. Where more are to be cut, these are marked, and there is no answer; where the pieces are too many, nothing
-// is marked.
+// The same with some webs cut; where none is, the pieces are the whole webs. Where more are to be cut, these are marked, and there is no
+// answer; where the pieces are too many, nothing is marked.
 fn coloured_cut(
     alloc: Global,
-    whole: Whole<'_>,
+    whole: Known<'_>,
     cut: &mut [bool],
     may_cut: bool,
 ) -> Result<Option<Ltl>, AllocError> {
+    if !cut.contains(&true) {
+        return coloured_pieces(alloc, whole, whole, cut, may_cut);
+    }
     let cuts = Cuts {
         whole: whole.code.webs,
         cut,
@@ -108,23 +111,28 @@ fn coloured_cut(
         Some(webs) => {
             let shape = whole.code.shape;
             let code = Code { shape, webs: &webs };
-            coloured_pieces(alloc, whole, code, cut, may_cut)
+            let graph = Graph::of(alloc, code)?;
+            let pieces = Known {
+                code,
+                graph: &graph,
+            };
+            coloured_pieces(alloc, whole, pieces, cut, may_cut)
         }
     }
 }
 
 fn coloured_pieces(
     alloc: Global,
-    whole: Whole<'_>,
-    code: Code<'_>,
+    whole: Known<'_>,
+    pieces: Known<'_>,
     cut: &mut [bool],
     may_cut: bool,
 ) -> Result<Option<Ltl>, AllocError> {
-    let graph = Graph::of(alloc, code)?;
+    let Known { code, graph } = pieces;
     let origins = code.webs.origins(alloc, whole.code.webs)?;
     for reserved in [0, only(28) | only(29)] {
-        let order = colouring_order(alloc, &graph, reserved)?;
-        let choice = Choice::of(alloc, &graph, order.as_slice(), reserved)?;
+        let order = colouring_order(alloc, graph, reserved)?;
+        let choice = Choice::of(alloc, graph, order.as_slice(), reserved)?;
         if may_cut
             && cut_more(
                 whole.graph,
@@ -137,7 +145,7 @@ fn coloured_pieces(
             drop(choice);
             return Ok(None);
         }
-        let places = Places::of(alloc, code, &graph, whole.graph, choice, origins.as_slice())?;
+        let places = Places::of(alloc, code, graph, whole.graph, choice, origins.as_slice())?;
         let placed = Placed {
             code,
             places: &places,

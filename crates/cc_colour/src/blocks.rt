@@ -98,8 +98,8 @@ struct Draft<'a> {
 
 /// All blocks, or None where a register was wanted and none was free.
 pub fn blocks(alloc: Global, placed: Placed<'_>) -> Result<Option<Vec<Block>>, AllocError> {
-    let mut blocks = Vec::new(alloc);
     let rtl = placed.code.shape.rtl;
+    let mut blocks = Vec::with_capacity(alloc, rtl.len())?;
     for at in 0..rtl.len() {
         match block(alloc, placed, at as u32, rtl.node(at))? {
             Some(block) => blocks.push(block)?,

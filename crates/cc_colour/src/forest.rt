@@ -11,8 +11,9 @@ pub struct Forest {
 impl Forest {
     /// Each number by itself. There are to be fewer than 2^32; of more, no class is kept.
     pub fn new(alloc: Global, count: usize) -> Result<Forest, AllocError> {
-        let mut parents = Vec::new(alloc);
-        for number in 0..u32::try_from(count).unwrap_or(0) {
+        let count = u32::try_from(count).unwrap_or(0);
+        let mut parents = Vec::with_capacity(alloc, count as usize)?;
+        for number in 0..count {
             parents.push(number)?;
         }
         Ok(Forest { parents })
@@ -31,7 +32,7 @@ impl Forest {
 
     /// Numbers the classes by their least numbers, and answers the class of each number, and how many classes there are.
     pub fn numbered(&mut self, alloc: Global) -> Result<(Vec<u32>, u32), AllocError> {
-        let mut classes = Vec::new(alloc);
+        let mut classes = Vec::with_capacity(alloc, self.parents.len())?;
         let mut count = 0u32;
         for number in 0..self.parents.len() {
             let root = self.root(number);

@@ -90,7 +90,7 @@ impl Graph {
     fn empty(alloc: Global, count: u32) -> Result<Graph, AllocError> {
         let mut graph = Graph {
             edges: Matrix::new(alloc, count)?,
-            webs: Vec::new(alloc),
+            webs: Vec::with_capacity(alloc, count as usize)?,
         };
         for _ in 0..count {
             graph.webs.push(no_web(alloc))?;

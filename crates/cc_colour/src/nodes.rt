@@ -56,7 +56,7 @@ impl Shape<'_> {
 
 /// Where each node leads.
 pub fn next_places(alloc: Global, rtl: &Rtl) -> Result<Vec<Next>, AllocError> {
-    let mut all = Vec::new(alloc);
+    let mut all = Vec::with_capacity(alloc, rtl.len())?;
     for at in 0..rtl.len() {
         let (first, second) = labels(rtl.node(at));
         all.push([place_of(rtl, first), place_of(rtl, second)])?;
@@ -161,6 +161,9 @@ pub fn operands(node: &Node) -> [Option<u32>; 2] {
 /// a node and the last node behind it that leads back to it.
 pub fn weights(alloc: Global, next: &[Next]) -> Result<Vec<u32>, AllocError> {
     let mut weights = vec![in alloc; 1; next.len()]?;
+    if !has_loop(next) {
+        return Ok(weights);
+    }
     let ends = loop_ends(alloc, next)?;
     let mut leaves = vec![in alloc; 0u32; next.len()]?;
     put_weights(
@@ -169,6 +172,20 @@ pub fn weights(alloc: Global, next: &[Next]) -> Result<Vec<u32>, AllocError> {
         weights.as_mut_slice(),
     );
     Ok(weights)
+}
+
+// Whether some node leads back.
+fn has_loop(next: &[Next]) -> bool {
+    for (at, heads) in next.iter().enumerate() {
+        for head in *heads {
+            if let Some(head) = head
+                && head <= at
+            {
+                return true;
+            }
+        }
+    }
+    false
 }
 
 // Puts how often each node may be done, by the ends of the loops that begin at each node. Counts how many end at each.

@@ -19,12 +19,12 @@ pub fn colouring_order(
     let by_cost = left.by_cost(alloc)?;
     left.find_easy(by_cost.as_slice())?;
     let mut hard = by_cost.iter();
-    let mut order = Vec::new(alloc);
+    let mut order = Vec::with_capacity(alloc, by_cost.len())?;
     for _ in 0..graph.webs.len().saturating_mul(2) {
         let web = match left.easy.pop() {
             Some(web) => web,
             None => match hard.next() {
-                Some(web) => *web,
+                Some((_, web)) => *web,
                 None => break,
             },
         };
@@ -88,9 +88,9 @@ impl<'a> Left<'a> {
         Ok(true)
     }
 
-    // The webs that are left, those first whose slot would cost least for each interference.
-    fn by_cost(&self, alloc: Global) -> Result<Vec<u32>, AllocError> {
-        let mut keys = Vec::new(alloc);
+    // The webs that are left, those first whose slot would cost least for each interference, which is told too.
+    fn by_cost(&self, alloc: Global) -> Result<Vec<(u64, u32)>, AllocError> {
+        let mut keys = Vec::with_capacity(alloc, self.degrees.len())?;
         let mut web = 0u32;
         for (known, degree) in self.graph.webs.iter().zip(self.degrees.iter()) {
             if self.taken_out.get(web as usize) == Some(&false) {
@@ -100,17 +100,13 @@ impl<'a> Left<'a> {
             }
             web = web.saturating_add(1);
         }
-        keys.sort()?;
-        let mut sorted = Vec::new(alloc);
-        for (_, web) in &keys {
-            sorted.push(*web)?;
-        }
-        Ok(sorted)
+        keys.sort_unstable();
+        Ok(keys)
     }
 
     // The webs that get a register for sure, those last that cost least.
-    fn find_easy(&mut self, by_cost: &[u32]) -> Result<(), AllocError> {
-        for web in by_cost.iter().rev() {
+    fn find_easy(&mut self, by_cost: &[(u64, u32)]) -> Result<(), AllocError> {
+        for (_, web) in by_cost.iter().rev() {
             if let Some(known) = self.graph.webs.get(*web as usize)
                 && let Some(degree) = self.degrees.get(*web as usize)
                 && *degree < choices(known, self.reserved)
@@ -129,7 +125,7 @@ fn choices(web: &Web, reserved: Registers) -> u32 {
 
 // How many others each web interferes with.
 fn degrees(alloc: Global, graph: &Graph) -> Result<Vec<u32>, AllocError> {
-    let mut degrees = Vec::new(alloc);
+    let mut degrees = Vec::with_capacity(alloc, graph.webs.len())?;
     let mut web = 0u32;
     for _ in &graph.webs {
         let mut degree = 0u32;

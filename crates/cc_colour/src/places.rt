@@ -35,7 +35,7 @@ impl<'a> Places<'a> {
             choice,
             origins,
             slots: vec![in alloc; None; whole.webs.len()]?,
-            dirty: Vec::new(alloc),
+            dirty: Vec::with_capacity(alloc, pieces.webs.len())?,
             count: 0,
         };
         for web in &pieces.webs {

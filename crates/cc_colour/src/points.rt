@@ -12,7 +12,7 @@ pub struct Points {
 impl Points {
     /// Those of this many nodes.
     pub fn of(alloc: Global, nodes: usize, live: Live<'_>) -> Result<Points, AllocError> {
-        let mut firsts = Vec::new(alloc);
+        let mut firsts = Vec::with_capacity(alloc, nodes.saturating_add(1))?;
         let mut count = 0usize;
         for node in 0..nodes {
             firsts.push(count)?;

@@ -100,11 +100,18 @@ impl Choice {
     fn highest(&self, scores: &[i64; 32], left: Registers) -> Option<u8> {
         let mut best = None;
         let mut most = i64::MIN;
+        let top = highest_of(scores);
         for register in ORDER {
-            let score = self.score(scores, register);
-            if contains(left, register) && score > most {
-                best = Some(register);
-                most = score;
+            if contains(left, register) {
+                let score = self.score(scores, register);
+                if score > most {
+                    best = Some(register);
+                    most = score;
+                }
+            }
+            // None scores more.
+            if most >= top {
+                break;
             }
         }
         best
@@ -163,4 +170,12 @@ impl Choice {
             }
         }
     }
+}
+
+fn highest_of(scores: &[i64; 32]) -> i64 {
+    let mut top = 0;
+    for score in scores {
+        top = top.max(*score);
+    }
+    top
 }

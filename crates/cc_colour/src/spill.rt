@@ -18,7 +18,7 @@ const FIRST_ARGUMENT: u8 = 10;
 /// slots, the answer is some LTL, which the validator may refuse.
 pub fn spill_all(alloc: Global, rtl: &Rtl) -> Result<Ltl, AllocError> {
     let slots = Slots::of(rtl);
-    let mut blocks = Vec::new(alloc);
+    let mut blocks = Vec::with_capacity(alloc, rtl.len())?;
     for at in 0..rtl.len() {
         blocks.push(block(alloc, slots, rtl, at as u32, rtl.node(at))?)?;
     }

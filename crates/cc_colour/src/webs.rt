@@ -90,7 +90,7 @@ impl Webs {
         let mut all = Webs {
             points,
             webs,
-            results: Vec::new(alloc),
+            results: Vec::with_capacity(alloc, shape.rtl.len())?,
             count,
         };
         all.find_results(shape)?;
