@@ -13,7 +13,7 @@ pub fn without_idle(alloc: Global, items: &[Item]) -> Result<Vec<Item>, AllocErr
     ensures { IfOk result (λ kept. kept.items ≡ without (targets items.now) items.now) }
 {
     let led = sorted_targets(alloc, items)?;
-    let mut kept = Vec::new(alloc);
+    let mut kept = Vec::with_capacity(alloc, items.len())?;
     for item in items {
         if stays(&led, item) {
             kept.push(*item)?;

@@ -84,7 +84,8 @@ pub fn lay_out(
     requires order { All (λ p. p < length labels.now) order.now }
     ensures { IfOk result (λ items. items.items ≡ leads (end_in labels.now ends.now entry) (labels_at labels.now order.now) (laid blocks.now (end_in labels.now ends.now) (labels_at labels.now order.now))) }
 {
-    let mut items = Vec::new(alloc);
+    // A label and an item of each block; moves and jumps beside them are fewer as a rule.
+    let mut items = Vec::with_capacity(alloc, order.len().saturating_mul(3))?;
     let first = label_at(labels, order, 0);
     put(&mut items, &[], way(end_label(labels, ends, entry), first))?;
     for i in 0..order.len() {

@@ -11,7 +11,7 @@ use std::alloc::{AllocError, Global};
 pub fn labels(alloc: Global, blocks: &[Block]) -> Result<Vec<u32>, AllocError>
     ensures { IfOk result (λ labels. labels.items ≡ labels_of blocks.now) }
 {
-    let mut labels = Vec::new(alloc);
+    let mut labels = Vec::with_capacity(alloc, blocks.len())?;
     for block in blocks {
         labels.push(block.label)?;
     }

@@ -36,7 +36,7 @@ pub fn next_places(
     requires leads { AllLeadIn labels.now blocks.now }
     ensures { IfOk result (λ places. places.items ≡ all_lead_to labels.now 0 blocks.now) }
 {
-    let mut places = Vec::new(alloc);
+    let mut places = Vec::with_capacity(alloc, blocks.len())?;
     let mut own = 0;
     for block in blocks {
         places.push(next_place(labels, own, block))?;
@@ -96,7 +96,7 @@ pub fn graph(
     requires long { length ends.now ≡ length labels.now }
     ensures { IfOk result (λ graph. graph.items ≡ graph_of labels.now ends.now blocks.now) }
 {
-    let mut graph = Vec::new(alloc);
+    let mut graph = Vec::with_capacity(alloc, blocks.len())?;
     for block in blocks {
         graph.push(ways(labels, ends, &block.operation))?;
     }

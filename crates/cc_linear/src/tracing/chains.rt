@@ -31,8 +31,8 @@ struct Chains {
 fn alone(alloc: Global, count: usize) -> Result<Chains, AllocError>
     ensures { IfOk result (λ chains. vec_len chains.behind ≡ count) }
 {
-    let mut first: Vec<usize> = Vec::new(alloc);
-    let mut last: Vec<usize> = Vec::new(alloc);
+    let mut first: Vec<usize> = Vec::with_capacity(alloc, count)?;
+    let mut last: Vec<usize> = Vec::with_capacity(alloc, count)?;
     for label in 0..count {
         first.push(label)?;
         last.push(label)?;
@@ -164,7 +164,7 @@ fn listed(alloc: Global, chains: &Chains, found: &[usize]) -> Result<Vec<usize>,
     requires inside { All (λ l. l < vec_len chains.now.behind) found.now }
 {
     let count = chains.behind.len();
-    let mut order: Vec<usize> = Vec::new(alloc);
+    let mut order: Vec<usize> = Vec::with_capacity(alloc, found.len())?;
     for i in 0..found.len() {
         let mut at = found[i];
         if !chains.is_led[at] {

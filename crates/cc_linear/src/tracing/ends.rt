@@ -31,7 +31,7 @@ pub fn chain_ends(alloc: Global, next: &[usize]) -> Result<Vec<usize>, AllocErro
     ensures ends { IfOk result (λ ends. HasEnds next.now ends.items) }
 {
     let count = next.len();
-    let mut ends: Vec<usize> = Vec::new(alloc);
+    let mut ends: Vec<usize> = Vec::with_capacity(alloc, count)?;
     for label in 0..count {
         ends.push(label)?;
     }

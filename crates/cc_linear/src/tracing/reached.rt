@@ -51,7 +51,7 @@ pub fn reached(alloc: Global, graph: &[Ways], entry: usize) -> Result<Vec<usize>
     ensures inside { IfOk result (λ found. All (λ l. l < length graph.now) found.items) }
 {
     let mut seen = vec![in alloc; false; graph.len()]?;
-    let mut found: Vec<usize> = Vec::new(alloc);
+    let mut found: Vec<usize> = Vec::with_capacity(alloc, graph.len())?;
     find(&mut seen, &mut found, entry)?;
     let mut at = 0;
     while at < found.len() {
