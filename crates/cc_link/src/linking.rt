@@ -169,7 +169,7 @@ pub fn link(
 fn lent(alloc: Global, pieces: &[Piece]) -> Result<Vec<&Piece>, AllocError>
     ensures { IfOk result (λ lent. lent_pieces lent.items ≡ pieces.now) }
 {
-    let mut lent = Vec::new(alloc);
+    let mut lent = Vec::with_capacity(alloc, pieces.len())?;
     for piece in pieces {
         lent.push(piece)?;
     }

@@ -101,7 +101,7 @@ pub(crate) fn all_items<'a>(
 ) -> Result<Vec<&'a [Item]>, AllocError>
     ensures { IfOk result (λ bodies. lent bodies.items ≡ all_items (lent_pieces pieces.now)) }
 {
-    let mut bodies = Vec::new(alloc);
+    let mut bodies = Vec::with_capacity(alloc, pieces.len())?;
     for piece in pieces {
         bodies.push(piece.items())?;
     }

@@ -40,7 +40,7 @@ fn places(alloc: Global, bodies: &[&[Item]]) -> Result<Vec<u32>, AllocError>
     requires { code_words (lent bodies.now) ≤ most_code }
     ensures { IfOk result (λ places. places.items ≡ places_from FUNCTIONS_FROM (lent bodies.now)) }
 {
-    let mut places = Vec::new(alloc);
+    let mut places = Vec::with_capacity(alloc, bodies.len())?;
     let mut place = FUNCTIONS_FROM;
     for items in bodies {
         places.push(place)?;
@@ -129,6 +129,15 @@ fn add_head(words: &mut Vec<u32>, places: &[u32], main: usize) -> Result<(), All
     Ok(())
 }
 
+// How many words the code of the functions takes, the head with it. That decides how much memory is taken at once, and nothing else.
+fn room(bodies: &[&[Item]]) -> usize {
+    let mut words = HEAD_WORDS;
+    for items in bodies {
+        words = words.saturating_add(items.len());
+    }
+    words
+}
+
 /// The code of the functions, of which number `main` is called first.
 pub(crate) fn code(alloc: Global, main: usize, bodies: &[&[Item]]) -> Result<Code, AllocError>
     requires main { main < length bodies.now }
@@ -137,7 +146,7 @@ pub(crate) fn code(alloc: Global, main: usize, bodies: &[&[Item]]) -> Result<Cod
     ensures { IfOk result (λ code. code ≡ encoded (linked_code main (lent bodies.now))) }
 {
     let places = places(alloc, bodies)?;
-    let mut words = Vec::new(alloc);
+    let mut words = Vec::with_capacity(alloc, room(bodies))?;
     add_head(&mut words, places.as_slice(), main)?;
     add_functions(&mut words, places.as_slice(), bodies)?;
     drop(places);

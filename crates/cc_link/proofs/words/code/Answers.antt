@@ -39,7 +39,7 @@ unreachable-requires c =
     let stay : AllStayIn (length fs) fs = subst (λ (n : ℕ). AllStayIn n fs) (sym count) c.requires.stay in
     let first : c.add_head.new.words.items ≡ encoded (fill (λ f. slice_index ps f) 0x10000 0x10000 (head c.args.main)) =
     subst (λ (qs : List ℕ). c.add_head.new.words.items ≡ encoded (fill (λ f. slice_index qs f) 0x10000 0x10000 (head c.args.main))) c.as_slice.ensures.value
-    (c.in_ok-add_head.ensures ∙ ap (λ (ws : List ℕ). ws ++ encoded (fill (λ f. slice_index c.as_slice.result.now f) 0x10000 0x10000 (head c.args.main))) c.new-words.ensures.items) in
+    (c.in_ok-add_head.ensures ∙ ap (λ (ws : List ℕ). ws ++ encoded (fill (λ f. slice_index c.as_slice.result.now f) 0x10000 0x10000 (head c.args.main))) c.in_ok-words.ensures.items) in
     let all : c.add_functions.new.words.items ≡ c.add_head.new.words.items ++ encoded (fill_all (λ f. slice_index ps f) 0x1000c fs) =
     subst (λ (qs : List ℕ). c.add_functions.new.words.items ≡ c.add_head.new.words.items ++ encoded (fill_all (λ f. slice_index qs f) 0x1000c fs)) c.as_slice-2.ensures.value c.in_ok-add_functions.ensures in
     let whole : c.add_functions.new.words.items ≡ encoded (linked_code c.args.main fs) = linked_is c.args.main fs ps c.add_head.new.words.items c.add_functions.new.words.items below stay c.in_ok-places.ensures first all in
@@ -56,7 +56,7 @@ returns c =
     let stay : AllStayIn (length fs) fs = subst (λ (n : ℕ). AllStayIn n fs) (sym count) c.requires.stay in
     let first : c.add_head.new.words.items ≡ encoded (fill (λ f. slice_index ps f) 0x10000 0x10000 (head c.args.main)) =
     subst (λ (qs : List ℕ). c.add_head.new.words.items ≡ encoded (fill (λ f. slice_index qs f) 0x10000 0x10000 (head c.args.main))) c.as_slice.ensures.value
-    (c.in_ok-add_head.ensures ∙ ap (λ (ws : List ℕ). ws ++ encoded (fill (λ f. slice_index c.as_slice.result.now f) 0x10000 0x10000 (head c.args.main))) c.new-words.ensures.items) in
+    (c.in_ok-add_head.ensures ∙ ap (λ (ws : List ℕ). ws ++ encoded (fill (λ f. slice_index c.as_slice.result.now f) 0x10000 0x10000 (head c.args.main))) c.in_ok-words.ensures.items) in
     let all : c.add_functions.new.words.items ≡ c.add_head.new.words.items ++ encoded (fill_all (λ f. slice_index ps f) 0x1000c fs) =
     subst (λ (qs : List ℕ). c.add_functions.new.words.items ≡ c.add_head.new.words.items ++ encoded (fill_all (λ f. slice_index qs f) 0x1000c fs)) c.as_slice-2.ensures.value c.in_ok-add_functions.ensures in
     c.in-Ok.ensures.hands_back ∙ linked_is c.args.main fs ps c.add_head.new.words.items c.add_functions.new.words.items below stay c.in_ok-places.ensures first all
