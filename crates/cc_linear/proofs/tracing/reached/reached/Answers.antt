@@ -5,7 +5,7 @@ use Rattle.cc_linear.proofs.Finding.{all_false, found_none, closed_more, still_f
 use Rattle.cc_linear.proofs.tracing.reached.reached.Goals as goal
 
 pub find-requires-clause-found : goal.find-requires-clause-found
-find-requires-clause-found c = subst (Found c.in_ok-seen.seen.items) (sym c.new-found.ensures.items) (found_none c.in_ok-seen.seen.items (all_false (length c.args.graph.now) c.in_ok-seen.seen.items (c.in_ok-seen.ensures.items_if_clones_equal (λ y e. e))))
+find-requires-clause-found c = subst (Found c.in_ok-seen.seen.items) (sym c.in_ok-found.ensures.items) (found_none c.in_ok-seen.seen.items (all_false (length c.args.graph.now) c.in_ok-seen.seen.items (c.in_ok-seen.ensures.items_if_clones_equal (λ y e. e))))
 
 pub loop-at-preserved : goal.loop-at-preserved
 loop-at-preserved c =
