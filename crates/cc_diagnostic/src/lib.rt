@@ -40,6 +40,7 @@ mod wrong;
 
 pub use diagnostic::{Diagnostic, Related, of_name};
 pub use further::further_of_typing;
+pub use near::near_name;
 pub use syntax::of_syntax;
 pub use typing::of_typing;
 pub use warning::warnings;
