@@ -1,9 +1,9 @@
 -- What the program may be asked to do.
 use Rattle.std.specs.Prelude.{◌≤◌, ℕ, Option, Some, None}
 use Rattle.cc_command_line.specs.declared.command_line.Task.{Task}
-use Rattle.cc_command_line.specs.declared.command_line.Task.TheVariants.{Check, Interpret, Run, Asm}
+use Rattle.cc_command_line.specs.declared.command_line.Task.TheVariants.{Check, Interpret, Run, Asm, Image}
 use Rattle.cc_command_line.specs.declared.command_line.Work.{Work}
-use Rattle.cc_command_line.specs.declared.command_line.Work.TheVariants.{One, Library, Serve, Submit}
+use Rattle.cc_command_line.specs.declared.command_line.Work.TheVariants.{One, Stages, TakeOut, Library, Serve, Submit}
 
 -- how many steps a run may take, or instructions
 abbrev pub most_steps : ℕ
@@ -14,6 +14,7 @@ IsWithinLimits Check = Unit {0}
 IsWithinLimits (Interpret steps words) = steps ≤ most_steps
 IsWithinLimits (Run steps words) = steps ≤ most_steps
 IsWithinLimits Asm = Unit {0}
+IsWithinLimits Image = Unit {0}
 
 -- how many bytes an area may have, where one is to be made
 abbrev pub IsArea : Option ℕ → Type 0
@@ -27,6 +28,8 @@ IsWait (Some seconds) = (1 ≤ seconds) × (seconds ≤ 86400)
 
 abbrev pub IsAllowed : Work → Type 0
 IsAllowed (One task) = IsWithinLimits task
+IsAllowed (Stages function) = Unit {0}
+IsAllowed (TakeOut wanted) = Unit {0}
 IsAllowed (Library asked) = IsArea asked.area × (1 ≤ asked.workers) × (asked.workers ≤ 8)
 IsAllowed (Serve asked) =
     IsArea asked.area × (1 ≤ asked.workers) × (asked.workers ≤ 8) × (1 ≤ asked.clients) × (asked.clients ≤ 64) × (1 ≤ asked.keep) × (asked.keep ≤ 3650)

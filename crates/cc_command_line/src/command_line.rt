@@ -6,6 +6,7 @@ ghost use Rattle.cc_command_line.specs.Task.{IsWithinLimits, IsAllowed};
 use crate::library::{Session, library_command, library_of};
 use crate::numbers::number_in;
 use crate::spool::{Client, Server, serve_command, serve_of, submit_command, submit_of};
+use crate::unit::{Wanted, image_command, image_of, source_command, source_of};
 use clap::error::ErrorKind;
 use clap::{Arg, ArgAction, ArgMatches, Command, Error};
 use std::alloc::{AllocError, Global};
@@ -18,6 +19,8 @@ const STEPS_RULE: &str = "STEPS is a decimal number from 0 to 1000000000";
 
 const QUIET: &str = "quiet";
 
+const FUNCTION: &str = "FUNCTION";
+
 const WORD_RULE: &str =
     "WORD is a decimal number from 0 to 4294967295; a negative number is written as its value modulo 4294967296, \
     for example 4294967295 for -1";
@@ -28,7 +31,12 @@ Examples:
   cclib check < examples/quotient.c
   cclib interpret 1000 < examples/quotient.c
   cclib run 10000 2 104 105 < examples/checksum.c
+  cclib asm < examples/quotient.c
+  cclib stages main < examples/quotient.c
+  cclib image < examples/quotient.c > quotient.hex
   cclib library units.disk --format 65536 < examples/units.script
+  cclib image units.disk sum > sum.hex
+  cclib source units.disk sum
   cclib serve units.disk spool
   cclib submit spool add quotient < examples/quotient.c
 
@@ -51,6 +59,10 @@ Exit status: 0 for an answer, 1 for a fault, 2 for a command line that is refuse
 pub enum Work {
     /// A task for the text on standard input.
     One(Task),
+    /// Show what the compiler makes of each function of the text on standard input, or of the one of that name.
+    Stages(Option<String>),
+    /// Print a part of a unit of a library.
+    TakeOut(Wanted),
     /// The script on standard input, over a library.
     Library(Session),
     /// The scripts that are left in a folder, over a library.
@@ -70,6 +82,8 @@ pub enum Task {
     Run(u64, Vec<u32>),
     /// Compile the program and list its image.
     Asm,
+    /// Compile the program and write its image as Intel HEX.
+    Image,
 }
 
 // What is said of a command that runs a program: its name, what it does, its bound, and an example.
@@ -121,6 +135,16 @@ fn plain_command<'a>(alloc: Global, name: &'static str, about: &'static str) -> 
         .after_help("The program comes on standard input.")
 }
 
+fn stages_command<'a>(alloc: Global) -> Result<Command<'a>, AllocError> {
+    let function = Arg::new(alloc, FUNCTION).help(
+        "The function that is shown: all of them where none is given",
+    );
+    Command::new(alloc, "stages")
+        .about("Show what the compiler makes of each function, stage by stage")
+        .after_help("The program comes on standard input: cclib stages main < examples/quotient.c")
+        .arg(function)
+}
+
 // The command with one more part.
 fn with_part<'a>(
     whole: Command<'a>,
@@ -155,6 +179,9 @@ fn command<'a>(alloc: Global) -> Result<Command<'a>, AllocError> {
     let whole = with_part(whole, runner_command(alloc, &RUN))?;
     let asm = "Compile the program and list its image";
     let whole = whole.subcommand(plain_command(alloc, "asm", asm))?;
+    let whole = with_part(whole, stages_command(alloc))?;
+    let whole = with_part(whole, image_command(alloc))?;
+    let whole = with_part(whole, source_command(alloc))?;
     let whole = with_part(whole, library_command(alloc))?;
     let whole = with_part(whole, serve_command(alloc))?;
     with_part(whole, submit_command(alloc))
@@ -234,21 +261,30 @@ fn task_of(alloc: Global, matches: &ArgMatches<'_>) -> Result<Task, Error>
     }
 }
 
+// Which function `stages` is to show.
+fn stages_of(alloc: Global, given: &ArgMatches<'_>) -> Result<Work, AllocError>
+    ensures { IfOk result IsAllowed }
+{
+    match given.get_str(FUNCTION) {
+        Some(name) => Ok(Work::Stages(Some(String::from_str(alloc, name)?))),
+        None => Ok(Work::Stages(None)),
+    }
+}
+
 fn work_of(alloc: Global, matches: &ArgMatches<'_>) -> Result<Work, Error>
     ensures { IfOk result IsAllowed }
 {
-    if let Some(("library", given)) = matches.subcommand() {
-        return library_of(alloc, given);
-    }
-    if let Some(("serve", given)) = matches.subcommand() {
-        return serve_of(alloc, given);
-    }
-    if let Some(("submit", given)) = matches.subcommand() {
-        return submit_of(alloc, given);
-    }
-    match task_of(alloc, matches) {
-        Ok(task) => Ok(Work::One(task)),
-        Err(error) => Err(error),
+    match matches.subcommand() {
+        Some(("stages", given)) => Ok(stages_of(alloc, given)?),
+        Some(("image", given)) => image_of(alloc, given),
+        Some(("source", given)) => source_of(alloc, given),
+        Some(("library", given)) => library_of(alloc, given),
+        Some(("serve", given)) => serve_of(alloc, given),
+        Some(("submit", given)) => submit_of(alloc, given),
+        _ => match task_of(alloc, matches) {
+            Ok(task) => Ok(Work::One(task)),
+            Err(error) => Err(error),
+        },
     }
 }
 

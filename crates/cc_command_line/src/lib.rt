@@ -1,16 +1,18 @@
 //! The command line of the program: which words ask for what.
 //!
 //! It stands on `clap` alone and knows nothing of the language, so it is proved beside the crates that do. `command_line` reads it,
-//! `library` has the command for a library, `spool` those of a server and its clients, `numbers` the numbers. Hands out `read_request`,
-//! `line`, `Work` with what each work needs (`Task`, `Session`, `Server`, `Client`) and the limits, and the definitions that their
-//! contracts name (`specs/`).
+//! `library` has the command for a library, `unit` those that take something out of one, `spool` those of a server and its clients,
+//! `numbers` the numbers. Hands out `read_request`, `line`, `Work` with what each work needs (`Task`, `Wanted`, `Session`, `Server`,
+//! `Client`) and the limits, and the definitions that their contracts name (`specs/`).
 #![tactic(auto)]
 
 mod command_line;
 mod library;
 mod numbers;
 mod spool;
+mod unit;
 
 pub use command_line::{MOST_STEPS, Request, Task, Work, line, read_request, refused_bytes};
 pub use library::{LEAST_AREA, MOST_AREA, MOST_WORKERS, Session};
 pub use spool::{Client, MOST_CLIENTS, MOST_DAYS, MOST_WAIT, Server};
+pub use unit::{Part, Wanted};

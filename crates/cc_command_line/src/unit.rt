@@ -1,0 +1,140 @@
+// The commands `image` and `source`: what is taken out of a library. `image` without a library is a task for a text.
+
+ghost use Rattle.std.specs.Prelude.{IfOk};
+ghost use Rattle.cc_command_line.specs.Task.{IsAllowed};
+
+use crate::command_line::{Task, Work};
+use crate::library::{PATH_RULE, path_of};
+use clap::error::ErrorKind;
+use clap::{Arg, ArgMatches, Command, Error};
+use std::alloc::{AllocError, Global};
+
+const DISK: &str = "DISK";
+
+const NAME: &str = "NAME";
+
+const BOTH_RULE: &str =
+    "DISK and NAME go together; without both, the program comes on standard input: cclib image < FILE";
+
+// What a person reads below the words of `image`.
+const IMAGE_HELP: &str = "\
+Without further words the program comes on standard input:
+  cclib image < examples/quotient.c
+
+With DISK and NAME the image is that of a unit of a library, as it was stored:
+  cclib image units.disk quotient
+
+Its code lies from 0x00010000 on, the first values of its globals from 0x00200000 on.";
+
+// The same of `source`.
+const SOURCE_HELP: &str = "\
+What is printed is the source that was stored, to the byte.
+
+Example:
+  cclib source units.disk quotient > quotient.c";
+
+/// A part of a unit of the library in a file.
+#[derive(Drop)]
+pub struct Wanted {
+    /// The path of the file.
+    pub disk: String,
+    /// The name that the unit should have, as it was given.
+    pub name: String,
+    /// Which part is wanted.
+    pub part: Part,
+}
+
+/// A part of a unit.
+#[derive(Clone, Copy, Debug, Drop, PartialEq, Eq)]
+pub enum Part {
+    /// Its image, as Intel HEX.
+    Image,
+    /// Its source, to the byte.
+    Source,
+}
+
+// The word that says which file, and the one that says which unit.
+fn with_unit<'a>(
+    alloc: Global,
+    command: Command<'a>,
+    is_required: bool,
+) -> Result<Command<'a>, AllocError> {
+    let disk = Arg::new(alloc, DISK)
+        .required(is_required)
+        .help("The file that has the library");
+    let name = Arg::new(alloc, NAME)
+        .required(is_required)
+        .help("The name of the unit");
+    command.arg(disk)?.arg(name)
+}
+
+/// The command `image` with its words.
+pub(crate) fn image_command<'a>(alloc: Global) -> Result<Command<'a>, AllocError> {
+    let begun = Command::new(alloc, "image")
+        .about(
+            "Compile the program and print its image as Intel HEX, or print that of a unit of a library",
+        )
+        .after_help(IMAGE_HELP);
+    with_unit(alloc, begun, false)
+}
+
+/// The command `source` with its words.
+pub(crate) fn source_command<'a>(alloc: Global) -> Result<Command<'a>, AllocError> {
+    let begun = Command::new(alloc, "source")
+        .about("Print the source of a unit of a library")
+        .after_help(SOURCE_HELP);
+    with_unit(alloc, begun, true)
+}
+
+// The error of clap for words of `image` that break this rule.
+fn refused_image(alloc: Global, rule: &'static str) -> Result<Error, AllocError> {
+    let mut part = image_command(alloc)?.bin_name("cclib image")?;
+    part.error(ErrorKind::ValueValidation, rule)
+}
+
+// The same of `source`.
+fn refused_source(alloc: Global, rule: &'static str) -> Result<Error, AllocError> {
+    let mut part = source_command(alloc)?.bin_name("cclib source")?;
+    part.error(ErrorKind::ValueValidation, rule)
+}
+
+// The part of the unit that the words name; none where a path is empty.
+fn wanted_of(
+    alloc: Global,
+    given: &ArgMatches<'_>,
+    name: &str,
+    part: Part,
+) -> Result<Option<Work>, AllocError> {
+    let Some(disk) = path_of(alloc, given, DISK)? else {
+        return Ok(None);
+    };
+    let name = String::from_str(alloc, name)?;
+    Ok(Some(Work::TakeOut(Wanted { disk, name, part })))
+}
+
+/// What `image` asks for: a task for a text where it has no word, else the image of a unit.
+pub(crate) fn image_of(alloc: Global, given: &ArgMatches<'_>) -> Result<Work, Error>
+    ensures { IfOk result IsAllowed }
+{
+    if given.get_str(DISK).is_none() {
+        return Ok(Work::One(Task::Image));
+    }
+    let Some(name) = given.get_str(NAME) else {
+        return Err(refused_image(alloc, BOTH_RULE)?);
+    };
+    match wanted_of(alloc, given, name, Part::Image)? {
+        Some(work) => Ok(work),
+        None => Err(refused_image(alloc, PATH_RULE)?),
+    }
+}
+
+/// What `source` asks for.
+pub(crate) fn source_of(alloc: Global, given: &ArgMatches<'_>) -> Result<Work, Error>
+    ensures { IfOk result IsAllowed }
+{
+    let name = given.get_str(NAME).unwrap_or("");
+    match wanted_of(alloc, given, name, Part::Source)? {
+        Some(work) => Ok(work),
+        None => Err(refused_source(alloc, PATH_RULE)?),
+    }
+}
