@@ -10,14 +10,16 @@ use Rattle.cc_meaning.specs.Erase.{outcome_tree}
 use Rattle.cc_rv32.specs.declared.image.Image.{Image}
 use Rattle.cc_rv32.specs.Machine.{machine_behavior}
 use Rattle.cc_rv32.specs.Listing.{listing}
+use Rattle.cc_hex.specs.Contents.{Holds, Says}
+use Rattle.cc_hex.specs.Layout.{image_text}
 use Rattle.cc_link.specs.Agree.{Agree}
 use Rattle.cc_link.specs.Compile.{IsBuildRefusal}
 use Rattle.cc_command_line.specs.declared.command_line.Task.{Task}
-use Rattle.cc_command_line.specs.declared.command_line.Task.TheVariants.{Check, Interpret, Run, Asm}
+use Rattle.cc_command_line.specs.declared.command_line.Task.TheVariants.{Check, Interpret, Run, Asm, Image as ImageTask}
 use Rattle.cc_program.specs.declared.answer.Answer.{Answer}
-use Rattle.cc_program.specs.declared.answer.Answer.TheVariants.{Accepted, Ran, Executed, Listed}
+use Rattle.cc_program.specs.declared.answer.Answer.TheVariants.{Accepted, Ran, Executed, Listed, Image as InHex}
 use Rattle.cc_program.specs.declared.fault.Fault.{Fault}
-use Rattle.cc_program.specs.declared.fault.Fault.TheVariants.{Syntax, Typing, Meaning, Build, OutOfMemory, Read, Write}
+use Rattle.cc_program.specs.declared.fault.Fault.TheVariants.{Syntax, Typing, Meaning, Build, UnknownFunction, OutOfMemory, Read, Write}
 
 -- the text spells the tree, which breaks no rule, defines main and passes no limit
 pub record IsProgram (s : Source) : Type 0 where
@@ -55,12 +57,24 @@ abbrev pub IsListed : (text : List ℕ) → Answer → Type 0
 IsListed text (Listed lines) = (image : Image) × Agree text image × (lines.items ≡ listing image)
 IsListed text answer = ⊥
 
+-- a text is an image as Intel HEX: its bytes at each address and nothing else, in order of address, and laid out so
+pub record IsHex (text : List ℕ) (image : Image) : Type 0 where
+  pub holds : Holds text image
+  pub says : Says text image
+  pub laid_out : text ≡ image_text image
+
+-- what `image` answers: an image that agrees with the text, as Intel HEX
+abbrev pub IsImage : (text : List ℕ) → Answer → Type 0
+IsImage text (InHex lines) = (image : Image) × Agree text image × IsHex lines.items image
+IsImage text answer = ⊥
+
 -- the answer to a task for a text
 abbrev pub Answers : Task → (text : List ℕ) → Answer → Type 0
 Answers Check text answer = IsAccepted text answer
 Answers (Interpret steps words) text answer = IsRan steps words.items text answer
 Answers (Run steps words) text answer = IsExecuted steps words.items text answer
 Answers Asm text answer = IsListed text answer
+Answers ImageTask text answer = IsImage text answer
 
 -- the text spells a tree that is refused for a rule, a limit or the lack of main
 pub record IsTextRefusal (text : List ℕ) (fault : TypeFault) : Type 0 where
@@ -75,6 +89,7 @@ IsRefused text (Syntax f) = IsParseRefusal text f
 IsRefused text (Typing f) = (f ≡ type_fault.OutOfMemory) ⊎ IsTextRefusal text f
 IsRefused text (Meaning f) = Unit {0}
 IsRefused text (Build f) = IsBuildRefusal text f
+IsRefused text UnknownFunction = ⊥
 IsRefused text OutOfMemory = Unit {0}
 IsRefused text Read = ⊥
 IsRefused text Write = ⊥

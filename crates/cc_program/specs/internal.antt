@@ -1,2 +1,3 @@
 -- What only private contracts speak of.
 pub mod Pieces
+pub mod Stages

@@ -3,10 +3,11 @@
 ghost use Rattle.std.specs.Prelude.{◌≡◌, IfOk, IfErr};
 ghost use Rattle.cc_syntax.specs.Source.{source};
 ghost use Rattle.cc_link.specs.Agree.{Agree};
-ghost use Rattle.cc_program.specs.Answer.{IsProgram, IsAccepted, IsRan, IsRunOf, IsExecuted, IsListed, Answers, IsRefused};
+ghost use Rattle.cc_program.specs.Answer.{IsProgram, IsAccepted, IsRan, IsRunOf, IsExecuted, IsListed, IsImage, Answers, IsRefused};
 
 use super::fault::Fault;
 use cc_command_line::Task;
+use cc_hex::image::write;
 use cc_link::{CompiledUnit, compile};
 use cc_meaning::{Outcome, interpret};
 use cc_rv32::image::Image;
@@ -28,10 +29,12 @@ pub enum Answer {
     Executed(Vec<u32>, MachineOutcome),
     /// The listing of the program's image.
     Listed(Vec<u8>),
+    /// The program's image as Intel HEX.
+    Image(Vec<u8>),
 }
 
 // The program of a text.
-fn program(alloc: Global, text: &[u8]) -> Result<TypedUnit, Fault>
+pub(crate) fn program(alloc: Global, text: &[u8]) -> Result<TypedUnit, Fault>
     ensures text { IfOk result (λ program. (source program).text ≡ text.now) }
     ensures program { IfOk result (λ program. IsProgram (source program)) }
     ensures refused { IfErr result (λ fault. IsRefused text.now fault) }
@@ -147,9 +150,28 @@ fn listed(alloc: Global, text: &[u8]) -> Result<Answer, Fault>
     }
 }
 
-/// The answer to a task for a text: `check` and `interpret` by its tree, `run` and `asm` by its image, which agrees with it.
+// The program's image as Intel HEX.
+fn in_hex(alloc: Global, text: &[u8]) -> Result<Answer, Fault>
+    ensures answer { IfOk result (λ answer. IsImage text.now answer) }
+    ensures refused { IfErr result (λ fault. IsRefused text.now fault) }
+{
+    match compiled(alloc, text) {
+        Err(fault) => Err(fault),
+        Ok(unit) => {
+            let lines = write(alloc, &unit.stored().image);
+            drop(unit);
+            match lines {
+                Ok(lines) => Ok(Answer::Image(lines)),
+                Err(_) => Err(Fault::OutOfMemory),
+            }
+        }
+    }
+}
+
+/// The answer to a task for a text: `check` and `interpret` by its tree, `run`, `asm` and `image` by its image, which agrees with it.
 ///
-/// Refusals: those of `parse`, then those of `check`; for `run` and `asm` then 22, 24 and 25 of `compile`; 40 where memory was refused.
+/// Refusals: those of `parse`, then those of `check`; for `run`, `asm` and `image` then 22, 24 and 25 of `compile`; 40 where memory was
+/// refused.
 pub fn answer_for(alloc: Global, task: &Task, text: &[u8]) -> Result<Answer, Fault>
     ensures answer { IfOk result (λ answer. Answers task.now text.now answer) }
     ensures refused { IfErr result (λ fault. IsRefused text.now fault) }
@@ -159,5 +181,6 @@ pub fn answer_for(alloc: Global, task: &Task, text: &[u8]) -> Result<Answer, Fau
         Task::Interpret(steps, words) => ran(alloc, text, words.as_slice(), *steps),
         Task::Run(steps, words) => executed(alloc, text, words.as_slice(), *steps),
         Task::Asm => listed(alloc, text),
+        Task::Image => in_hex(alloc, text),
     }
 }

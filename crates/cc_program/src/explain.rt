@@ -55,6 +55,7 @@ fn of_fault(alloc: Global, text: &[u8], fault: &Fault) -> Result<Option<Diagnost
         Fault::Build(BuildFault::Piece(fault)) => of_piece(alloc, text, *fault),
         Fault::Build(BuildFault::Link(_))
         | Fault::Meaning(_)
+        | Fault::UnknownFunction
         | Fault::OutOfMemory
         | Fault::Read
         | Fault::Write => Ok(None),
@@ -144,6 +145,6 @@ pub fn explain_wrong<W: Write>(
             let told = of_wrong(alloc, text, words.as_slice(), *steps, cause);
             write_told(told, text, writer)
         }
-        Task::Check | Task::Run(_, _) | Task::Asm => Ok(()),
+        Task::Check | Task::Run(_, _) | Task::Asm | Task::Image => Ok(()),
     }
 }

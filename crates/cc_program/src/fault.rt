@@ -28,6 +28,9 @@ pub enum Fault {
     /// 1 to 7, 11 to 22, 24, 25, 40: the text has no image.
     #[error(transparent)]
     Build(BuildFault),
+    /// 59: the program defines no function of the name that is asked for.
+    #[error("UnknownFunction")]
+    UnknownFunction,
     /// 40: memory was refused as the text was read, or as an image ran.
     #[error("OutOfMemory")]
     OutOfMemory,
@@ -46,7 +49,7 @@ impl From<AllocError> for Fault {
 }
 
 impl Fault {
-    /// The number of the fault: 1 to 7, 11 to 22, 24, 25, 40, 53 or 54.
+    /// The number of the fault: 1 to 7, 11 to 22, 24, 25, 40, 53, 54 or 59.
     pub fn number(&self) -> u32
         ensures { result ≡ fault_number self.now }
     {
@@ -55,6 +58,7 @@ impl Fault {
             Fault::Typing(fault) => fault.number(),
             Fault::Meaning(fault) => fault.number(),
             Fault::Build(fault) => fault.number(),
+            Fault::UnknownFunction => 59,
             Fault::OutOfMemory => 40,
             Fault::Read => 53,
             Fault::Write => 54,
@@ -69,7 +73,11 @@ impl Fault {
             Fault::Syntax(fault) => fault.place(),
             Fault::Typing(fault) => fault.place(),
             Fault::Build(fault) => fault.place(),
-            Fault::Meaning(_) | Fault::OutOfMemory | Fault::Read | Fault::Write => None,
+            Fault::Meaning(_)
+            | Fault::UnknownFunction
+            | Fault::OutOfMemory
+            | Fault::Read
+            | Fault::Write => None,
         }
     }
 

@@ -1,19 +1,25 @@
 //! The work of the program: a task, done over any reader and writer.
 //!
-//! `source` reads the text, `answer` has the answer to a task for a text, `work` does a task, `fault` has every refusal with its
-//! line, `explain` what a person is told beside it. Which words ask for which task is the matter of `cc_command_line`, what
-//! a text means that of the crates of the language.
-//! Hands out `answer_for`, `run_image`, `perform`, `perform_and_explain`, their types, what writes an answer and a fault's line and what
-//! explains a fault of a function, and the definitions that the contracts name (`specs/`).
+//! `source` reads the text, `answer` has the answer to a task for a text, `work` does a task, `stages` shows what the compiler makes of a
+//! text, `part` takes a part of a unit out of a library, `fault` has every refusal with its line, `explain` and `unknown` what a person is
+//! told beside it. Which words ask for which task is the matter of `cc_command_line`, what a text means that of the crates of the
+//! language.
+//! Hands out `answer_for`, `run_image`, `perform`, `perform_and_explain`, the same of stages, `part_in`, `take_out`, their types, what writes
+//! an answer and a fault's line and what explains a fault of a function, and the definitions that the contracts name (`specs/`).
 #![tactic(auto)]
 
 mod answer;
 mod explain;
 mod fault;
+mod part;
 mod source;
+mod stages;
+mod unknown;
 mod work;
 
 pub use answer::{Answer, answer_for, run_image};
 pub use explain::{of_piece, write_told};
 pub use fault::{Fault, write_fault_line};
+pub use part::{PartFault, part_in, take_out};
+pub use stages::{perform_and_explain_stages, perform_stages};
 pub use work::{perform, perform_and_explain, write_answer};

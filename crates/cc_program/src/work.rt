@@ -53,7 +53,7 @@ pub fn write_answer<W: Write>(answer: &Answer, writer: &mut W) -> io::Result<()>
         Answer::Accepted => writeln!(writer, "ok")?,
         Answer::Ran(outcome) => write_outcome(outcome, writer)?,
         Answer::Executed(output, outcome) => write_run(output.as_slice(), *outcome, writer)?,
-        Answer::Listed(lines) => writer.write_all(lines.as_slice())?,
+        Answer::Listed(lines) | Answer::Image(lines) => writer.write_all(lines.as_slice())?,
     }
     writer.flush()
 }
@@ -65,8 +65,15 @@ fn cause_of(answer: &Answer) -> Option<Cause> {
             Stop::Wrong(cause) => Some(cause),
             Stop::Going | Stop::Ended(_) => None,
         },
-        Answer::Accepted | Answer::Executed(_, _) | Answer::Listed(_) => None,
+        Answer::Accepted | Answer::Executed(_, _) | Answer::Listed(_) | Answer::Image(_) => None,
     }
+}
+
+/// Writes the line of a fault of a text, and flushes the writer; the fault.
+pub(crate) fn refused<W: Write>(fault: Fault, text: &[u8], writer: &mut W) -> Fault {
+    let _ = fault.write_line(text, writer);
+    let _ = writer.flush();
+    fault
 }
 
 // Does a task for a text: writes the answer, or the fault's line, and answers why the run went wrong, where it did.
@@ -86,19 +93,30 @@ fn tell<W: Write>(
                 Err(_) => Err(Fault::Write),
             }
         }
-        Err(fault) => {
-            let _ = fault.write_line(text, writer);
-            let _ = writer.flush();
-            Err(fault)
-        }
+        Err(fault) => Err(refused(fault, text, writer)),
     }
 }
 
 /// A text as far as it was read, and what a task told of it: the fault, or why the run went wrong, where it did.
 #[derive(Drop)]
-struct Performed {
-    text: Vec<u8>,
-    told: Result<Option<Cause>, Fault>,
+pub(crate) struct Performed {
+    pub(crate) text: Vec<u8>,
+    pub(crate) told: Result<Option<Cause>, Fault>,
+}
+
+/// The text of a reader; where it can't be read, the fault's line is written.
+pub(crate) fn read_text<R: Read, W: Write>(
+    alloc: Global,
+    reader: &mut R,
+    writer: &mut W,
+) -> Result<Vec<u8>, Performed> {
+    match read_source(alloc, reader) {
+        Ok(text) => Ok(text),
+        Err(fault) => Err(Performed {
+            text: Vec::new(alloc),
+            told: Err(refused(fault, b"", writer)),
+        }),
+    }
 }
 
 // Does a task.
@@ -108,19 +126,12 @@ fn try_perform<R: Read, W: Write>(
     reader: &mut R,
     writer: &mut W,
 ) -> Performed {
-    match read_source(alloc, reader) {
+    match read_text(alloc, reader, writer) {
         Ok(text) => {
             let told = tell(alloc, task, text.as_slice(), writer);
             Performed { text, told }
         }
-        Err(fault) => {
-            let _ = fault.write_line(b"", writer);
-            let _ = writer.flush();
-            Performed {
-                text: Vec::new(alloc),
-                told: Err(fault),
-            }
-        }
+        Err(performed) => performed,
     }
 }
 
@@ -136,8 +147,8 @@ fn explain<W: Write>(alloc: Global, task: &Task, performed: &Performed, writer: 
     let _ = writer.flush();
 }
 
-// The status of a task that was done.
-fn status(performed: Performed) -> u8
+/// The status of a task that was done.
+pub(crate) fn status(performed: Performed) -> u8
     ensures { result ≤ 1 }
 {
     let status = match &performed.told {
