@@ -52,8 +52,12 @@ const IN_USE: &str =
 /// The same for one that is too small.
 const SMALL: &str = "cclib: the device has fewer than 16 + 2 * AREA bytes\n";
 
-// The disk on the file, made anew where an area is given.
-fn disk_of(files: &HostRuntime, path: &str, area: Option<u32>) -> Result<FileDisk, NoDisk> {
+/// The disk on the file, made anew where an area is given.
+pub(crate) fn disk_of(
+    files: &HostRuntime,
+    path: &str,
+    area: Option<u32>,
+) -> Result<FileDisk, NoDisk> {
     let Some(area) = area else {
         return match FileDisk::open(files, path) {
             Ok(disk) => Ok(disk),

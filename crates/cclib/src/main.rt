@@ -1,7 +1,7 @@
 // The program `cclib`: reads a C program from standard input, and checks, interprets, runs or lists it, or does a script over a library.
 // How a command line is read is the matter of `cc_command_line`, how a task is done that of `cc_program`, a script that of `cc_session`, the
-// file of a library that of `filing`, a device in its place that of `device`, a server that of `serving`, its clients that of `submitting`,
-// what a person is told that of `telling`, what the stack needs that of `stack`.
+// file of a library that of `filing`, what is taken out of one that of `taking`, a device in its place that of `device`, a server that of
+// `serving`, its clients that of `submitting`, what a person is told that of `telling`, what the stack needs that of `stack`.
 #![tactic(auto)]
 
 ghost use Rattle.cc_command_line.specs.Task.{IsAllowed};
@@ -11,10 +11,11 @@ mod filing;
 mod serving;
 mod stack;
 mod submitting;
+mod taking;
 mod telling;
 
 use cc_command_line::{Request, Task, Work, read_request, refused_bytes};
-use cc_program::{Fault, perform, perform_and_explain};
+use cc_program::{Fault, perform, perform_and_explain, perform_and_explain_stages, perform_stages};
 use clap::Error;
 use clap::error::ErrorKind;
 use filing::library;
@@ -28,6 +29,7 @@ use std::rt::{Clock, Env, Files};
 use std::sync::Wait;
 use std::thread::Threads;
 use submitting::submit_script;
+use taking::take_out_of_file;
 use telling::Persons;
 
 /// Does what the command line asks; the status is 0 for an answer, 1 for a fault, 2 for a refused command line.
@@ -65,6 +67,34 @@ fn start<R: AllocGlobal + Input + Print, E: Write + Drop>(
     }
     let mut reader = rt.reader();
     Ok(perform_and_explain(rt, task, &mut reader, &mut writer, &mut errors))
+}
+
+// Shows what the compiler makes of a text; the error is lack of memory before it began.
+fn start_stages<R: AllocGlobal + Input + Print, E: Write + Drop>(
+    rt: &R,
+    function: Option<String>,
+    is_quiet: bool,
+    errors: E,
+) -> Result<u8, AllocError> {
+    let (Ok(mut writer), Ok(mut errors)) = (
+        BufWriter::new(rt.alloc(), io::writer(rt)),
+        BufWriter::new(rt.alloc(), errors),
+    ) else {
+        drop(function);
+        return Err(AllocError);
+    };
+    let name = match &function {
+        Some(name) => Some(name.as_bytes()),
+        None => None,
+    };
+    let mut reader = rt.reader();
+    let status = if is_quiet {
+        perform_stages(rt, name, &mut reader, &mut writer)
+    } else {
+        perform_and_explain_stages(rt, name, &mut reader, &mut writer, &mut errors)
+    };
+    drop(function);
+    Ok(status)
 }
 
 // Says why a command line is refused, or prints the help that it asks for.
@@ -146,6 +176,8 @@ where
 {
     match work {
         Work::One(task) => start(rt, task, persons.is_quiet, errors),
+        Work::Stages(function) => start_stages(rt, function, persons.is_quiet, errors),
+        Work::TakeOut(wanted) => take_out_of_file(rt, files, &wanted, persons.is_quiet, errors),
         Work::Library(asked) => library(rt, files, &asked, persons, errors),
         Work::Serve(asked) => serve_folder(rt, files, &asked, persons.is_quiet, errors),
         Work::Submit(asked) => {

@@ -1,0 +1,97 @@
+// The commands `image` and `source` with a library: a part of a unit that the library in a file keeps. The file is opened as for `library`, with
+// its lock, and nothing is written to it.
+
+ghost use Rattle.std.specs.Prelude.{◌≤◌};
+
+use crate::filing::disk_of;
+use crate::telling::Telling;
+use cc_command_line::Wanted;
+use cc_library::LibraryFault;
+use cc_program::{Fault, PartFault, take_out};
+use cc_session::explain_words;
+use std::alloc::{AllocError, Global};
+use std::io::{self, BufWriter, Print, Write};
+
+/// What is told where there is no disk on the file for 35.
+const NO_FILE: &str =
+    "cclib: the file could not be opened, or failed, or another process has it open\n";
+
+/// The same where it is no library, for 38.
+const NO_LIBRARY: &str = "cclib: the file is no library\n";
+
+// The bytes of what is wanted.
+fn bytes_of<E: Write>(
+    alloc: Global,
+    files: &HostRuntime,
+    wanted: &Wanted,
+    errors: &mut E,
+) -> Result<Vec<u8>, PartFault> {
+    match disk_of(files, wanted.disk.as_str(), None) {
+        Ok(disk) => {
+            let name = wanted.name.as_bytes();
+            let (found, disk) = take_out(alloc, disk, name, wanted.part, errors);
+            drop(disk);
+            found
+        }
+        Err(reason) => Err(PartFault::Library(reason.fault())),
+    }
+}
+
+// Tells a person of a fault; of a name that no unit has it is told already.
+fn explain<E: Write>(fault: PartFault, errors: &mut E) -> io::Result<()> {
+    match fault {
+        PartFault::Library(LibraryFault::DiskFault) => errors.write_all(NO_FILE.as_bytes())?,
+        PartFault::Library(LibraryFault::NotALibrary) => errors.write_all(NO_LIBRARY.as_bytes())?,
+        PartFault::Absent => {}
+        PartFault::BadName | PartFault::OutOfMemory | PartFault::Library(_) => {
+            explain_words(fault.number(), errors)?
+        }
+    }
+    errors.flush()
+}
+
+// Writes the bytes, or the fault's line; the status.
+fn write_found<W: Write, E: Write>(
+    found: Result<Vec<u8>, PartFault>,
+    writer: &mut W,
+    errors: &mut E,
+) -> u8
+    ensures { result ≤ 1 }
+{
+    match found {
+        Ok(bytes) => {
+            let is_written = writer.write_all(bytes.as_slice()).is_ok() && writer.flush().is_ok();
+            drop(bytes);
+            if is_written {
+                return 0;
+            }
+            let _ = explain_words(Fault::Write.number(), errors);
+        }
+        Err(fault) => {
+            let _ = writeln!(writer, "fault {} {fault}", fault.number());
+            let _ = writer.flush();
+            let _ = explain(fault, errors);
+        }
+    }
+    1
+}
+
+/// Writes a part of a unit of the library in a file to standard output: its image as Intel HEX, or its source to the byte; the status. The error
+/// is lack of memory before it began.
+pub fn take_out_of_file<R: AllocGlobal + Print, E: Write + Drop>(
+    rt: &R,
+    files: &HostRuntime,
+    wanted: &Wanted,
+    is_quiet: bool,
+    errors: E,
+) -> Result<u8, AllocError> {
+    let (Ok(mut writer), Ok(errors)) = (
+        BufWriter::new(rt.alloc(), io::writer(rt)),
+        BufWriter::new(rt.alloc(), errors),
+    ) else {
+        return Err(AllocError);
+    };
+    let mut told = Telling { errors, is_quiet };
+    let found = bytes_of(rt.alloc(), files, wanted, &mut told);
+    Ok(write_found(found, &mut writer, &mut told))
+}
