@@ -16,6 +16,9 @@ Commands:
   interpret  Print the words that the program writes, and how it ends, by the definition of C
   run        Compile the program and run its image: print the words that it writes, and how it ends
   asm        Compile the program and list its image
+  stages     Show what the compiler makes of each function, stage by stage
+  image      Compile the program and print its image as Intel HEX, or print that of a unit of a library
+  source     Print the source of a unit of a library
   library    Keep compiled programs in a file that survives a power cut, by the commands of a script
   serve      Do the scripts that others leave in a folder, many at a time, over a library in a file
   submit     Leave a script for a server, wait for its answer and print it
@@ -30,7 +33,12 @@ Examples:
   cclib check < examples/quotient.c
   cclib interpret 1000 < examples/quotient.c
   cclib run 10000 2 104 105 < examples/checksum.c
+  cclib asm < examples/quotient.c
+  cclib stages main < examples/quotient.c
+  cclib image < examples/quotient.c > quotient.hex
   cclib library units.disk --format 65536 < examples/units.script
+  cclib image units.disk sum > sum.hex
+  cclib source units.disk sum
   cclib serve units.disk spool
   cclib submit spool add quotient < examples/quotient.c
 

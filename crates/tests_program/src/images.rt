@@ -1,6 +1,7 @@
-// Programs that are compiled: what their images write and how they end, and texts without an image.
+// Programs that are compiled: what their images write and how they end, the text of an image, and texts without an image.
 
-use super::helpers::{has_no_image, runs};
+use super::helpers::{has_no_image, runs, writes};
+use cc_command_line::Task;
 
 // Small programs, the instructions of each run, what its image writes on no input and how it ends.
 static IMAGES: [(&str, u64, &str); 10] = [
@@ -53,6 +54,37 @@ fn images(rt: HostRuntime) {
     for (text, steps, lines) in IMAGES.iter() {
         assert!(rt; runs(&rt, text.as_bytes(), *steps, lines));
     }
+}
+
+// Programs, and their images as Intel HEX: the start, a function that puts 0 into x10 and returns, and the first values of the globals.
+static TEXTS: [(&str, &str); 2] = [
+    (
+        "int main(void){}",
+        ":020000040001F9\n:10000000EF00C0009308D005730000001305000046\n:040010006780000005\n:00000001FF\n",
+    ),
+    (
+        "unsigned u=305419896u;unsigned char c[3]={1,2,3};int main(void){}",
+        ":020000040001F9\n:10000000EF00C0009308D005730000001305000046\n:040010006780000005\n:020000040020DA\n:080000007856341201020300DE\n:00000001FF\n",
+    ),
+];
+
+#[test]
+fn texts_of_images(rt: HostRuntime) {
+    for (text, lines) in TEXTS.iter() {
+        assert!(rt;
+            writes(&rt, Task::Image, text.as_bytes(), lines.as_bytes(), 0),
+            "for {text}"
+        );
+    }
+    assert!(rt;
+        writes(
+            &rt,
+            Task::Image,
+            b"int main(void){x=1;}",
+            b"fault 11 Unknown at 1:16\n",
+            1
+        )
+    );
 }
 
 #[test]

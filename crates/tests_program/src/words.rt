@@ -172,7 +172,7 @@ fn quiet_words(rt: HostRuntime) {
 }
 
 // Command lines, and a part of the text that is printed for each.
-static PRINTED: [(&[&str], &str); 9] = [
+static PRINTED: [(&[&str], &str); 12] = [
     (&["cclib", "interpret", "+5"], "Usage: cclib interpret"),
     (&["cclib", "run", "+5"], "Usage: cclib run"),
     (
@@ -194,6 +194,9 @@ static PRINTED: [(&[&str], &str); 9] = [
         "cclib library units.disk --format 65536 < examples/units.script",
     ),
     (&["cclib", "library", "a", "--workers", "9"], "from 1 to 8"),
+    (&["cclib", "image", "a.disk"], "DISK and NAME go together"),
+    (&["cclib", "source", "a.disk"], "Usage: cclib source"),
+    (&["cclib", "stages", "--help"], "cclib stages main <"),
 ];
 
 fn prints(alloc: Global, words: &'static [&'static str], part: &str) -> bool {

@@ -1,0 +1,92 @@
+// The command lines of what is shown of a text, and of what is taken out of a library.
+
+use crate::words::is_refused;
+use cc_command_line::{Part, Task, Wanted, Work, line};
+use std::alloc::Global;
+
+// Command lines that show functions, and the one that each names.
+static STAGES: [(&[&str], Option<&str>); 4] = [
+    (&["cclib", "stages"], None),
+    (&["cclib", "stages", "main"], Some("main")),
+    (&["cclib", "--quiet", "stages", "x y"], Some("x y")),
+    (&["cclib", "stages", ""], Some("")),
+];
+
+fn asks_for_stages(alloc: Global, words: &'static [&'static str], wanted: Option<&str>) -> bool {
+    match line(alloc, words) {
+        Ok(Work::Stages(function)) => match (&function, wanted) {
+            (Some(name), Some(wanted)) => name.as_str() == wanted,
+            (None, None) => true,
+            _ => false,
+        },
+        other => {
+            drop(other);
+            false
+        }
+    }
+}
+
+#[test]
+fn stages_of_functions(rt: HostRuntime) {
+    for (words, wanted) in STAGES.iter() {
+        assert!(rt; asks_for_stages(rt.alloc(), words, *wanted));
+    }
+}
+
+// Command lines that ask for the unit `quotient` of `units.disk`, and for which part.
+static UNITS: [(&[&str], Part); 3] = [
+    (&["cclib", "image", "units.disk", "quotient"], Part::Image),
+    (
+        &["cclib", "image", "units.disk", "--quiet", "quotient"],
+        Part::Image,
+    ),
+    (&["cclib", "source", "units.disk", "quotient"], Part::Source),
+];
+
+fn asks_for_unit(alloc: Global, words: &'static [&'static str], wanted: Part) -> bool {
+    match line(alloc, words) {
+        Ok(Work::TakeOut(Wanted { disk, name, part })) => {
+            disk.as_str() == "units.disk" && name.as_str() == "quotient" && part == wanted
+        }
+        other => {
+            drop(other);
+            false
+        }
+    }
+}
+
+#[test]
+fn parts_of_units(rt: HostRuntime) {
+    for (words, part) in UNITS.iter() {
+        assert!(rt; asks_for_unit(rt.alloc(), words, *part));
+    }
+}
+
+fn asks_for_image(alloc: Global, words: &'static [&'static str]) -> bool {
+    matches!(line(alloc, words), Ok(Work::One(Task::Image)))
+}
+
+#[test]
+fn an_image_of_a_text(rt: HostRuntime) {
+    assert!(rt; asks_for_image(rt.alloc(), &["cclib", "image"]));
+    assert!(rt; asks_for_image(rt.alloc(), &["cclib", "image", "--quiet"]));
+}
+
+static REFUSED: [&[&str]; 9] = [
+    &["cclib", "image", "units.disk"],
+    &["cclib", "image", ""],
+    &["cclib", "image", "", "quotient"],
+    &["cclib", "image", "units.disk", "quotient", "more"],
+    &["cclib", "source"],
+    &["cclib", "source", "units.disk"],
+    &["cclib", "source", "", "quotient"],
+    &["cclib", "source", "units.disk", "quotient", "more"],
+    &["cclib", "stages", "main", "more"],
+];
+
+#[test]
+fn refused_parts(rt: HostRuntime) {
+    for words in REFUSED.iter() {
+        assert!(rt; is_refused(rt.alloc(), words));
+    }
+}
