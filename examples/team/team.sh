@@ -1,0 +1,63 @@
+#!/usr/bin/env bash
+# What a firmware team does with a library of units, from the first `add` to the images for a board: examples/team/team.sh [FOLDER]
+#
+# Four units are stored, one is replaced, all are listed and audited; source and image of each are taken out, the image is read by objcopy and compared with
+# the listing, and, where qemu is there, run on a core that knows nothing of cclib, with the start of start.s. FOLDER (made, else a temporary
+# one) has the library and the images afterwards. CCLIB names the program, where it is not ./cclib. The status is 0 where all is as it should be.
+set -euo pipefail
+here=$(cd "$(dirname "$0")" && pwd)
+cclib=${CCLIB:-$here/../../cclib}
+if [ $# -gt 0 ]; then mkdir -p "$1"; out=$(cd "$1" && pwd); else out=$(mktemp -d); trap 'rm -rf "$out"' EXIT; fi
+library=$out/team.disk
+tool=riscv64-unknown-elf
+
+# What each unit reads when it is tried: the check sequence of CRC-16 ("123456789"), three frames, twenty seconds, seven readings.
+declare -A words=(
+  [checksum]="9 49 50 51 52 53 54 55 56 57"
+  [frame]="13 3 17 34 2 51 0 1 1 0 5 17 34 0"
+  [lamp]="20 0 0 1 0 0 0 0 0 0 0 0 0 0 0 0 0 0 0 0 0"
+  [heater]="7 224 256 300 384 500 250 1000"
+)
+declare -A source=([checksum]=checksum.c [frame]=frame.c [lamp]=lamp-longer.c [heater]=heater.c)
+
+fail() { echo "team: $1" >&2; exit 1; }
+
+# put COMMAND NAME FILE: a command of a script with the text that it takes
+put() { printf '%s %s %d\n' "$1" "$2" "$(wc -c <"$here/$3")"; cat "$here/$3"; echo; }
+
+echo "== stored"
+{ put add checksum checksum.c; put add frame frame.c; put add lamp lamp.c; put add heater heater.c; } | "$cclib" library "$library" --format 262144
+
+echo "== replaced, listed, audited"
+{ put replace lamp lamp-longer.c; echo list; echo audit; } | "$cclib" library "$library"
+
+for unit in checksum frame lamp heater; do
+  echo "== $unit"
+  "$cclib" source "$library" $unit | cmp - "$here/${source[$unit]}" || fail "the source of $unit is another one"
+  "$cclib" image "$library" $unit >"$out/$unit.hex"
+  "$cclib" asm <"$here/${source[$unit]}" >"$out/$unit.lst"
+  # shellcheck disable=SC2086
+  "$cclib" run 100000 ${words[$unit]} <"$here/${source[$unit]}" | tee "$out/$unit.said"
+  command -v $tool-objcopy >/dev/null || { echo "team: no $tool-objcopy here: the image is not compared" >&2; continue; }
+
+  # The code's words by objcopy are those of the listing.
+  $tool-objcopy -I ihex -O binary "$out/$unit.hex" "$out/$unit.bin"
+  lines=$(wc -l <"$out/$unit.lst")
+  cmp <(cut -d' ' -f2 "$out/$unit.lst") <(head -c $((4 * lines)) "$out/$unit.bin" | od -An -v -w4 -tx4 | tr -d ' ') || fail "the image of $unit is not its listing"
+  command -v qemu-system-riscv32 >/dev/null || { echo "team: no qemu-system-riscv32 here: the image is not run on another core" >&2; continue; }
+
+  # The globals' end: the image begins at 0x00010000, and has globals where it goes on beyond 0x00200000.
+  size=$(wc -c <"$out/$unit.bin")
+  end=$((65536 + size > 2097152 ? 65536 + size : 2097152))
+  # shellcheck disable=SC2086
+  { printf '.data\n.globl input\n.balign 4\ninput: .word '; wc -w <<<"${words[$unit]}"; printf '.word %s\n' ${words[$unit]}; } >"$out/input.s"
+  for file in "$here/start.s" "$here/qemu.s" "$out/input.s"; do $tool-as -march=rv32im_zicsr -mabi=ilp32 "$file" -o "$out/$(basename "$file" .s).o"; done
+  $tool-ld --no-relax -m elf32lriscv -Ttext=0x1000 -Tdata=0x2000 --defsym globals_end=$end "$out/start.o" "$out/qemu.o" "$out/input.o" -o "$out/start.elf"
+  status=0
+  timeout 60 qemu-system-riscv32 -M none -cpu rv32 -m 16M -display none -monitor none -serial none \
+    -semihosting-config enable=on,target=native,chardev=words -chardev file,id=words,path="$out/$unit.words" \
+    -device loader,file="$out/$unit.hex" -device loader,file="$out/start.elf",cpu-num=0 || status=$?
+  { od -An -v -w4 -td4 "$out/$unit.words" | tr -d ' '; echo "exited $status"; } >"$out/$unit.qemu"
+  cmp "$out/$unit.said" "$out/$unit.qemu" || fail "$unit does something else on qemu's core"
+  echo "(the same on qemu's core)"
+done
