@@ -3,7 +3,7 @@ use Rattle.std.proofs.Common.{◌≡◌, ℕ, ⊥, List, absurd, refl, tt}
 use Rattle.cc_stages.specs.declared.fault.StagesFault.{StagesFault}
 use Rattle.cc_stages.specs.declared.fault.StagesFault.TheVariants as stages
 use Rattle.cc_program.specs.Answer.{IsRefused}
-use Rattle.cc_program.specs.Shown.{IsTextRefused}
+use Rattle.cc_program.specs.internal.Shown.{IsTextRefused}
 use Rattle.cc_program.specs.internal.Stages.{fault_of_stages}
 use Rattle.cc_program.specs.declared.fault.Fault.{Fault}
 use Rattle.cc_program.specs.declared.fault.Fault.TheVariants.{Syntax, Typing, Meaning, Build, UnknownFunction, OutOfMemory, Read, Write}

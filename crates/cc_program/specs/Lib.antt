@@ -4,7 +4,5 @@ pub mod Answer
 pub mod Fault
 -- What is taken out of a library, and why nothing is.
 pub mod Part
--- Why the stages of a text's functions are not shown.
-pub mod Shown
 -- What only private contracts speak of.
 pub mod internal
