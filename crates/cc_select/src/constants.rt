@@ -45,8 +45,8 @@ pub(crate) fn without_unread(
     for at in 0..steps.len() {
         let step = &steps[at];
         if stays(step, behind[at]) {
-            kept.push(*step)?;
-            live.push(behind[at])?;
+            kept.push_reserved(*step);
+            live.push_reserved(behind[at]);
         }
     }
     Ok(Lean {

@@ -141,11 +141,11 @@ pub(crate) fn fused(
     while at < steps.len() {
         match branch_at(table, steps, behind, at) {
             Some(branch) => {
-                found.push(branch)?;
+                found.push_reserved(branch);
                 at += 2;
             }
             None => {
-                found.push(steps[at])?;
+                found.push_reserved(steps[at]);
                 at += 1;
             }
         }

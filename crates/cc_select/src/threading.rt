@@ -4,7 +4,7 @@
 //!
 //! Two walks make the table of these tests: from the back, the test behind each label, and then none for the labels that branches lead to.
 
-ghost use Rattle.std.specs.Prelude.{◌≡◌, ◌++◌, ◌∷◌, [], ℕ, drop, None, false, not, IfOk, if◌then◌else◌, ◌==◌};
+ghost use Rattle.std.specs.Prelude.{◌≡◌, ◌++◌, ◌∷◌, [], ℕ, ◌+◌, ◌≤◌, drop, None, false, not, IfOk, vec_len, vec_capacity, if◌then◌else◌, ◌==◌};
 ghost use Rattle.cc_linear.specs.declared.item.Item.TheVariants.{Jump};
 ghost use Rattle.cc_select.specs.Known.{unknown, is_taken, chosen};
 ghost use Rattle.cc_select.specs.Threading.{branches_to, first_test, test_behind, tests, way, is_jump, before_label, before_jump, in_jump, piece, is_before_gone, threaded_by, threaded};
@@ -39,6 +39,9 @@ impl Tests {
     {
         let at = label as usize;
         if self.rows.len() <= at {
+            if row.is_none() {
+                return Ok(());
+            }
             self.rows.resize(at + 1, None)?;
         }
         self.rows[at] = row;
@@ -143,65 +146,46 @@ fn is_jump(item: &Item) -> bool
 }
 
 // Pushes the steps of a label and of the test that goes before it.
-fn push_label(
-    steps: &mut Vec<Step>,
-    tests: &Tests,
-    known: &Known,
-    label: u32,
-) -> Result<(), AllocError>
-    ensures { IfOk result (λ _. steps.new.items ≡ steps.old.items ++ chosen (known_in known.now) (before_label (known_in known.now) (tests_in tests.now label) label)) }
+fn push_label(steps: &mut Vec<Step>, tests: &Tests, known: &Known, label: u32)
+    requires { vec_len steps.old + 2 ≤ vec_capacity steps.old }
+    ensures { steps.new.items ≡ steps.old.items ++ chosen (known_in known.now) (before_label (known_in known.now) (tests_in tests.now label) label) }
 {
     if let Some(test) = tests.row(label) {
-        steps.push(choose(known, way(known, test, label)))?;
+        steps.push_reserved(choose(known, way(known, test, label)));
     }
-    steps.push(Step::One(Item::Label { label }))?;
-    Ok(())
+    steps.push_reserved(Step::One(Item::Label { label }));
 }
 
 // Pushes the step of an item, and a jump to the label behind it unless the item is `alone`.
-fn push_step(
-    steps: &mut Vec<Step>,
-    known: &Known,
-    item: Item,
-    label: u32,
-    alone: bool,
-) -> Result<(), AllocError>
-    ensures { IfOk result (λ _. steps.new.items ≡ steps.old.items ++ chosen (known_in known.now) (item ∷ (if alone then [] else Jump label ∷ []))) }
+fn push_step(steps: &mut Vec<Step>, known: &Known, item: Item, label: u32, alone: bool)
+    requires { vec_len steps.old + 2 ≤ vec_capacity steps.old }
+    ensures { steps.new.items ≡ steps.old.items ++ chosen (known_in known.now) (item ∷ (if alone then [] else Jump label ∷ [])) }
 {
-    steps.push(choose(known, item))?;
+    steps.push_reserved(choose(known, item));
     if !alone {
-        steps.push(Step::One(Item::Jump { to: label }))?;
+        steps.push_reserved(Step::One(Item::Jump { to: label }));
     }
-    Ok(())
 }
 
 // Pushes the steps of a jump to a label and of the test that goes before the label.
-fn push_jump(
-    steps: &mut Vec<Step>,
-    tests: &Tests,
-    known: &Known,
-    label: u32,
-) -> Result<(), AllocError>
-    ensures { IfOk result (λ _. steps.new.items ≡ steps.old.items ++ chosen (known_in known.now) (in_jump (known_in known.now) (tests_in tests.now label) label)) }
+fn push_jump(steps: &mut Vec<Step>, tests: &Tests, known: &Known, label: u32)
+    requires { vec_len steps.old + 2 ≤ vec_capacity steps.old }
+    ensures { steps.new.items ≡ steps.old.items ++ chosen (known_in known.now) (in_jump (known_in known.now) (tests_in tests.now label) label) }
 {
     match tests.row(label) {
         Some(test) => {
             let way = way(known, test, label);
             let alone = is_jump(&way);
-            push_step(steps, known, way, label, alone)
+            push_step(steps, known, way, label, alone);
         }
         None => push_step(steps, known, Item::Jump { to: label }, label, true),
     }
 }
 
-// Pushes the steps of what stands for an item.
-fn push_piece(
-    steps: &mut Vec<Step>,
-    tests: &Tests,
-    known: &Known,
-    item: Item,
-) -> Result<(), AllocError>
-    ensures { IfOk result (λ _. steps.new.items ≡ steps.old.items ++ chosen (known_in known.now) (piece (tests_in tests.now) (known_in known.now) item)) }
+// Pushes the steps of what stands for an item: at most two, for which there is room.
+fn push_piece(steps: &mut Vec<Step>, tests: &Tests, known: &Known, item: Item)
+    requires { vec_len steps.old + 2 ≤ vec_capacity steps.old }
+    ensures { steps.new.items ≡ steps.old.items ++ chosen (known_in known.now) (piece (tests_in tests.now) (known_in known.now) item) }
 {
     match item {
         Item::Label { label } => push_label(steps, tests, known, label),
@@ -231,7 +215,8 @@ fn chosen_by(alloc: Global, tests: &Tests, items: &[Item]) -> Result<Vec<Step>, 
         if gone {
             gone = false;
         } else {
-            push_piece(&mut steps, tests, &known, *item)?;
+            steps.reserve(2)?;
+            push_piece(&mut steps, tests, &known, *item);
             gone = is_before_gone(tests, item);
             known.go_behind(item);
         }

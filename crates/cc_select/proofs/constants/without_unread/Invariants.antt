@@ -1,6 +1,14 @@
--- The steps that stay so far, with what is live behind each, and those that stay of the others.
+-- The steps that stay so far, with what is live behind each, and those that stay of the others; for each there is room.
+use Rattle.std.proofs.Common.{◌≤◌, length, vec_len}
+use Rattle.std.specs.Vec.{vec_capacity}
 use Rattle.cc_select.proofs.Passing.{Keeping}
 use Rattle.cc_select.proofs.constants.without_unread.Given as goal
 
 abbrev pub invariant-loop-at : goal.invariant-loop-at
-invariant-loop-at l = Keeping l.steps l.behind l.at l.kept.items l.live.items
+invariant-loop-at l = record {
+  keeping : Keeping l.steps l.behind l.at l.kept.items l.live.items;
+  many : vec_len l.kept ≤ l.at;
+  room : length l.steps ≤ vec_capacity l.kept;
+  many_live : vec_len l.live ≤ l.at;
+  room_live : length l.steps ≤ vec_capacity l.live;
+}
