@@ -1,18 +1,20 @@
 -- The table of labels, an item more at a time, from the back.
-use Rattle.std.proofs.Common.{◌≡◌, ℕ, zero, suc, ◌+◌, ◌-◌, ◌*◌, ◌<◌, ◌≤◌, List, [], ◌∷◌, Some, false, length, get_or, set, drop, replicate, refl, sym, ap, ◌∙◌, subst, inl, inr, arith}
+use Rattle.std.proofs.Common.{◌≡◌, ℕ, zero, suc, ◌+◌, ◌-◌, ◌*◌, ◌<◌, ◌≤◌, List, [], ◌∷◌, Bool, Option, Some, None, true, false, length, get_or, set, drop, replicate, refl, sym, ap, ◌∙◌, subst, inl, inr, arith}
 use Rattle.std.specs.Prelude.{if◌then◌else◌}
 use Rattle.std.specs.List.{AllByRecursion}
 use Rattle.std.proofs.lemmas.List.{get_or-set_same, get_or-set_other, length-set, get_or-replicate, length-replicate, drop_more, drop_all}
 use Rattle.std.proofs.lemmas.Bool.Decides.{eqb_tells}
-use Rattle.cc_linear.specs.declared.item.Item.TheVariants.{Label}
+use Rattle.cc_linear.specs.declared.item.Item.TheVariants.{Label, IfNonzero, IfZero}
 use Rattle.cc_select.specs.declared.step.Step.{Step}
-use Rattle.cc_select.specs.declared.step.Step.TheVariants.{One}
+use Rattle.cc_select.specs.declared.step.Step.TheVariants.{One, Branch, BranchImmediate}
 use Rattle.cc_select.specs.Selected.{labels}
 use Rattle.cc_emit.specs.declared.addressed.Addressed.{Addressed}
 use Rattle.cc_emit.specs.declared.addressed.Remembered.{Remembered}
 use Rattle.cc_emit.specs.Frames.{Frame}
-use Rattle.cc_emit.specs.Emission.{size, long_size, is_label, is_label_step}
-use Rattle.cc_emit.specs.internal.Behind.{long_behind, near_behind, behind, label_behind, label_of, label_of_step, IsTable}
+use Rattle.cc_emit.specs.declared.condition.Condition.{Condition}
+use Rattle.cc_emit.specs.Branches.{against_zero}
+use Rattle.cc_emit.specs.Emission.{size, size_of_step, long_size, branch_size, word_branch_size, word_recipe, is_label, is_label_step}
+use Rattle.cc_emit.specs.internal.Behind.{long_behind, near_behind, behind, label_behind, branched_to, branched_to_step, label_of, label_of_step, IsTable}
 
 -- ---- how many labels a table needs
 
@@ -25,6 +27,43 @@ pub counted_more : (code : List Step) (i count above count' : ℕ) (item : Step)
 counted_more code i count above count' item lt is le more one counted n ln all =
     let rest : drop i code ≡ item ∷ drop (i + 1) code = drop_more code i item lt ∙ ap (λ x. x ∷ drop (i + 1) code) (sym is) in
     counted n (omega arith) (subst (λ items. AllByRecursion (λ label. label < n) (labels items)) (sym rest) (one n (drop (i + 1) code) (omega arith) all))
+
+-- ---- how many items a step takes: as many as with each branch long, and one less if it is a near branch
+
+word_less : (alone : Option Condition) → word_branch_size alone true + 1 ≡ word_branch_size alone false
+word_less (Some c) = refl
+word_less None = refl
+
+near_step : (f : Frame) (near : ℕ → Bool) (k : Remembered) (s : Step) (to : ℕ) → Some to ≡ branched_to_step s → near to ≡ true → size_of_step f near k s + 1 ≡ size_of_step f (λ label. false) k s
+near_step f near k (One (IfNonzero r n)) to e near_it = (let is : to ≡ n = cc in ap (λ b. branch_size b + 1) (ap near (sym is) ∙ near_it))
+near_step f near k (One (IfZero r n)) to e near_it = (let is : to ≡ n = cc in ap (λ b. branch_size b + 1) (ap near (sym is) ∙ near_it))
+near_step f near k (Branch o nonzero b c n) to e near_it = (let is : to ≡ n = cc in ap (λ b. branch_size b + 1) (ap near (sym is) ∙ near_it))
+near_step f near k (BranchImmediate o nonzero b w n) to e near_it =
+    (let is : to ≡ n = cc in ap (λ x. word_branch_size (against_zero (word_recipe o w) b) x + 1) (ap near (sym is) ∙ near_it) ∙ word_less (against_zero (word_recipe o w) b))
+near_step f near k _ to e near_it = absurd (cc)
+
+far_step : (f : Frame) (near : ℕ → Bool) (k : Remembered) (s : Step) (to : ℕ) → Some to ≡ branched_to_step s → near to ≡ false → size_of_step f near k s ≡ size_of_step f (λ label. false) k s
+far_step f near k (One (IfNonzero r n)) to e far = (let is : to ≡ n = cc in ap branch_size (ap near (sym is) ∙ far))
+far_step f near k (One (IfZero r n)) to e far = (let is : to ≡ n = cc in ap branch_size (ap near (sym is) ∙ far))
+far_step f near k (Branch o nonzero b c n) to e far = (let is : to ≡ n = cc in ap branch_size (ap near (sym is) ∙ far))
+far_step f near k (BranchImmediate o nonzero b w n) to e far = (let is : to ≡ n = cc in ap (word_branch_size (against_zero (word_recipe o w) b)) (ap near (sym is) ∙ far))
+far_step f near k _ to e far = absurd (cc)
+
+straight_step : (f : Frame) (near : ℕ → Bool) (k : Remembered) (s : Step) → None ≡ branched_to_step s → size_of_step f near k s ≡ size_of_step f (λ label. false) k s
+straight_step f near k (One (IfNonzero r n)) e = absurd (cc)
+straight_step f near k (One (IfZero r n)) e = absurd (cc)
+straight_step f near k (Branch o nonzero b c n) e = absurd (cc)
+straight_step f near k (BranchImmediate o nonzero b w n) e = absurd (cc)
+straight_step f near k _ e = refl
+
+pub near_size : (f : Frame) (near : ℕ → Bool) (item : Addressed) (to long : ℕ) → Some to ≡ branched_to item → near to ≡ true → long ≡ long_size f item → (long - 1 ≡ size f near item) × (1 ≤ long)
+near_size f near item to long e near_it is = (let less = near_step f near item.known item.step to e near_it in (omega arith, omega arith))
+
+pub far_size : (f : Frame) (near : ℕ → Bool) (item : Addressed) (to long : ℕ) → Some to ≡ branched_to item → near to ≡ false → long ≡ long_size f item → long ≡ size f near item
+far_size f near item to long e far is = is ∙ sym (far_step f near item.known item.step to e far)
+
+pub straight_size : (f : Frame) (near : ℕ → Bool) (item : Addressed) (long : ℕ) → None ≡ branched_to item → long ≡ long_size f item → long ≡ size f near item
+straight_size f near item long e is = is ∙ sym (straight_step f near item.known item.step e)
 
 -- ---- the table
 

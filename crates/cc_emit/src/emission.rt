@@ -28,7 +28,7 @@ use crate::instructions::{
 use crate::item::Item;
 use crate::operators::{put_binary, put_immediate, unary};
 use crate::recipe::WordRecipe;
-use crate::scratch::{addressed, gains};
+use crate::scratch::addressed;
 use crate::tables::{Places, label_count, long_size};
 use cc_linear::Item as LinearItem;
 use cc_ltl::Move;
@@ -376,10 +376,10 @@ pub(crate) fn function_items(
     requires few { length code.now ≤ 2 ^ 59 }
     ensures { IfOk result (λ items. items.items ≡ function_items (base_in bases.now) slots code.now) }
 {
-    let frame = Frame::new(alloc, gains(bases, code), slots, code)?;
-    let steps = addressed(alloc, bases, frame.sets_pointer(), code)?;
+    let (steps, sets_pointer) = addressed(alloc, bases, code)?;
+    let frame = Frame::new(alloc, sets_pointer, slots, code)?;
     let places = Places::new(alloc, &frame, steps.as_slice(), label_count(code))?;
-    let mut items = Vec::new(alloc);
+    let mut items = Vec::with_capacity(alloc, places.end())?;
     frame.put_prologue(&mut items)?;
     put_code(&mut items, &frame, &places, bases, steps.as_slice())?;
     Ok(items)

@@ -1,6 +1,6 @@
 //! The frame of a function: its slots, and the registers that it saves behind them.
 
-ghost use Rattle.std.specs.Prelude.{◌≡◌, ◌≤◌, ◌<◌, ◌+◌, ◌*◌, ◌++◌, length, IfOk, OnOk};
+ghost use Rattle.std.specs.Prelude.{◌≡◌, ◌≤◌, ◌<◌, ◌+◌, ◌*◌, ◌++◌, ◌==◌, ℕ, false, length, get_or, IfOk, OnOk, MatchOption};
 ghost use Rattle.std.specs.List.{AllByRecursion};
 ghost use Rattle.cc_ltl.specs.Registers.{most_slots};
 ghost use Rattle.cc_emit.specs.Frames.{frame_size, frame_of, item_writes, writes, is_written, calls, is_call};
@@ -19,6 +19,9 @@ use std::marker::Model;
 
 /// The registers that a function gives back as it got them.
 const KEPT: [u8; 12] = [8, 9, 18, 19, 20, 21, 22, 23, 24, 25, 26, 27];
+
+/// The most registers that a function saves: those, and `x1`.
+const MOST_SAVED: usize = 13;
 
 /// The frame of a function: whether it sets `x3`, at most 495 slots and 13 registers. A clause sees all three.
 #[derive(Drop)]
@@ -52,12 +55,13 @@ impl Frame {
         requires { slots ≤ most_slots }
         ensures { IfOk result (λ frame. frame ≡ frame_of sets_pointer slots code.now) }
     {
-        let mut saved = Vec::new(alloc);
+        let mut saved = Vec::with_capacity(alloc, MOST_SAVED)?;
         if calls(code) {
             saved.push(RETURN_ADDRESS)?;
         }
+        let written = written(code);
         for register in &KEPT {
-            if is_written(code, *register) {
+            if written[*register as usize] {
                 saved.push(*register)?;
             }
         }
@@ -66,13 +70,6 @@ impl Frame {
             slots,
             saved,
         })
-    }
-
-    /// Whether the function sets `x3` to the global pointer.
-    pub(crate) fn sets_pointer(&self) -> bool
-        ensures { result ≡ self.now.sets_pointer }
-    {
-        self.sets_pointer
     }
 
     /// The registers that it saves, in the order of their places.
@@ -187,31 +184,33 @@ fn is_call(step: &Step) -> bool
     matches!(step, Step::One(LinearItem::Call { .. }))
 }
 
-fn is_written(code: &[Step], register: u8) -> bool
-    ensures { result ≡ is_written code.now register }
+// Of each register whether steps write it, other than one that a call destroys.
+fn written(code: &[Step]) -> [bool; 32]
+    ensures { (r : ℕ) → r < 32 → get_or result r false ≡ is_written code.now r }
 {
+    let mut written = [false; 32];
     for step in code {
-        if writes(step, register) {
-            return true;
+        if let Some(register) = target(step) {
+            written[register as usize] = true;
         }
     }
-    false
+    written
 }
 
-// Whether a step writes a register, other than one that a call destroys.
-fn writes(step: &Step, register: u8) -> bool
-    ensures { result ≡ writes register step.now }
+// The register that a step writes, other than one that a call destroys.
+fn target(step: &Step) -> Option<u8>
+    ensures { MatchOption result ((r : ℕ) → writes r step.now ≡ false) (λ to. (to < 32) × ((r : ℕ) → writes r step.now ≡ (to == r))) }
 {
     match step {
-        Step::One(item) => item_writes(item, register),
-        Step::Immediate { to, .. } | Step::LoadAt { to, .. } => to.number() == register,
-        _ => false,
+        Step::One(item) => item_target(item),
+        Step::Immediate { to, .. } | Step::LoadAt { to, .. } => Some(to.number()),
+        _ => None,
     }
 }
 
-// Whether an item of Linear does.
-fn item_writes(item: &LinearItem, register: u8) -> bool
-    ensures { result ≡ item_writes register item.now }
+// The register that an item of Linear writes.
+fn item_target(item: &LinearItem) -> Option<u8>
+    ensures { MatchOption result ((r : ℕ) → item_writes r item.now ≡ false) (λ to. (to < 32) × ((r : ℕ) → item_writes r item.now ≡ (to == r))) }
 {
     match item {
         LinearItem::Copy {
@@ -220,7 +219,7 @@ fn item_writes(item: &LinearItem, register: u8) -> bool
         | LinearItem::Const { to, .. }
         | LinearItem::Unary { to, .. }
         | LinearItem::Binary { to, .. }
-        | LinearItem::Load { to, .. } => to.number() == register,
-        _ => false,
+        | LinearItem::Load { to, .. } => Some(to.number()),
+        _ => None,
     }
 }

@@ -56,7 +56,8 @@ pub(crate) fn put_item(items: &mut Vec<Item>, item: Item) -> Result<(), AllocErr
 pub(crate) fn put(items: &mut Vec<Item>, instr: Instr) -> Result<(), AllocError>
     ensures { OnOk result (items.new.items ≡ items.old.items ++ Plain instr ∷ []) }
 {
-    items.push(Item::Plain(instr))?;
+    items.reserve(1)?;
+    items.push_reserved(Item::Plain(instr));
     Ok(())
 }
 

@@ -4,7 +4,7 @@
 //! reached from `x3`, the global pointer, needs no upper part; a function sets `x3` where its accesses take fewer instructions so, those
 //! that set it counted.
 
-ghost use Rattle.std.specs.Prelude.{◌≡◌, ◌≤◌, ◌<◌, ◌^◌, length, IfOk};
+ghost use Rattle.std.specs.Prelude.{◌≡◌, ◌≤◌, ◌<◌, ◌^◌, Bool, length, IfOk};
 ghost use Rattle.cc_words.specs.Widths.{same_width};
 ghost use Rattle.cc_select.specs.declared.step.Step.TheVariants.{One};
 ghost use Rattle.cc_emit.specs.Emission.{recipe, word_recipe};
@@ -58,8 +58,8 @@ impl Scratch {
     }
 
     // Whether x6 holds this upper part.
-    fn is_upper(self, upper: u32) -> bool
-        ensures { result ≡ is_upper self.upper upper }
+    fn is_upper(&self, upper: u32) -> bool
+        ensures { result ≡ is_upper self.now.upper upper }
     {
         match self.upper {
             Some(held) => held == upper,
@@ -68,8 +68,8 @@ impl Scratch {
     }
 
     // Whether x5 holds the sum of this word and of an element's number in bytes.
-    fn is_address(self, width: Width, index: u8, sum_base: u32) -> bool
-        ensures { result ≡ is_address self.address width index sum_base }
+    fn is_address(&self, width: Width, index: u8, sum_base: u32) -> bool
+        ensures { result ≡ is_address self.now.address width index sum_base }
     {
         match self.address {
             Some(held) => is_same(held.width, width)
@@ -80,8 +80,8 @@ impl Scratch {
     }
 
     // What is there of the address of an element whose number is in a register; `sets_pointer` where x3 is the global pointer.
-    fn known_of(self, sets_pointer: bool, width: Width, base: u32, index: u8) -> Remembered
-        ensures { result ≡ known_of sets_pointer self width base index }
+    fn known_of(&self, sets_pointer: bool, width: Width, base: u32, index: u8) -> Remembered
+        ensures { result ≡ known_of sets_pointer self.now width base index }
     {
         if self.is_address(width, index, high(base) * 4096) {
             Remembered::Element
@@ -99,8 +99,8 @@ impl Scratch {
     }
 
     // What is there of an address.
-    fn known_at(self, sets_pointer: bool, address: u32) -> Remembered
-        ensures { result ≡ known_at sets_pointer self address }
+    fn known_at(&self, sets_pointer: bool, address: u32) -> Remembered
+        ensures { result ≡ known_at sets_pointer self.now address }
     {
         if sets_pointer && is_in_reach(address) {
             Remembered::ByPointer
@@ -112,8 +112,8 @@ impl Scratch {
     }
 
     // What is there of the address of the element that an item of Linear reads or writes.
-    fn remembered_of_one(self, bases: &Bases, sets_pointer: bool, item: LinearItem) -> Remembered
-        ensures { result ≡ remembered (base_in bases.now) sets_pointer self (One item) }
+    fn remembered_of_one(&self, bases: &Bases, sets_pointer: bool, item: LinearItem) -> Remembered
+        ensures { result ≡ remembered (base_in bases.now) sets_pointer self.now (One item) }
     {
         match item {
             LinearItem::Load {
@@ -133,8 +133,8 @@ impl Scratch {
     }
 
     // What is there of the address of a step's element.
-    fn remembered(self, bases: &Bases, sets_pointer: bool, step: Step) -> Remembered
-        ensures { result ≡ remembered (base_in bases.now) sets_pointer self step }
+    fn remembered(&self, bases: &Bases, sets_pointer: bool, step: Step) -> Remembered
+        ensures { result ≡ remembered (base_in bases.now) sets_pointer self.now step }
     {
         match step {
             Step::One(item) => self.remembered_of_one(bases, sets_pointer, item),
@@ -154,87 +154,83 @@ impl Scratch {
         }
     }
 
-    // Behind a write to a register.
-    fn without(self, register: u8) -> Scratch
-        ensures { result ≡ without register self }
+    // A register is written.
+    fn write(&mut self, register: u8)
+        ensures { self.new ≡ without register self.old }
     {
         match self.address {
-            Some(held) if held.index != register => self,
-            _ => self.without_address(),
+            Some(held) if held.index != register => {}
+            _ => self.address = None,
         }
     }
 
-    // Behind a use of x5.
-    fn without_address(self) -> Scratch
-        ensures { result ≡ without_address self }
+    // `x5` is used.
+    fn use_scratch(&mut self)
+        ensures { self.new ≡ without_address self.old }
     {
-        Scratch {
-            upper: self.upper,
-            address: None,
-        }
+        self.address = None;
     }
 
-    // Behind a move.
-    fn behind_move(self, between: Move) -> Scratch
-        ensures { result ≡ behind_move between self }
+    // Goes behind a move.
+    fn go_behind_move(&mut self, between: Move)
+        ensures { self.new ≡ behind_move between self.old }
     {
         match between {
-            Move::Between { to, .. } | Move::Reload { to, .. } => self.without(to.number()),
-            Move::Spill { .. } => self,
+            Move::Between { to, .. } | Move::Reload { to, .. } => self.write(to.number()),
+            Move::Spill { .. } => {}
         }
     }
 
-    // Behind a constant.
-    fn behind_constant(self, to: u8, word: u32) -> Scratch
-        ensures { result ≡ behind_const to word self }
+    // Goes behind a constant.
+    fn go_behind_constant(&mut self, to: u8, word: u32)
+        ensures { self.new ≡ behind_const to word self.old }
     {
-        if high(word) == 0 || low(word) == 0 {
-            self.without(to)
-        } else {
-            self.without_address().without(to)
+        if high(word) != 0 && low(word) != 0 {
+            self.use_scratch();
         }
+        self.write(to);
     }
 
-    // Behind an operator on two words.
-    fn behind_recipe(self, recipe: Recipe, to: u8) -> Scratch
-        ensures { result ≡ behind_recipe recipe to self }
+    // Goes behind an operator on two words.
+    fn go_behind_recipe(&mut self, recipe: Recipe, to: u8)
+        ensures { self.new ≡ behind_recipe recipe to self.old }
     {
         match recipe {
-            Recipe::Direct(_) => self.without(to),
+            Recipe::Direct(_) => {}
             Recipe::ZeroOf(_) | Recipe::ZeroOfExchanged(_) | Recipe::NonzeroOf(_) => {
-                self.without_address().without(to)
+                self.use_scratch();
             }
         }
+        self.write(to);
     }
 
-    // Behind an operator on a register and a word.
-    fn behind_word_recipe(self, recipe: WordRecipe, to: u8) -> Scratch
-        ensures { result ≡ behind_word_recipe recipe to self }
+    // Goes behind an operator on a register and a word.
+    fn go_behind_word_recipe(&mut self, recipe: WordRecipe, to: u8)
+        ensures { self.new ≡ behind_word_recipe recipe to self.old }
     {
         match recipe {
-            WordRecipe::WithImmediate(_, _) | WordRecipe::ShiftBy(_, _) | WordRecipe::OnZero(_) => {
-                self.without(to)
-            }
+            WordRecipe::WithImmediate(_, _) | WordRecipe::ShiftBy(_, _) | WordRecipe::OnZero(_) =>
+                {}
             WordRecipe::ZeroOfImmediate(_, _) | WordRecipe::NonzeroOfImmediate(_, _) => {
-                self.without_address().without(to)
+                self.use_scratch();
             }
         }
+        self.write(to);
     }
 
-    // Behind a branch on a register and a word that is not taken.
-    fn behind_word_branch(self, recipe: WordRecipe, from: u8) -> Scratch
+    // Goes behind a branch on a register and a word that is not taken.
+    fn go_behind_word_branch(&mut self, recipe: WordRecipe, from: u8)
         requires { from < 32 }
-        ensures { result ≡ behind_word_branch (against_zero recipe from) self }
+        ensures { self.new ≡ behind_word_branch (against_zero recipe from) self.old }
     {
-        match Condition::against_zero(recipe, from) {
-            Some(_) => self,
-            None => self.without_address(),
+        if Condition::against_zero(recipe, from).is_none() {
+            self.use_scratch();
         }
     }
 
     // What x6 holds of an upper part behind an access.
-    fn upper_behind(self, known: Remembered, address: u32) -> Option<u32>
-        ensures { result ≡ upper_behind known self.upper address }
+    fn upper_behind(&self, known: Remembered, address: u32) -> Option<u32>
+        ensures { result ≡ upper_behind known self.now.upper address }
     {
         match known {
             Remembered::Nothing | Remembered::Upper => Some(high(address)),
@@ -243,101 +239,98 @@ impl Scratch {
         }
     }
 
-    // Behind an access to an element whose number is in a register.
-    fn behind_element(self, sets_pointer: bool, width: Width, base: u32, index: u8) -> Scratch
-        ensures { result ≡ behind_element (known_of sets_pointer self width base index) self width base index }
+    // Goes behind an access to an element whose number is in a register, of whose address so much was there.
+    fn go_behind_element(&mut self, known: Remembered, width: Width, base: u32, index: u8)
+        ensures { self.new ≡ behind_element known self.old width base index }
     {
-        let known = self.known_of(sets_pointer, width, base, index);
-        let sum_base = sum_base(known, base);
-        Scratch {
-            upper: self.upper_behind(known, base),
-            address: Some(ElementAddress {
-                width,
-                index,
-                sum_base,
-            }),
-        }
+        self.upper = self.upper_behind(known, base);
+        self.address = Some(ElementAddress {
+            width,
+            index,
+            sum_base: sum_base(known, base),
+        });
     }
 
-    // Behind an access to an address.
-    fn behind_at(self, sets_pointer: bool, address: u32) -> Scratch
-        ensures { result ≡ behind_at (known_at sets_pointer self address) self address }
+    // Goes behind an access to an address, of which so much was there.
+    fn go_behind_at(&mut self, known: Remembered, address: u32)
+        ensures { self.new ≡ behind_at known self.old address }
     {
-        let known = self.known_at(sets_pointer, address);
-        Scratch {
-            upper: self.upper_behind(known, address),
-            address: self.address,
-        }
+        self.upper = self.upper_behind(known, address);
     }
 
-    // Behind an item of Linear.
-    fn behind_one(self, bases: &Bases, sets_pointer: bool, item: LinearItem) -> Scratch
-        ensures { result ≡ behind_one (base_in bases.now) sets_pointer item self }
+    // Goes behind an item of Linear, of the address of whose element so much was there.
+    fn go_behind_one(&mut self, bases: &Bases, known: Remembered, item: LinearItem)
+        ensures { (sets_pointer : Bool) → known ≡ remembered (base_in bases.now) sets_pointer self.old (One item) → self.new ≡ behind_one (base_in bases.now) sets_pointer item self.old }
     {
         match item {
             LinearItem::Label { .. }
             | LinearItem::Jump { .. }
             | LinearItem::Call { .. }
-            | LinearItem::Return => Scratch::nothing(),
-            LinearItem::IfNonzero { .. } | LinearItem::IfZero { .. } => self,
-            LinearItem::Copy { between } => self.behind_move(between),
-            LinearItem::Const { to, word } => self.behind_constant(to.number(), word),
-            LinearItem::Unary { to, .. } => self.without(to.number()),
+            | LinearItem::Return => *self = Scratch::nothing(),
+            LinearItem::IfNonzero { .. } | LinearItem::IfZero { .. } => {}
+            LinearItem::Copy { between } => self.go_behind_move(between),
+            LinearItem::Const { to, word } => self.go_behind_constant(to.number(), word),
+            LinearItem::Unary { to, .. } => self.write(to.number()),
             LinearItem::Binary { operator, to, .. } => {
-                self.behind_recipe(Recipe::of(operator), to.number())
+                self.go_behind_recipe(Recipe::of(operator), to.number());
             }
             LinearItem::Load {
                 width,
                 object,
                 to,
                 index,
-            } => self
-                .behind_element(sets_pointer, width, bases.of(object), index.number())
-                .without(to.number()),
+            } => {
+                self.go_behind_element(known, width, bases.of(object), index.number());
+                self.write(to.number());
+            }
             LinearItem::Store {
                 width,
                 object,
                 index,
                 ..
-            } => self.behind_element(sets_pointer, width, bases.of(object), index.number()),
-            LinearItem::Read => self.without(SERVICE).without(RESULT),
-            LinearItem::Write => self.without(SERVICE),
+            } => self.go_behind_element(known, width, bases.of(object), index.number()),
+            LinearItem::Read => {
+                self.write(SERVICE);
+                self.write(RESULT);
+            }
+            LinearItem::Write => self.write(SERVICE),
         }
     }
 
-    // Behind a step.
-    fn behind_step(self, bases: &Bases, sets_pointer: bool, step: Step) -> Scratch
-        ensures { result ≡ behind_step (base_in bases.now) sets_pointer step self }
+    // Goes behind a step, of the address of whose element so much was there.
+    fn go_behind(&mut self, bases: &Bases, known: Remembered, step: Step)
+        ensures { (sets_pointer : Bool) → known ≡ remembered (base_in bases.now) sets_pointer self.old step → self.new ≡ behind_step (base_in bases.now) sets_pointer step self.old }
     {
         match step {
-            Step::One(item) => self.behind_one(bases, sets_pointer, item),
+            Step::One(item) => self.go_behind_one(bases, known, item),
             Step::Immediate {
                 operator,
                 to,
                 word,
                 ..
-            } => self.behind_word_recipe(WordRecipe::of(operator, word), to.number()),
+            } => self.go_behind_word_recipe(WordRecipe::of(operator, word), to.number()),
             Step::LoadAt {
                 width,
                 object,
                 to,
                 number,
-            } => self
-                .behind_at(sets_pointer, known_place(width, bases.of(object), number))
-                .without(to.number()),
+            } => {
+                self.go_behind_at(known, known_place(width, bases.of(object), number));
+                self.write(to.number());
+            }
             Step::StoreAt {
                 width,
                 object,
                 number,
                 ..
-            } => self.behind_at(sets_pointer, known_place(width, bases.of(object), number)),
-            Step::Branch { .. } => self,
+            } => self.go_behind_at(known, known_place(width, bases.of(object), number)),
+            Step::Branch { .. } => {}
             Step::BranchImmediate {
                 operator,
                 from,
                 word,
                 ..
-            } => self.behind_word_branch(WordRecipe::of(operator, word), from.number()),
+            } => self.go_behind_word_branch(WordRecipe::of(operator, word), from.number()),
         }
     }
 }
@@ -383,47 +376,57 @@ fn step_access_size(known: Remembered, step: Step) -> usize
     }
 }
 
-// How many instructions the accesses of a function take in all, which sets x3 or does not: at most 2^61.
-fn accesses_size(bases: &Bases, sets_pointer: bool, code: &[Step]) -> usize
-    requires { length code.now ≤ 2 ^ 59 }
-    ensures answer { result ≡ accesses_size (addressed (base_in bases.now) sets_pointer nothing code.now) }
-    ensures few { result ≤ 2 ^ 61 }
-{
-    let mut size = 0;
-    let mut scratch = Scratch::nothing();
-    for step in code {
-        let known = scratch.remembered(bases, sets_pointer, *step);
-        size += step_access_size(known, *step);
-        scratch = scratch.behind_step(bases, sets_pointer, *step);
-    }
-    size
+// The steps of a function, each with what is there of its address, and how many instructions their accesses take in all.
+#[derive(Drop)]
+struct Walked {
+    steps: Vec<Addressed>,
+    accesses: usize,
 }
 
-/// Whether a function gains by `x3`: its accesses take fewer instructions with it, the two that set it counted. `bases` has the objects'
-/// addresses.
-pub(crate) fn gains(bases: &Bases, code: &[Step]) -> bool
-    requires { length code.now ≤ 2 ^ 59 }
-    ensures { result ≡ gains (base_in bases.now) code.now }
-{
-    pointer_size(true) + accesses_size(bases, true, code) < accesses_size(bases, false, code)
-}
-
-/// The steps of a function, each with what is there of its address; `bases` has the objects' addresses, `sets_pointer` says whether `x3`
-/// is the global pointer.
-pub(crate) fn addressed(
+// The steps of a function, each with what is there of its address; `bases` has the objects' addresses, `sets_pointer` says whether `x3`
+// is the global pointer. Their accesses take at most 2^61 instructions.
+fn walk(
     alloc: Global,
     bases: &Bases,
     sets_pointer: bool,
     code: &[Step],
-) -> Result<Vec<Addressed>, AllocError>
-    ensures { IfOk result (λ steps. steps.items ≡ addressed (base_in bases.now) sets_pointer nothing code.now) }
+) -> Result<Walked, AllocError>
+    requires { length code.now ≤ 2 ^ 59 }
+    ensures steps { IfOk result (λ w. w.steps.items ≡ addressed (base_in bases.now) sets_pointer nothing code.now) }
+    ensures accesses { IfOk result (λ w. w.accesses ≡ accesses_size (addressed (base_in bases.now) sets_pointer nothing code.now)) }
+    ensures few { IfOk result (λ w. w.accesses ≤ 2 ^ 61) }
 {
-    let mut steps = Vec::new(alloc);
+    let mut steps = Vec::with_capacity(alloc, code.len())?;
+    let mut accesses = 0;
     let mut scratch = Scratch::nothing();
     for step in code {
         let known = scratch.remembered(bases, sets_pointer, *step);
-        steps.push(Addressed { step: *step, known })?;
-        scratch = scratch.behind_step(bases, sets_pointer, *step);
+        steps.push_reserved(Addressed { step: *step, known });
+        accesses += step_access_size(known, *step);
+        scratch.go_behind(bases, known, *step);
     }
-    Ok(steps)
+    Ok(Walked { steps, accesses })
+}
+
+/// The steps of a function, each with what is there of its address, and whether the function sets `x3` to the global pointer: where its
+/// accesses take fewer instructions with it, the two that set it counted. `bases` has the objects' addresses.
+pub(crate) fn addressed(
+    alloc: Global,
+    bases: &Bases,
+    code: &[Step],
+) -> Result<(Vec<Addressed>, bool), AllocError>
+    requires { length code.now ≤ 2 ^ 59 }
+    ensures gains { IfOk result (λ r. r.1 ≡ gains (base_in bases.now) code.now) }
+    ensures steps { IfOk result (λ r. r.0.items ≡ addressed (base_in bases.now) r.1 nothing code.now) }
+{
+    let without = walk(alloc, bases, false, code)?;
+    if without.accesses <= pointer_size(true) {
+        return Ok((without.steps, false));
+    }
+    let with = walk(alloc, bases, true, code)?;
+    if pointer_size(true) + with.accesses < without.accesses {
+        Ok((with.steps, true))
+    } else {
+        Ok((without.steps, false))
+    }
 }

@@ -7,8 +7,8 @@ ghost use Rattle.std.specs.List.{AllByRecursion};
 ghost use Rattle.cc_select.specs.declared.step.Step.{Step as Shown};
 ghost use Rattle.cc_select.specs.Selected.{labels};
 ghost use Rattle.cc_emit.specs.Branches.{against_zero};
-ghost use Rattle.cc_emit.specs.Emission.{access_size, known_access_size, branch_size, word_branch_size, size_of_one, size, long_size, is_close};
-ghost use Rattle.cc_emit.specs.internal.Behind.{near_behind, behind, label_of, IsTable, ArePlaces, place_from};
+ghost use Rattle.cc_emit.specs.Emission.{access_size, known_access_size, word_branch_size, size_of_one, size, long_size, is_close};
+ghost use Rattle.cc_emit.specs.internal.Behind.{near_behind, behind, branched_to, label_of, IsTable, ArePlaces, place_from};
 
 use crate::addressed::{Addressed, Remembered};
 use crate::condition::Condition;
@@ -59,6 +59,13 @@ impl Places {
         ensures { result ≡ self.now.long }
     {
         self.long
+    }
+
+    /// How many items the function's code has.
+    pub(crate) fn end(&self) -> usize
+        ensures { result ≡ self.now.end }
+    {
+        self.end
     }
 
     /// Whether a branch to a label is near that has this many items from it on, with each branch long.
@@ -172,23 +179,15 @@ fn long_size_of_one(frame: &Frame, known: Remembered, item: &LinearItem) -> usiz
     }
 }
 
-// How many items a branch takes: 1 or 2.
-fn branch_size(near: bool) -> usize
-    ensures answer { result ≡ branch_size near }
-    ensures few { result ≤ 2 }
-{
-    if near { 1 } else { 2 }
-}
-
-// How many items a branch on a register and a word takes: at most 3.
-fn word_branch_size(recipe: WordRecipe, from: u8, near: bool) -> usize
+// How many items a long branch on a register and a word takes: 2 or 3.
+fn long_word_branch_size(recipe: WordRecipe, from: u8) -> usize
     requires { from < 32 }
-    ensures answer { result ≡ word_branch_size (against_zero recipe from) near }
+    ensures answer { result ≡ word_branch_size (against_zero recipe from) false }
     ensures few { result ≤ 3 }
 {
     match Condition::against_zero(recipe, from) {
-        Some(_) => branch_size(near),
-        None => 1 + branch_size(near),
+        Some(_) => 2,
+        None => 3,
     }
 }
 
@@ -201,55 +200,38 @@ pub(crate) fn long_size(frame: &Frame, step: &Addressed) -> usize
         Step::One(item) => long_size_of_one(frame, step.known, item),
         Step::Immediate { operator, word, .. } => WordRecipe::of(*operator, *word).size(),
         Step::LoadAt { .. } | Step::StoreAt { .. } => known_access_size(step.known),
-        Step::Branch { .. } => branch_size(false),
+        Step::Branch { .. } => 2,
         Step::BranchImmediate {
             operator,
             from,
             word,
             ..
-        } => word_branch_size(WordRecipe::of(*operator, *word), from.number(), false),
+        } => long_word_branch_size(WordRecipe::of(*operator, *word), from.number()),
     }
 }
 
-// How many items an item of Linear takes, where this many come from it on: at most 15.
-fn size_of_one(
-    frame: &Frame,
-    first: &[usize],
-    here: usize,
-    known: Remembered,
-    item: &LinearItem,
-) -> usize
-    ensures answer { result ≡ size_of_one frame.now (near_behind first.now here) known item.now }
-    ensures few { result ≤ 15 }
-{
-    match item {
-        LinearItem::IfNonzero { to, .. } | LinearItem::IfZero { to, .. } => {
-            branch_size(is_near(first, here, *to))
-        }
-        _ => long_size_of_one(frame, known, item),
-    }
-}
-
-// How many items a step takes, where this many come from it on: at most 15.
-fn size(frame: &Frame, first: &[usize], here: usize, step: &Addressed) -> usize
+// How many items a step takes that takes `long` where each branch is long, where this many come from it on: one less if it is a near branch.
+fn size(frame: &Frame, first: &[usize], here: usize, long: usize, step: &Addressed) -> usize
+    requires long { long ≡ long_size frame.now step.now }
+    requires few { long ≤ 15 }
     ensures answer { result ≡ size frame.now (near_behind first.now here) step.now }
     ensures few { result ≤ 15 }
 {
+    match branched_to(step) {
+        Some(to) if is_near(first, here, to) => long - 1,
+        _ => long,
+    }
+}
+
+// The label to which a step branches, where it does.
+fn branched_to(step: &Addressed) -> Option<u32>
+    ensures { result ≡ branched_to step.now }
+{
     match &step.step {
-        Step::One(item) => size_of_one(frame, first, here, step.known, item),
-        Step::Branch { to, .. } => branch_size(is_near(first, here, *to)),
-        Step::BranchImmediate {
-            operator,
-            from,
-            word,
-            to,
-            ..
-        } => word_branch_size(
-            WordRecipe::of(*operator, *word),
-            from.number(),
-            is_near(first, here, *to),
-        ),
-        _ => long_size(frame, step),
+        Step::One(LinearItem::IfNonzero { to, .. } | LinearItem::IfZero { to, .. })
+        | Step::Branch { to, .. }
+        | Step::BranchImmediate { to, .. } => Some(*to),
+        _ => None,
     }
 }
 
@@ -283,8 +265,9 @@ fn table(
     while at > 0 {
         at -= 1;
         let step = &steps[at];
-        here += long_size(frame, step);
-        behind += size(frame, first, here, step);
+        let long = long_size(frame, step);
+        here += long;
+        behind += size(frame, first, here, long, step);
         if let Some(label) = label_of(step) {
             if (label as usize) < labels.len() {
                 labels[label as usize] = behind;

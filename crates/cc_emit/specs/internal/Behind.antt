@@ -39,6 +39,17 @@ label_of_step step = None
 abbrev pub label_of : Addressed → Option ℕ
 label_of s = label_of_step s.step
 
+-- the label to which a step branches
+abbrev pub branched_to_step : Step → Option ℕ
+branched_to_step (One (IfNonzero from to)) = Some to
+branched_to_step (One (IfZero from to)) = Some to
+branched_to_step (Branch operator nonzero left right to) = Some to
+branched_to_step (BranchImmediate operator nonzero from word to) = Some to
+branched_to_step step = None
+
+abbrev pub branched_to : Addressed → Option ℕ
+branched_to s = branched_to_step s.step
+
 -- a table of these, of the labels below its length
 pub record IsTable (f : Frame) (first : List ℕ) (steps : List Addressed) (count : ℕ) (table : List ℕ) : Type 0 where
   pub long : length table ≡ count

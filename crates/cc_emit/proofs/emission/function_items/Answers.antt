@@ -12,10 +12,10 @@ use Rattle.cc_emit.proofs.emission.function_items.Goals as goal
 pub put_code-requires-clause-leads : goal.put_code-requires-clause-leads
 put_code-requires-clause-leads c =
     let code = c.args.code.now in
-    let sets_pointer = c.sets_pointer.result in
+    let sets_pointer = c.in_ok-steps.sets_pointer in
     let count = length c.in_ok-places.places.first.items in
     let below : AllByRecursion (λ label. label < count) (labels code) = subst (λ n. AllByRecursion (λ label. label < n) (labels code)) (sym c.in_ok-places.ensures.labels) c.label_count.ensures in
-    let steps : c.as_slice-2.result.now ≡ addressed (base_in c.args.bases.now) sets_pointer nothing code = c.as_slice-2.ensures.value ∙ c.in_ok-steps.ensures in
+    let steps : c.as_slice-2.result.now ≡ addressed (base_in c.args.bases.now) sets_pointer nothing code = c.as_slice-2.ensures.value ∙ c.in_ok-steps.ensures.steps in
     subst (AllByRecursion (LeadsBelow count)) (sym steps) (leads_all count c.args.slots c.requires.fit.0 (labels code) (base_in c.args.bases.now) sets_pointer nothing code below c.requires.fit.1)
 
 pub returns : goal.returns
@@ -23,6 +23,7 @@ returns c =
     let base = base_in c.args.bases.now in
     let code = c.args.code.now in
     let frame = c.in_ok-frame.frame in
-    let steps : c.as_slice-2.result.now ≡ addressed base frame.sets_pointer nothing code = c.as_slice-2.ensures.value ∙ c.in_ok-steps.ensures ∙ ap (λ b. addressed base b nothing code) c.sets_pointer.ensures in
-    c.in_ok-put_code.ensures ∙ ap (framed_items base frame) steps ∙ ap (λ f. framed_items base f (addressed base f.sets_pointer nothing code)) c.in_ok-frame.ensures
-    ∙ ap (λ b. items_with base b c.args.slots code) c.gains.ensures
+    let sets_pointer = c.in_ok-steps.sets_pointer in
+    let steps : c.as_slice-2.result.now ≡ addressed base sets_pointer nothing code = c.as_slice-2.ensures.value ∙ c.in_ok-steps.ensures.steps in
+    c.in_ok-put_code.ensures ∙ ap (framed_items base frame) steps ∙ ap (λ f. framed_items base f (addressed base sets_pointer nothing code)) c.in_ok-frame.ensures
+    ∙ ap (λ b. items_with base b c.args.slots code) c.in_ok-steps.ensures.gains

@@ -14,7 +14,7 @@ pub bounds-steps-at : goal.bounds-steps-at
 bounds-steps-at c = omega (arith, c.loop-at.invariant.within, c.loop-at-test.true)
 
 pub overflow_add-here : goal.overflow_add-here
-overflow_add-here c = omega (arith, c.loop-at.invariant.few, c.requires, c.long_size-here.ensures.few)
+overflow_add-here c = omega (arith, c.loop-at.invariant.few, c.requires, c.long_size-long.ensures.few)
 
 pub overflow_add-behind : goal.overflow_add-behind
 overflow_add-behind c = omega (arith, c.loop-at.invariant.few_all, c.requires, c.size-behind.ensures.few)
@@ -27,8 +27,8 @@ loop-at-preserved-then-label-len c =
     let label = label_says c.index-steps-at.result c.in-Some.label (sym c.in-Some.is ∙ c.label_of.ensures) in
     filled_label f first code c.args.count c.loop-at.at c.loop-at.here c.loop-at.behind _ _ c.in-Some.label c.index-steps-at.result.known c.loop-at.labels.items c.loop-at.invariant
     (c.loop-at-test.true, is_label_at code (c.loop-at.at - 1) c.index-steps-at.result c.in-Some.label c.index-steps-at.result.known c.index-steps-at.is label)
-    (ap (λ n. c.loop-at.here + n) (c.long_size-here.ensures.answer ∙ ap (long_size f) label))
-    (ap (λ n. c.loop-at.behind + n) (c.size-behind.ensures.answer ∙ ap (size f (near_behind first (c.loop-at.here + c.long_size-here.result))) label)) (search rules)
+    (ap (λ n. c.loop-at.here + n) (c.long_size-long.ensures.answer ∙ ap (long_size f) label))
+    (ap (λ n. c.loop-at.behind + n) (c.size-behind.ensures.answer ∙ ap (size f (near_behind first (c.loop-at.here + c.long_size-long.result))) label)) (search rules)
 
 pub loop-at-preserved-else-label-len : goal.loop-at-preserved-else-label-len
 loop-at-preserved-else-label-len c =
@@ -38,13 +38,13 @@ loop-at-preserved-else-label-len c =
     let label = label_says c.index-steps-at.result c.in-Some.label (sym c.in-Some.is ∙ c.label_of.ensures) in
     filled_past f first code c.args.count c.loop-at.at c.loop-at.here c.loop-at.behind _ _ c.in-Some.label c.index-steps-at.result.known c.loop-at.labels.items c.loop-at.invariant
     (c.loop-at-test.true, is_label_at code (c.loop-at.at - 1) c.index-steps-at.result c.in-Some.label c.index-steps-at.result.known c.index-steps-at.is label)
-    (ap (λ n. c.loop-at.here + n) (c.long_size-here.ensures.answer ∙ ap (long_size f) label))
-    (ap (λ n. c.loop-at.behind + n) (c.size-behind.ensures.answer ∙ ap (size f (near_behind first (c.loop-at.here + c.long_size-here.result))) label)) (search rules)
+    (ap (λ n. c.loop-at.here + n) (c.long_size-long.ensures.answer ∙ ap (long_size f) label))
+    (ap (λ n. c.loop-at.behind + n) (c.size-behind.ensures.answer ∙ ap (size f (near_behind first (c.loop-at.here + c.long_size-long.result))) label)) (search rules)
 
 pub loop-at-preserved : goal.loop-at-preserved
 loop-at-preserved c =
-    filled_other _ _ _ _ _ _ _ _ _ c.index-steps-at.result _ c.loop-at.invariant (c.loop-at-test.true, c.index-steps-at.is) (ap (λ n. c.loop-at.here + n) c.long_size-here.ensures.answer)
-    (ap (λ n. c.loop-at.behind + n) c.size-behind.ensures.answer) (omega (arith, c.long_size-here.ensures.answer, c.long_size-here.ensures.few)) (omega (arith, c.size-behind.ensures.answer, c.size-behind.ensures.few)) (λ n e. c.in_default.not-Some n (c.label_of.ensures ∙ e))
+    filled_other _ _ _ _ _ _ _ _ _ c.index-steps-at.result _ c.loop-at.invariant (c.loop-at-test.true, c.index-steps-at.is) (ap (λ n. c.loop-at.here + n) c.long_size-long.ensures.answer)
+    (ap (λ n. c.loop-at.behind + n) c.size-behind.ensures.answer) (omega (arith, c.long_size-long.ensures.answer, c.long_size-long.ensures.few)) (omega (arith, c.size-behind.ensures.answer, c.size-behind.ensures.few)) (λ n e. c.in_default.not-Some n (c.label_of.ensures ∙ e))
 
 pub returns-clause-table : goal.returns-clause-table
 returns-clause-table c = (filled_all _ _ _ _ _ _ _ _ c.loop-at.invariant (search rules)).0
