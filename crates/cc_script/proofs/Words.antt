@@ -6,6 +6,7 @@ use Rattle.std.proofs.lemmas.List.Splits.{slice_split_at, slice_split_none, leng
 use Rattle.std.proofs.Math.Seq.{drop-cons}
 use Rattle.std.proofs.lemmas.Grind.{common_steps}
 use Rattle.cc_script.specs.Line.{words, asked_in, asked_of}
+use Rattle.cc_script.specs.declared.command.Dialect.{Dialect}
 
 -- a byte is a space or not
 pub is_space : (byte : ℕ) → byte ≡ 32 → (byte == 32) ≡ true
@@ -33,12 +34,12 @@ uncut line i past none =
     slice_split_none (λ b. b == 32) line (subst (λ (l : List ℕ). All (λ b. (b == 32) ≡ false) l) (take_all i line past) none)
 
 -- more than three words ask for nothing
-more : (verb name digits : List ℕ) (rest : List (List ℕ)) → 0 < length rest → asked_in (verb ∷ name ∷ digits ∷ rest) ≡ None
-more verb name digits [] some = absurd (omega arith)
-more verb name digits (one ∷ others) some = refl
+more : (dialect : Dialect) (verb name digits : List ℕ) (rest : List (List ℕ)) → 0 < length rest → asked_in dialect (verb ∷ name ∷ digits ∷ rest) ≡ None
+more dialect verb name digits [] some = absurd (omega arith)
+more dialect verb name digits (one ∷ others) some = refl
 
 -- so a line with a space behind its third word asks for nothing
-pub too_many : (line verb name digits behind second third : List ℕ) → words line ≡ verb ∷ words second → words second ≡ name ∷ words third → words third ≡ digits ∷ words behind
-    → None ≡ asked_of line
-too_many line verb name digits behind second third one two three =
-    rw (one, two, three) (sym (more verb name digits (words behind) (let n = length-slice_split (λ (b : ℕ). b == 32) behind in omega (arith, n))))
+pub too_many : (dialect : Dialect) (line verb name digits behind second third : List ℕ) → words line ≡ verb ∷ words second → words second ≡ name ∷ words third → words third ≡ digits ∷ words behind
+    → None ≡ asked_of dialect line
+too_many dialect line verb name digits behind second third one two three =
+    rw (one, two, three) (sym (more dialect verb name digits (words behind) (let n = length-slice_split (λ (b : ℕ). b == 32) behind in omega (arith, n))))

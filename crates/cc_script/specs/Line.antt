@@ -5,6 +5,8 @@ use Rattle.std.specs.Char.{is_ascii_digit}
 use Rattle.std.specs.Str.{bytes_eq}
 use Rattle.cc_script.specs.declared.command.Command.{Command}
 use Rattle.cc_script.specs.declared.command.Command.TheVariants as command
+use Rattle.cc_script.specs.declared.command.Dialect.{Dialect}
+use Rattle.cc_script.specs.declared.command.Dialect.TheVariants.{Plain, Served}
 
 -- what a script asks for: a change with a number of bytes of source behind its line, one without, or a look
 pub data Asked : Type 0 where
@@ -15,6 +17,8 @@ pub data Asked : Type 0 where
   Run : (name : List ℕ) → (steps : ℕ) → Asked
   Compact : Asked
   Audit : Asked
+  Image : (name : List ℕ) → Asked
+  Source : (name : List ℕ) → Asked
 
 -- what a command of the code asks for
 abbrev pub asked_by : Command → Asked
@@ -25,6 +29,8 @@ asked_by command.List = Names
 asked_by (command.Run name steps) = Run name.now steps
 asked_by command.Compact = Compact
 asked_by command.Audit = Audit
+asked_by (command.Image name) = Image name.now
+asked_by (command.Source name) = Source name.now
 
 -- ---- numbers
 
@@ -67,8 +73,19 @@ one_word verb =
     else if bytes_eq verb (codes "audit") then Some Audit
     else None
 
-abbrev pub two_words : (verb name : List ℕ) → Option Asked
-two_words verb name = if bytes_eq verb (codes "withdraw") && is_word name then Some (Withdraw name) else None
+abbrev pub two_plain_words : (verb name : List ℕ) → Option Asked
+two_plain_words verb name = if bytes_eq verb (codes "withdraw") && is_word name then Some (Withdraw name) else None
+
+-- a script that is left for a server has two lines more
+abbrev pub two_served_words : (verb name : List ℕ) → Option Asked
+two_served_words verb name =
+    if bytes_eq verb (codes "image") && is_word name then Some (Image name)
+    else if bytes_eq verb (codes "source") && is_word name then Some (Source name)
+    else two_plain_words verb name
+
+abbrev pub two_words : Dialect → (verb name : List ℕ) → Option Asked
+two_words Plain verb name = two_plain_words verb name
+two_words Served verb name = two_served_words verb name
 
 -- what is asked of a name with a number, where there is one
 abbrev pub with_number : (ℕ → Asked) → Option ℕ → Option Asked
@@ -84,12 +101,12 @@ three_words verb name digits =
     else None)
     else None
 
-abbrev pub asked_in : (words : List (List ℕ)) → Option Asked
-asked_in (verb ∷ []) = one_word verb
-asked_in (verb ∷ name ∷ []) = two_words verb name
-asked_in (verb ∷ name ∷ digits ∷ []) = three_words verb name digits
-asked_in words = None
+abbrev pub asked_in : Dialect → (words : List (List ℕ)) → Option Asked
+asked_in dialect (verb ∷ []) = one_word verb
+asked_in dialect (verb ∷ name ∷ []) = two_words dialect verb name
+asked_in dialect (verb ∷ name ∷ digits ∷ []) = three_words verb name digits
+asked_in dialect words = None
 
--- what a line asks for, if anything
-abbrev pub asked_of : (line : List ℕ) → Option Asked
-asked_of line = asked_in (words line)
+-- what a line of a script asks for, if anything
+abbrev pub asked_of : Dialect → (line : List ℕ) → Option Asked
+asked_of dialect line = asked_in dialect (words line)

@@ -1,7 +1,7 @@
 // What a line of a script asks for.
 
 ghost use Rattle.std.specs.Prelude.{◌≡◌, ◌≤◌, ◌<◌, ◌+◌, ◌++◌, ◌∷◌, [], ℕ, List, Option, Some, None, IfSome, length, option_map};
-ghost use Rattle.cc_script.specs.Line.{asked_by, asked_of, number_in, one_word, two_words, three_words, words};
+ghost use Rattle.cc_script.specs.Line.{asked_by, asked_of, number_in, one_word, two_plain_words, two_served_words, two_words, three_words, words};
 ghost use Rattle.cc_script.specs.internal.Cutting.{words_behind};
 
 /// The most instructions that a line may give a run.
@@ -9,6 +9,15 @@ pub const MOST_STEPS: u64 = 1_000_000_000;
 
 // The most bytes of source that 6 digits can tell.
 const MOST_LENGTH: u64 = 999_999;
+
+/// Which lines a script may have.
+#[derive(Clone, Copy, Debug, Drop, PartialEq, Eq)]
+pub enum Dialect {
+    /// Those of a session's script.
+    Plain,
+    /// Those, and `image NAME` and `source NAME`: of a script that is left for a server.
+    Served,
+}
 
 /// What a line of a script asks for.
 #[derive(Clone, Copy, Drop)]
@@ -27,6 +36,10 @@ pub enum Command<'a> {
     Compact,
     /// Audit each unit along its certificate.
     Audit,
+    /// Tell the image of the unit by that name.
+    Image { name: &'a [u8] },
+    /// Tell the source of the unit by that name.
+    Source { name: &'a [u8] },
 }
 
 // The first word of a line, and what stands behind the space that ends it, if one does.
@@ -84,14 +97,37 @@ fn one_word<'a>(verb: &[u8]) -> Option<Command<'a>>
     }
 }
 
-// A command of two words.
-fn two_words<'a>(verb: &[u8], name: &'a [u8]) -> Option<Command<'a>>
-    ensures { option_map asked_by result ≡ two_words verb.now name.now }
+// A command of two words, where it is one of a session's script.
+fn two_plain_words<'a>(verb: &[u8], name: &'a [u8]) -> Option<Command<'a>>
+    ensures { option_map asked_by result ≡ two_plain_words verb.now name.now }
 {
     if verb == b"withdraw".as_slice() && !name.is_empty() {
         Some(Command::Withdraw { name })
     } else {
         None
+    }
+}
+
+// The same of a script that is left for a server.
+fn two_served_words<'a>(verb: &[u8], name: &'a [u8]) -> Option<Command<'a>>
+    ensures { option_map asked_by result ≡ two_served_words verb.now name.now }
+{
+    if verb == b"image".as_slice() && !name.is_empty() {
+        Some(Command::Image { name })
+    } else if verb == b"source".as_slice() && !name.is_empty() {
+        Some(Command::Source { name })
+    } else {
+        two_plain_words(verb, name)
+    }
+}
+
+// A command of two words.
+fn two_words<'a>(dialect: Dialect, verb: &[u8], name: &'a [u8]) -> Option<Command<'a>>
+    ensures { option_map asked_by result ≡ two_words dialect verb.now name.now }
+{
+    match dialect {
+        Dialect::Plain => two_plain_words(verb, name),
+        Dialect::Served => two_served_words(verb, name),
     }
 }
 
@@ -117,9 +153,9 @@ fn three_words<'a>(verb: &[u8], name: &'a [u8], digits: &[u8]) -> Option<Command
     None
 }
 
-/// What a line asks for, which is said without its newline; none where it is no command.
-pub fn command_of(line: &[u8]) -> Option<Command<'_>>
-    ensures { option_map asked_by result ≡ asked_of line.now }
+/// What a line of a script asks for, which is said without its newline; none where it is no command of that dialect.
+pub fn command_of(dialect: Dialect, line: &[u8]) -> Option<Command<'_>>
+    ensures { option_map asked_by result ≡ asked_of dialect line.now }
 {
     let (verb, rest) = cut(line);
     let Some(rest) = rest else {
@@ -127,7 +163,7 @@ pub fn command_of(line: &[u8]) -> Option<Command<'_>>
     };
     let (name, rest) = cut(rest);
     let Some(rest) = rest else {
-        return two_words(verb, name);
+        return two_words(dialect, verb, name);
     };
     let (digits, rest) = cut(rest);
     match rest {
