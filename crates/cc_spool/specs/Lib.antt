@@ -1,2 +1,6 @@
 -- What serving says of the names of scripts.
 pub mod Names
+-- How an answer is read: lines, and sources between them.
+pub mod Answer
+-- Worked answers, each by computation; no contract rests on them.
+pub mod rows

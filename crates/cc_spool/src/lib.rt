@@ -3,17 +3,20 @@
 //! `spool` is what serving needs of a spool, `memory` a spool in memory, `folder` one in a folder in which clients of other processes leave
 //! scripts and find their answers. Of that, `layout` has the parts, `rights` how they are made, `names` which files are taken, `claims` how
 //! a script is claimed and answered, `answer` the file that its answer is written to, `recovery` what a server that was killed left,
-//! `submission` how a client leaves a script and waits for its answer, `lines` which fault that tells, `fault` why one of these is refused.
+//! `submission` how a client leaves a script and waits for its answer, `lines` which fault that tells, `framing` how a source stands in it,
+//! `fault` why one of these is refused.
 //!
 //! It knows nothing of libraries; of `cc_disk` it has the history that contracts alone read. It needs no handle but files and the clock.
 //! Hands out `Spool`, `MemorySpool` and `Answered`; `FolderSpool`, `Layout`, `SpoolFault`, and what a server (`take_folder`, `wide_parts`,
-//! `recover`, `clear_old`, `count_entries`) and a client (`submit`) do in a folder; and which names are plain (`specs/`).
+//! `recover`, `clear_old`, `count_entries`) and a client (`submit`) do in a folder; how a source stands in an answer (`frame`, `source_in`,
+//! `fault_lines`); and which names are plain (`specs/`).
 #![tactic(auto)]
 
 mod answer;
 mod claims;
 mod fault;
 mod folder;
+mod framing;
 mod layout;
 mod lines;
 mod memory;
@@ -26,6 +29,7 @@ mod submission;
 pub use answer::AnswerFile;
 pub use fault::SpoolFault;
 pub use folder::{FolderSpool, MOST_ENTRIES, count_entries};
+pub use framing::{fault_lines, frame, source_in};
 pub use layout::{Held, Layout};
 pub use memory::{Answered, MemorySpool};
 pub use names::is_plain;

@@ -1,20 +1,112 @@
 // Which fault an answer tells, read as it comes by in pieces.
+//
+// An answer has lines, and sources between them: behind the line `source LEN` stand LEN bytes, whatever they are, and a newline. None of
+// these counts for what is told; where the answer ends within them it was interrupted.
 
-ghost use Rattle.std.specs.Prelude.{◌≡◌, ◌≢◌, None};
-ghost use Rattle.cc_spool.specs.declared.lines.Place.TheVariants.{Beginning, Rest};
+ghost use Rattle.std.specs.Prelude.{◌≡◌, ◌↔◌, ◌<◌, ◌≤◌, None, IsTrue};
+ghost use Rattle.cc_spool.specs.Answer.{between, in_fault, in_source, is_within, last_told, place_behind, read_byte, with_digit};
+ghost use Rattle.cc_spool.specs.declared.lines.Place.TheVariants as place;
 
 /// How the line of a fault begins.
 const FAULT: [u8; 6] = *b"fault ";
 
-// Where in a line the next byte stands.
+/// How the line begins behind which a source stands.
+const SOURCE: [u8; 7] = *b"source ";
+
+/// What an answer tells that ends within a source.
+const INTERRUPTED: u32 = 55;
+
+// Where the next byte stands.
 #[derive(Clone, Copy, Drop)]
 enum Place {
-    // Behind so many bytes of the beginning of a fault's line.
-    Beginning(usize),
+    // Behind so many bytes of the beginning of a fault's line: behind none it stands at the beginning of any line.
+    Fault(usize),
     // In the number of a fault, of which this is read.
     Number(u32),
+    // Behind so many bytes of the beginning of a line behind which a source stands.
+    Source(usize),
+    // In the number of the source's bytes, of which this is read.
+    Length(u32),
     // In a line, or a part of one, that does not matter.
-    Rest,
+    Line,
+    // In a source, of which so many bytes are left.
+    Within(u32),
+    // Behind a source: a newline comes.
+    Behind,
+    // Behind another byte that stood there: nothing that follows is told.
+    Broken,
+}
+
+// A number with one digit more; of one with more than nine digits the first nine.
+fn with_digit(number: u32, byte: u8) -> u32
+    requires { (48 ≤ byte) × (byte ≤ 57) }
+    ensures { result ≡ with_digit number byte }
+{
+    if number < 100_000_000 {
+        10 * number + u32::from(byte - b'0')
+    } else {
+        number
+    }
+}
+
+// Behind so many bytes of the beginning of a fault's line another stands than a newline.
+fn in_fault(count: usize, byte: u8) -> Place
+    ensures { result ≡ in_fault count byte }
+{
+    if count == 0 && byte == b's' {
+        Place::Source(1)
+    } else if count < 6 && FAULT[count] == byte {
+        if count == 5 {
+            Place::Number(0)
+        } else {
+            Place::Fault(count + 1)
+        }
+    } else {
+        Place::Line
+    }
+}
+
+// The same of a line behind which a source stands.
+fn in_source(count: usize, byte: u8) -> Place
+    ensures { result ≡ in_source count byte }
+{
+    if count < 7 {
+        if SOURCE[count] == byte {
+            Place::Source(count + 1)
+        } else {
+            Place::Line
+        }
+    } else if byte.is_ascii_digit() {
+        Place::Length(u32::from(byte - b'0'))
+    } else {
+        Place::Line
+    }
+}
+
+impl Place {
+    // Where the next byte stands, behind this one.
+    fn behind(self, byte: u8) -> Place
+        ensures { result ≡ place_behind self byte }
+    {
+        match self {
+            Place::Within(left) if left == 1 => Place::Behind,
+            Place::Within(left) => Place::Within(left.saturating_sub(1)),
+            Place::Broken => Place::Broken,
+            Place::Behind if byte != b'\n' => Place::Broken,
+            Place::Length(0) if byte == b'\n' => Place::Behind,
+            Place::Length(number) if byte == b'\n' => Place::Within(number),
+            _ if byte == b'\n' => Place::Fault(0),
+            Place::Length(number) if byte.is_ascii_digit() => {
+                Place::Length(with_digit(number, byte))
+            }
+            Place::Number(number) if byte.is_ascii_digit() => {
+                Place::Number(with_digit(number, byte))
+            }
+            Place::Fault(count) => in_fault(count, byte),
+            Place::Source(count) => in_source(count, byte),
+            Place::Length(_) | Place::Number(_) | Place::Line | Place::Behind => Place::Line,
+        }
+    }
 }
 
 /// What was read of an answer.
@@ -27,52 +119,46 @@ pub(crate) struct Lines {
 impl Lines {
     /// Nothing was read.
     pub(crate) fn new() -> Lines
-        ensures place { result.place ≡ Beginning 0 }
-        ensures last { result.last ≡ None }
+        ensures { result ≡ between None }
     {
         Lines {
-            place: Place::Beginning(0),
+            place: Place::Fault(0),
             last: None,
         }
     }
 
     /// Reads the next byte.
     pub(crate) fn read(&mut self, byte: u8)
-        ensures newline { byte ≡ 10 → (self.new.place ≡ Beginning 0) × (self.new.last ≡ self.old.last) }
-        ensures rest { self.old.place ≡ Rest → self.new.last ≡ self.old.last }
-        ensures within { byte ≢ 10 → self.new.place ≢ Beginning 0 }
+        ensures { self.new ≡ read_byte self.old byte }
     {
-        self.place = match self.place {
-            _ if byte == b'\n' => Place::Beginning(0),
-            Place::Beginning(count) => if count < 6 && FAULT[count] == byte {
-                if count == 5 {
-                    Place::Number(0)
-                } else {
-                    Place::Beginning(count + 1)
-                }
-            } else {
-                Place::Rest
-            },
-            Place::Number(number) => if byte.is_ascii_digit() {
-                Place::Number(
-                    number
-                        .saturating_mul(10)
-                        .saturating_add(u32::from(byte - b'0')),
-                )
-            } else {
-                Place::Rest
-            },
-            Place::Rest => Place::Rest,
-        };
+        self.place = self.place.behind(byte);
         if let Place::Number(number) = self.place {
             self.last = Some(number);
         }
     }
 
-    /// The number of the fault that was told last, if one was.
-    pub(crate) fn last(&self) -> Option<u32>
-        ensures { result ≡ self.now.last }
+    /// Whether what was read ends with a line or a source, or nothing was read.
+    pub(crate) fn is_between(&self) -> bool
+        ensures { IsTrue result ↔ (self.now.place ≡ place.Fault 0) }
     {
-        self.last
+        matches!(self.place, Place::Fault(0))
+    }
+
+    /// Whether what was read ends within a source.
+    pub(crate) fn is_within(&self) -> bool
+        ensures { result ≡ is_within self.now.place }
+    {
+        matches!(self.place, Place::Within(_) | Place::Behind | Place::Broken)
+    }
+
+    /// The number of the fault that was told last, if one was: 55 where the answer ends within a source.
+    pub(crate) fn last(&self) -> Option<u32>
+        ensures { result ≡ last_told self.now }
+    {
+        if self.is_within() {
+            Some(INTERRUPTED)
+        } else {
+            self.last
+        }
     }
 }

@@ -1,0 +1,77 @@
+-- How an answer is read: lines, and the sources that stand between them.
+use Rattle.std.specs.Prelude.{ℕ, Bool, true, false, ◌+◌, ◌-◌, ◌*◌, ◌&&◌, ◌==◌, nat_lt, if◌then◌else◌, List, [], ◌∷◌, ◌++◌, length, slice_index, Option, Some, None, codes}
+use Rattle.std.specs.Char.{is_ascii_digit}
+use Rattle.std.specs.Fmt.{decimal}
+use Rattle.cc_spool.specs.declared.lines.Place.{Place}
+use Rattle.cc_spool.specs.declared.lines.Place.TheVariants.{Fault, Number, Source, Length, Line, Within, Behind, Broken}
+use Rattle.cc_spool.specs.declared.lines.Lines.{Lines}
+
+-- a source as an answer has it: the line `source LEN`, its bytes, of which there are LEN, and a newline
+abbrev pub framed : List ℕ → List ℕ
+framed source = codes "source " ++ decimal (length source) ++ 10 ∷ source ++ 10 ∷ []
+
+-- ---- byte by byte
+
+-- the number with one digit more; of one with more than nine digits the first nine
+abbrev pub with_digit : (number byte : ℕ) → ℕ
+with_digit number byte = if nat_lt number 100000000 then 10 * number + (byte - 48) else number
+
+-- behind the first bytes of a line that may be that of a fault, this many
+abbrev pub in_fault : (count byte : ℕ) → Place
+in_fault count byte =
+    if (count == 0) && (byte == 115) then Source 1
+    else if nat_lt count 6 && (slice_index (codes "fault ") count == byte) then (if count == 5 then Number 0 else Fault (count + 1))
+    else Line
+
+-- so of one that may say how many bytes of a source come behind it
+abbrev pub in_source : (count byte : ℕ) → Place
+in_source count byte =
+    if nat_lt count 7 then (if slice_index (codes "source ") count == byte then Source (count + 1) else Line)
+    else (if is_ascii_digit byte then Length (byte - 48) else Line)
+
+-- where the next byte stands, behind this one
+abbrev pub place_behind : Place → (byte : ℕ) → Place
+place_behind (Within left) byte = if left == 1 then Behind else Within (left - 1)
+place_behind Behind byte = if byte == 10 then Fault 0 else Broken
+place_behind Broken byte = Broken
+place_behind (Length number) byte =
+    if byte == 10 then (if number == 0 then Behind else Within number)
+    else (if is_ascii_digit byte then Length (with_digit number byte) else Line)
+place_behind (Fault count) byte = if byte == 10 then Fault 0 else in_fault count byte
+place_behind (Number number) byte = if byte == 10 then Fault 0 else (if is_ascii_digit byte then Number (with_digit number byte) else Line)
+place_behind (Source count) byte = if byte == 10 then Fault 0 else in_source count byte
+place_behind Line byte = if byte == 10 then Fault 0 else Line
+
+-- which fault was told last, where the line read so far is one of a fault
+abbrev pub told_at : Place → (last : Option ℕ) → Option ℕ
+told_at (Number number) last = Some number
+told_at place last = last
+
+-- what was read, with one byte more
+abbrev pub read_byte : Lines → (byte : ℕ) → Lines
+read_byte lines byte = let place = place_behind lines.place byte in record { place = place; last = told_at place lines.last }
+
+abbrev pub read_bytes : Lines → List ℕ → Lines
+read_bytes lines [] = lines
+read_bytes lines (byte ∷ bytes) = read_bytes (read_byte lines byte) bytes
+
+-- ---- what an answer tells
+
+-- nothing was read, or all so far is whole, and this fault was told last
+abbrev pub between : (last : Option ℕ) → Lines
+between last = record { place = Fault 0; last = last }
+
+-- the next byte stands within a source, or behind one that no newline ended
+abbrev pub is_within : Place → Bool
+is_within (Within left) = true
+is_within Behind = true
+is_within Broken = true
+is_within place = false
+
+-- which fault is told last, where an answer ends here: 55 where that is within a source
+abbrev pub last_told : Lines → Option ℕ
+last_told lines = if is_within lines.place then Some 55 else lines.last
+
+-- which fault an answer tells last, if it tells one
+abbrev pub tells : (answer : List ℕ) → Option ℕ
+tells answer = last_told (read_bytes (between None) answer)

@@ -1,0 +1,46 @@
+-- Worked answers, each by computation.
+use Rattle.std.specs.Prelude.{◌≡◌, refl, ◌++◌, Some, None, codes}
+use Rattle.cc_spool.specs.Answer.{framed, tells}
+
+nothing : tells (codes "") ≡ None
+nothing = refl
+
+no_fault : tells (codes "ok 1\nunit a\n-3\nexited 0\n") ≡ None
+no_fault = refl
+
+the_last : tells (codes "fault 33 BadName\nok 1\nfault 5 Unexpected at 1:25\nok 2\n") ≡ Some 5
+the_last = refl
+
+-- ---- sources
+
+frame : framed (codes "int main(void){}") ≡ codes "source 16\nint main(void){}\n"
+frame = refl
+
+-- no line of a source counts
+in_a_source : tells (framed (codes "fault 1 x\nfault 2 y")) ≡ None
+in_a_source = refl
+
+behind_a_source : tells (codes "fault 32 Absent\n" ++ framed (codes "fault 1 x\n") ++ codes "fault 55 Interrupted\n") ≡ Some 55
+behind_a_source = refl
+
+empty : tells (framed (codes "") ++ codes "fault 33 BadName\n") ≡ Some 33
+empty = refl
+
+-- ---- answers that end within one
+
+cut_in_it : tells (codes "source 16\nint main(void){") ≡ Some 55
+cut_in_it = refl
+
+cut_before_it : tells (codes "source 16\n") ≡ Some 55
+cut_before_it = refl
+
+without_newline : tells (codes "ok 1\nsource 16\nint main(void){}") ≡ Some 55
+without_newline = refl
+
+another_byte : tells (codes "source 3\nint main(void){}\nok 1\n") ≡ Some 55
+another_byte = refl
+
+-- ---- lines that say no length
+
+no_length : tells (codes "source x\nsource \nsources 3\nfault 1 x\n") ≡ Some 1
+no_length = refl
