@@ -2,6 +2,7 @@
 
 use crate::claims::{INTERRUPTED, UNWRITTEN, hand_over};
 use crate::layout::Layout;
+use crate::lines::Lines;
 use crate::names::{ANSWER, is_plain};
 use std::fs::{self, File, OpenOptions};
 use std::io;
@@ -44,24 +45,29 @@ fn find_left<R: Files<File = File> + Clock + Copy + Clone + Drop>(
     Ok(Left { claims, answers })
 }
 
-// How many bytes of a file are whole lines.
+// How many bytes of a file are whole lines, and whole sources with the lines that say their lengths.
 fn whole_lines(file: &File) -> io::Result<u64> {
-    let mut end = file.metadata()?.len();
+    let end = file.metadata()?.len();
     let mut piece = [0u8; 4096];
+    let mut lines = Lines::new();
+    let mut read = 0u64;
+    let mut whole = 0u64;
     for _ in 0..u64::MAX {
-        if end == 0 {
+        if read >= end {
             break;
         }
-        let count = if end < 4096 { end } else { 4096 };
-        let from = end - count;
+        let count = (end - read).min(4096);
         let part = &mut piece[..count as usize];
-        file.read_exact_at(part, from)?;
-        if let Some(at) = part.iter().rposition(|byte| *byte == b'\n') {
-            return Ok(from + at as u64 + 1);
+        file.read_exact_at(part, read)?;
+        for byte in part.iter() {
+            lines.read(*byte);
+            read = read.saturating_add(1);
+            if lines.is_between() {
+                whole = read;
+            }
         }
-        end = from;
     }
-    Ok(0)
+    Ok(whole)
 }
 
 // Whether so many bytes of a file end with this line.
@@ -77,6 +83,9 @@ fn ends_with(file: &File, end: u64, line: &[u8]) -> io::Result<bool> {
 
 // Completes the answer to a script that was begun: what was written up to the last whole line, then that it was interrupted, once. One that
 // begins with the line of 54 is that line alone, which a server was killed in writing over it.
+//
+// An answer that ends within a source is cut back to before the line that says how long it is: else the line of 55 could be taken for the
+// rest of the source, and nobody could tell.
 fn complete<R: Files<File = File> + Clock + Copy + Drop>(
     layout: &Layout<R>,
     answer: &str,
