@@ -7,6 +7,7 @@ use Rattle.std.proofs.lemmas.List.Elements.{All-append}
 use Rattle.std.proofs.lemmas.Bool.Decides.{nat_tests}
 use Rattle.cc_script.specs.Line.{Asked, asked_of}
 use Rattle.cc_script.specs.Reading.{Ahead, Between, HasMore, IsLine, IsLineEnd, IsNext, IsNoSource, IsNotRead, IsRead, IsSource, Known, rest_from}
+use Rattle.cc_script.specs.declared.command.Dialect.{Dialect}
 use Rattle.cc_script.specs.declared.fault.ScriptFault.{ScriptFault}
 use Rattle.cc_script.specs.declared.fault.ScriptFault.TheVariants.{BadLine, EndOfScript, ScriptTooLong, ReadFault, WriteFault}
 use Rattle.cc_script.specs.declared.script.Next.{Next}
@@ -149,12 +150,12 @@ not_sent Does x count left h WriteFault why = absurd why
 -- ---- lines
 
 -- a line that is not too long
-pub asks_short : (line : List ℕ) → length line ≤ 128 → asked_by_line line ≡ asked_of line
-asks_short line short = grind (arith, nat_tests)
+pub asks_short : (dialect : Dialect) (line : List ℕ) → length line ≤ 128 → asked_by_line dialect line ≡ asked_of dialect line
+asks_short dialect line short = grind (arith, nat_tests)
 
 -- one that is
-pub asks_long : (line : List ℕ) → 128 < length line → asked_by_line line ≡ None
-asks_long line long = grind (arith, nat_tests)
+pub asks_long : (dialect : Dialect) (line : List ℕ) → 128 < length line → asked_by_line dialect line ≡ None
+asks_long dialect line long = grind (arith, nat_tests)
 
 -- bytes of a line, and the rest of it
 pub line_behind : (before prefix between rest after : List ℕ) → before ≡ prefix ++ between → All (λ byte. byte ≢ 10) prefix → IsLine between rest after → IsLine before (prefix ++ rest) after
@@ -167,45 +168,45 @@ line_behind before prefix between rest after is plain line = record {
 }
 
 -- a line of more bytes than it may have is a step that does nothing
-pub too_long_step : (before between after line : List ℕ) (old : Holder) → IsNext before TooLong line between → ((rest : List ℕ) × IsLine between rest after) → IsStep before after old old
-too_long_step before between after line old next skipped =
+pub too_long_step : (dialect : Dialect) (before between after line : List ℕ) (old : Holder) → IsNext before TooLong line between → ((rest : List ℕ) × IsLine between rest after) → IsStep dialect before after old old
+too_long_step dialect before between after line old next skipped =
     let long : 128 < length (next.0 ++ skipped.0) = let n = length-append next.0 skipped.0 in omega (arith, n, next.2) in
     record {
       line = next.0 ++ skipped.0;
       rest = after;
       is_line = line_behind before next.0 between skipped.0 after next.1 next.3 skipped.1;
-      obeyed = subst (λ (asked : Option Asked). Obeys asked after after old old) (sym (asks_long (next.0 ++ skipped.0) long)) (refl, refl);
+      obeyed = subst (λ (asked : Option Asked). Obeys asked after after old old) (sym (asks_long dialect (next.0 ++ skipped.0) long)) (refl, refl);
     }
 
 -- a line that is obeyed is a step
-pub obeyed_step : (before between after line : List ℕ) (old new : Holder) → length line ≤ 128 → IsLine before line between → Obeys (asked_of line) between after old new
-    → IsStep before after old new
-obeyed_step before between after line old new short is obeyed = record {
+pub obeyed_step : (dialect : Dialect) (before between after line : List ℕ) (old new : Holder) → length line ≤ 128 → IsLine before line between → Obeys (asked_of dialect line) between after old new
+    → IsStep dialect before after old new
+obeyed_step dialect before between after line old new short is obeyed = record {
   line = line;
   rest = between;
   is_line = is;
-  obeyed = subst (λ (asked : Option Asked). Obeys asked between after old new) (sym (asks_short line short)) obeyed;
+  obeyed = subst (λ (asked : Option Asked). Obeys asked between after old new) (sym (asks_short dialect line short)) obeyed;
 }
 
 -- ---- scripts
 
 -- one step more
-pub plays_on : (before : List ℕ) (old : Holder) (turns : List Turn) (between : List ℕ) (client : Holder) (after : List ℕ) (new : Holder)
-    → Plays before old turns between client → IsStep between after client new → Plays before old (turns ++ (record { rest = after; client = new }) ∷ []) after new
-plays_on before old [] between client after new it step =
-    (subst (λ (l : List ℕ). IsStep l after old new) it.0 (subst (λ (h : Holder). IsStep between after h new) it.1 step), (refl, refl))
-plays_on before old (turn ∷ turns) between client after new it step = (it.0, plays_on turn.rest turn.client turns between client after new it.1 step)
+pub plays_on : (dialect : Dialect) (before : List ℕ) (old : Holder) (turns : List Turn) (between : List ℕ) (client : Holder) (after : List ℕ) (new : Holder)
+    → Plays dialect before old turns between client → IsStep dialect between after client new → Plays dialect before old (turns ++ (record { rest = after; client = new }) ∷ []) after new
+plays_on dialect before old [] between client after new it step =
+    (subst (λ (l : List ℕ). IsStep dialect l after old new) it.0 (subst (λ (h : Holder). IsStep dialect between after h new) it.1 step), (refl, refl))
+plays_on dialect before old (turn ∷ turns) between client after new it step = (it.0, plays_on dialect turn.rest turn.client turns between client after new it.1 step)
 
 -- the whole script
-pub played : (most : Option ℕ) (script : List ℕ) (first : Holder) (turns : List Turn) (rest : List ℕ) (last : Holder) → IsWithin most (length turns)
-    → Plays script first turns rest last → rest ≡ [] → IsPlayed most script first last
-played most script first turns rest last few plays over =
-    record { turns = turns; few = few; plays = subst (λ (l : List ℕ). Plays script first turns l last) over plays }
+pub played : (dialect : Dialect) (most : Option ℕ) (script : List ℕ) (first : Holder) (turns : List Turn) (rest : List ℕ) (last : Holder) → IsWithin most (length turns)
+    → Plays dialect script first turns rest last → rest ≡ [] → IsPlayed dialect most script first last
+played dialect most script first turns rest last few plays over =
+    record { turns = turns; few = few; plays = subst (λ (l : List ℕ). Plays dialect script first turns l last) over plays }
 
 -- a prefix of it, and perhaps the next step
-pub played_up_to : (most : Option ℕ) (script : List ℕ) (first : Holder) (turns : List Turn) (rest : List ℕ) (client last : Holder) → IsWithin most (length turns)
-    → Plays script first turns rest client → (last ≡ client) ⊎ (IsWithin most (length turns + 1) × (after : List ℕ) × IsStep rest after client last) → IsPlayedInPart most script first last
-played_up_to most script first turns rest client last few plays it = record { turns = turns; few = few; rest = rest; client = client; plays = plays; then_is = it }
+pub played_up_to : (dialect : Dialect) (most : Option ℕ) (script : List ℕ) (first : Holder) (turns : List Turn) (rest : List ℕ) (client last : Holder) → IsWithin most (length turns)
+    → Plays dialect script first turns rest client → (last ≡ client) ⊎ (IsWithin most (length turns + 1) × (after : List ℕ) × IsStep dialect rest after client last) → IsPlayedInPart dialect most script first last
+played_up_to dialect most script first turns rest client last few plays it = record { turns = turns; few = few; rest = rest; client = client; plays = plays; then_is = it }
 
 -- a line is there, where one came
 line_left : (before after line : List ℕ) (next : Next) → IsNext before next line after → next ≢ End → before ≢ []

@@ -7,6 +7,7 @@ use Rattle.std.proofs.lemmas.List.{append-nil, length-map}
 use Rattle.std.proofs.lemmas.Simd.{map-map}
 use Rattle.std.proofs.lemmas.List.Elements.{All-get_or}
 use Rattle.std.proofs.lemmas.Option.{none-some, slice_get-get_or, slice_get-map, slice_get_cases}
+use Rattle.cc_script.specs.declared.command.Dialect.TheVariants.{Served}
 use Rattle.cc_script.specs.declared.fault.ScriptFault.{ScriptFault}
 use Rattle.cc_history.specs.History.{Holder}
 use Rattle.cc_session.specs.Playing.{IsPlayedBy}
@@ -17,7 +18,7 @@ use Rattle.cc_session.specs.internal.Ends.{EndOf}
 
 -- a script that was played is done
 pub done_by : {T : Type 0} (played : Result T ScriptFault) (end : Option ℕ) (script : Option (List ℕ)) (old new : Holder) → EndOf played end
-    → IsPlayedBy most_lines script old new played → IsDoneBy script end old new
+    → IsPlayedBy Served most_lines script old new played → IsDoneBy script end old new
 done_by (Ok t) end script old new how is = subst (λ (e : Option ℕ). IsDoneBy script e old new) (sym how) is
 done_by (Err fault) end script old new how is = subst (λ (e : Option ℕ). IsDoneBy script e old new) (sym how) (fault, refl, is)
 

@@ -1,7 +1,8 @@
 -- What a script is to the client that does it: line by line a call of the service, and what its answer makes of the client.
 use Rattle.std.specs.Prelude.{◌≡◌, ◌≢◌, ◌⊎◌, ◌+◌, ◌<◌, ◌≤◌, ℕ, Bool, true, false, List, [], ◌∷◌, ◌++◌, length, take, nat_le, if◌then◌else◌, Option, Some, None, IfSome, Result, Ok, Err}
-use Rattle.cc_script.specs.Line.{Asked, Add, Replace, Withdraw, Names, Run, Compact, Audit, asked_of}
+use Rattle.cc_script.specs.Line.{Asked, Add, Replace, Withdraw, Names, Run, Compact, Audit, Image, Source, asked_of}
 use Rattle.cc_script.specs.Reading.{IsLine}
+use Rattle.cc_script.specs.declared.command.Dialect.{Dialect}
 use Rattle.cc_script.specs.declared.fault.ScriptFault.{ScriptFault}
 use Rattle.cc_script.specs.declared.fault.ScriptFault.TheVariants.{BadLine, EndOfScript, ScriptTooLong, ReadFault, WriteFault}
 use Rattle.cc_history.specs.declared.command.Command.{Command}
@@ -58,18 +59,20 @@ Obeys (Some Names) before after old new = (after ≡ before) × Calls (ListAnswe
 Obeys (Some (Run name steps)) before after old new = (after ≡ before) × Calls (GetAnswers name old new)
 Obeys (Some Compact) before after old new = (after ≡ before) × (new ≡ old)
 Obeys (Some Audit) before after old new = (after ≡ before) × Audits old new
+Obeys (Some (Image name)) before after old new = (after ≡ before) × Calls (GetAnswers name old new)
+Obeys (Some (Source name)) before after old new = (after ≡ before) × Calls (GetAnswers name old new)
 Obeys None before after old new = (after ≡ before) × (new ≡ old)
 
--- what a line asks for; one of more than 128 bytes asks for nothing
-abbrev pub asked_by_line : List ℕ → Option Asked
-asked_by_line line = if nat_le (length line) 128 then asked_of line else None
+-- what a line of a script asks for; one of more than 128 bytes asks for nothing
+abbrev pub asked_by_line : Dialect → List ℕ → Option Asked
+asked_by_line dialect line = if nat_le (length line) 128 then asked_of dialect line else None
 
--- one line is done, with the source behind it where it has one
-pub record IsStep (before after : List ℕ) (old new : Holder) : Type 0 where
+-- one line of a script of this dialect is done, with the source behind it where it has one
+pub record IsStep (dialect : Dialect) (before after : List ℕ) (old new : Holder) : Type 0 where
   pub line : List ℕ
   pub rest : List ℕ
   pub is_line : IsLine before line rest
-  pub obeyed : Obeys (asked_by_line line) rest after old new
+  pub obeyed : Obeys (asked_by_line dialect line) rest after old new
 
 -- what is left of the script behind a step, and the client then
 pub record Turn : Type 0 where
@@ -77,9 +80,9 @@ pub record Turn : Type 0 where
   pub client : Holder
 
 -- line by line, from what is left and the client before
-abbrev pub Plays : (before : List ℕ) (old : Holder) → List Turn → (after : List ℕ) (new : Holder) → Type 0
-Plays before old [] after new = (after ≡ before) × (new ≡ old)
-Plays before old (turn ∷ turns) after new = IsStep before turn.rest old turn.client × Plays turn.rest turn.client turns after new
+abbrev pub Plays : Dialect → (before : List ℕ) (old : Holder) → List Turn → (after : List ℕ) (new : Holder) → Type 0
+Plays dialect before old [] after new = (after ≡ before) × (new ≡ old)
+Plays dialect before old (turn ∷ turns) after new = IsStep dialect before turn.rest old turn.client × Plays dialect turn.rest turn.client turns after new
 
 -- no more lines than the bound, where there is one
 abbrev pub IsWithin : (most : Option ℕ) (lines : ℕ) → Type 0
@@ -87,19 +90,19 @@ IsWithin None lines = Unit {0}
 IsWithin (Some most) lines = lines ≤ most
 
 -- the whole script is done
-pub record IsPlayed (most : Option ℕ) (script : List ℕ) (first last : Holder) : Type 0 where
+pub record IsPlayed (dialect : Dialect) (most : Option ℕ) (script : List ℕ) (first last : Holder) : Type 0 where
   pub turns : List Turn
   pub few : IsWithin most (length turns)
-  pub plays : Plays script first turns [] last
+  pub plays : Plays dialect script first turns [] last
 
 -- a prefix of it is done; of the step behind it perhaps the call, whose answer could not be written (of an audit the calls up to such a one)
-pub record IsPlayedInPart (most : Option ℕ) (script : List ℕ) (first last : Holder) : Type 0 where
+pub record IsPlayedInPart (dialect : Dialect) (most : Option ℕ) (script : List ℕ) (first last : Holder) : Type 0 where
   pub turns : List Turn
   pub few : IsWithin most (length turns)
   pub rest : List ℕ
   pub client : Holder
-  pub plays : Plays script first turns rest client
-  pub then_is : (last ≡ client) ⊎ (IsWithin most (length turns + 1) × (after : List ℕ) × IsStep rest after client last)
+  pub plays : Plays dialect script first turns rest client
+  pub then_is : (last ≡ client) ⊎ (IsWithin most (length turns + 1) × (after : List ℕ) × IsStep dialect rest after client last)
 
 -- ---- scripts that a fault ends
 
@@ -110,11 +113,11 @@ IsCutShort (Some (Replace name count)) rest = length rest < count
 IsCutShort asked rest = ⊥
 
 -- the next line is such a one: the script ends within its source
-pub record EndsInSource (before : List ℕ) : Type 0 where
+pub record EndsInSource (dialect : Dialect) (before : List ℕ) : Type 0 where
   pub line : List ℕ
   pub rest : List ℕ
   pub is_line : IsLine before line rest
-  pub short : IsCutShort (asked_by_line line) rest
+  pub short : IsCutShort (asked_by_line dialect line) rest
 
 -- Why 52: the script has more bytes than it may have; or, where there is a bound on its lines, so many are done, and more of it is left.
 abbrev pub IsTooLong : (most : Option ℕ) (script : List ℕ) (lines : ℕ) (rest : List ℕ) → Type 0
@@ -122,11 +125,11 @@ IsTooLong None script lines rest = 16777216 < length script
 IsTooLong (Some most) script lines rest = (16777216 < length script) ⊎ ((lines ≡ most) × (rest ≢ []))
 
 -- a prefix of the script is done and nothing of what is behind it; `Stops` holds of the number of lines done and of what is left
-pub record IsPlayedUpTo (most : Option ℕ) (script : List ℕ) (Stops : (lines : ℕ) (rest : List ℕ) → Type 0) (first last : Holder) : Type 0 where
+pub record IsPlayedUpTo (dialect : Dialect) (most : Option ℕ) (script : List ℕ) (Stops : (lines : ℕ) (rest : List ℕ) → Type 0) (first last : Holder) : Type 0 where
   pub turns : List Turn
   pub few : IsWithin most (length turns)
   pub rest : List ℕ
-  pub plays : Plays script first turns rest last
+  pub plays : Plays dialect script first turns rest last
   pub stops : Stops (length turns) rest
 
 -- the faults that end a script: 51 to 54
@@ -136,20 +139,20 @@ IsEnding fault = Unit {0}
 
 -- How far a script was done that such a fault ended. That it could not be read, 53, or that an answer could not be written, 54, is known to
 -- its reader and its writer alone.
-abbrev pub IsStoppedBy : (most : Option ℕ) → ScriptFault → (script : List ℕ) (first last : Holder) → Type 0
-IsStoppedBy most BadLine script first last = ⊥
-IsStoppedBy most EndOfScript script first last = IsPlayedUpTo most script (λ lines rest. IsWithin most (lines + 1) × EndsInSource rest) first last
-IsStoppedBy most ScriptTooLong script first last = IsPlayedUpTo most script (IsTooLong most script) first last
-IsStoppedBy most ReadFault script first last = IsPlayedUpTo most script (λ lines rest. Unit {0}) first last
-IsStoppedBy most WriteFault script first last = IsPlayedInPart most script first last
+abbrev pub IsStoppedBy : Dialect → (most : Option ℕ) → ScriptFault → (script : List ℕ) (first last : Holder) → Type 0
+IsStoppedBy dialect most BadLine script first last = ⊥
+IsStoppedBy dialect most EndOfScript script first last = IsPlayedUpTo dialect most script (λ lines rest. IsWithin most (lines + 1) × EndsInSource dialect rest) first last
+IsStoppedBy dialect most ScriptTooLong script first last = IsPlayedUpTo dialect most script (IsTooLong most script) first last
+IsStoppedBy dialect most ReadFault script first last = IsPlayedUpTo dialect most script (λ lines rest. Unit {0}) first last
+IsStoppedBy dialect most WriteFault script first last = IsPlayedInPart dialect most script first last
 
 -- ---- scripts whose bytes are known to their readers
 
 -- a fault that ends scripts ended it, and it is done as far as that says
-abbrev pub IsStopped : (most : Option ℕ) (script : Option (List ℕ)) (old new : Holder) → ScriptFault → Type 0
-IsStopped most script old new fault = IsEnding fault × IfSome script (λ bytes. IsStoppedBy most fault bytes old new)
+abbrev pub IsStopped : Dialect → (most : Option ℕ) (script : Option (List ℕ)) (old new : Holder) → ScriptFault → Type 0
+IsStopped dialect most script old new fault = IsEnding fault × IfSome script (λ bytes. IsStoppedBy dialect most fault bytes old new)
 
 -- it is done whole; or a fault ended it, and it is done as far as that says
-abbrev pub IsPlayedBy : {T : Type 0} → (most : Option ℕ) (script : Option (List ℕ)) (old new : Holder) → Result T ScriptFault → Type 0
-IsPlayedBy most script old new (Ok done) = IfSome script (λ bytes. IsPlayed most bytes old new)
-IsPlayedBy most script old new (Err fault) = IsStopped most script old new fault
+abbrev pub IsPlayedBy : {T : Type 0} → Dialect → (most : Option ℕ) (script : Option (List ℕ)) (old new : Holder) → Result T ScriptFault → Type 0
+IsPlayedBy dialect most script old new (Ok done) = IfSome script (λ bytes. IsPlayed dialect most bytes old new)
+IsPlayedBy dialect most script old new (Err fault) = IsStopped dialect most script old new fault

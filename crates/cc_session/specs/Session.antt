@@ -12,6 +12,7 @@ use Rattle.cc_service.specs.Promise.{IsSound}
 use Rattle.cc_service.specs.Serving.{IsNotOpened}
 use Rattle.cc_service.specs.declared.fault.ServiceFault.{ServiceFault}
 use Rattle.cc_script.specs.Fault as faults
+use Rattle.cc_script.specs.declared.command.Dialect.TheVariants.{Plain}
 use Rattle.cc_script.specs.declared.fault.ScriptFault.{ScriptFault}
 use Rattle.cc_session.specs.Playing.{IsEnding, IsPlayed, IsStoppedBy}
 use Rattle.cc_session.specs.declared.end.SessionEnd.{SessionEnd}
@@ -31,13 +32,13 @@ pub record HasCalled (script : Option (List ℕ)) (clients : List Holder) (Plays
   pub plays : IfSome script (λ bytes. Plays bytes first last)
   pub alone : clients ≡ last ∷ []
 
--- How the script of a session ended, and what it made of the clients: it was done; or the service has no client for it, 30; or one of 51 to 54
+-- How the script of a session, a plain one, ended, and what it made of the clients: it was done; or the service has no client for it, 30; or one of 51 to 54
 -- ended it.
 abbrev pub HaveCalled : (script : Option (List ℕ)) (clients : List Holder) → (played : SessionEnd) → Type 0
-HaveCalled script clients Finished = HasCalled script clients (IsPlayed None)
+HaveCalled script clients Finished = HasCalled script clients (IsPlayed Plain None)
 HaveCalled script clients (Fault number) =
     ((number ≡ 30) × (clients ≡ []))
-    ⊎ ((fault : ScriptFault) × IsEnding fault × (number ≡ faults.fault_number fault) × HasCalled script clients (IsStoppedBy None fault))
+    ⊎ ((fault : ScriptFault) × IsEnding fault × (number ≡ faults.fault_number fault) × HasCalled script clients (IsStoppedBy Plain None fault))
 
 -- what is told where the service's end is refused by this number: the fault that ended the clients' work, where one did, else the number
 abbrev pub told_after : (number : ℕ) → (played : SessionEnd) → SessionEnd

@@ -2,6 +2,7 @@
 use Rattle.std.specs.Prelude.{◌≡◌, ℕ, Bool, List, [], ◌∷◌, ◌++◌, length, Option, Some, None, IfSome, slice_get}
 use Rattle.cc_history.specs.History.{Holder}
 use Rattle.cc_script.specs.Fault as faults
+use Rattle.cc_script.specs.declared.command.Dialect.TheVariants.{Served}
 use Rattle.cc_script.specs.declared.fault.ScriptFault.{ScriptFault}
 use Rattle.cc_session.specs.Playing.{IsPlayed, IsStopped}
 use Rattle.cc_session.specs.Session.{ServiceEnds}
@@ -14,11 +15,11 @@ use Rattle.cc_session.specs.declared.end.SessionEnd.TheVariants.{Finished, Fault
 abbrev pub most_lines : Option ℕ
 most_lines = Some 65536
 
--- What the client made of a script, where its bytes are known, by how it is told that it ended: all of it is done; or a fault that ends scripts
+-- What the client made of a script of a spool, which is a served one, where its bytes are known, by how it is told that it ended: all of it is done; or a fault that ends scripts
 -- ended it, whose number is told, and it is done as far as that says.
 abbrev pub IsDoneBy : (script : Option (List ℕ)) (end : Option ℕ) (old new : Holder) → Type 0
-IsDoneBy script None old new = IfSome script (λ bytes. IsPlayed most_lines bytes old new)
-IsDoneBy script (Some number) old new = (fault : ScriptFault) × (number ≡ faults.fault_number fault) × IsStopped most_lines script old new fault
+IsDoneBy script None old new = IfSome script (λ bytes. IsPlayed Served most_lines bytes old new)
+IsDoneBy script (Some number) old new = (fault : ScriptFault) × (number ≡ faults.fault_number fault) × IsStopped Served most_lines script old new fault
 
 -- scripts in turn, each with how it ended
 abbrev pub AreDoneBy : (scripts : List (Option (List ℕ))) (ends : List (Option ℕ)) (old new : Holder) → Type 0

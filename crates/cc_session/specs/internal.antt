@@ -3,6 +3,8 @@
 pub mod Steps
 -- what is said of units that are found
 pub mod Auditing
+-- what is told of units that are found
+pub mod Showing
 -- how a script from a spool ended
 pub mod Ends
 -- when a generation ends

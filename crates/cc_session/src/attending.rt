@@ -8,7 +8,7 @@ use crate::bounds::Meter;
 use crate::calls::Caller;
 use crate::talk::Talk;
 use cc_disk::Disk;
-use cc_script::ScriptFault;
+use cc_script::{Dialect, ScriptFault};
 use cc_service::{Client, Named, Service};
 use cc_spool::Spool;
 use std::alloc::Global;
@@ -22,7 +22,7 @@ const MOST_LINES: usize = 65_536;
 /// that line can't be written the fault is 54, of which there is no line. Clients on other threads may play theirs on the same service.
 ///
 /// The script comes from `reader`; each answer goes to `writer`, which is flushed behind it; what helps a person with a fault goes to
-/// `explanations`, and where such a write fails the script goes on. Where there is a bound on its lines, `most`, so many are done at most,
+/// `explanations`, and where such a write fails the script goes on. `dialect` says which lines it may have. Where there is a bound on its lines, `most`, so many are done at most,
 /// and 52 ends a script that has more: at 0 every script that has a byte. A line counts with the source behind it, whatever is answered.
 #[tactic(auto, using(crate::proofs::Lines::unwritten_behind))]
 pub fn play<N, H, R: Read, W: Write, E: Write, D>(
@@ -33,17 +33,18 @@ pub fn play<N, H, R: Read, W: Write, E: Write, D>(
     reader: &mut R,
     writer: &mut W,
     explanations: &mut E,
+    dialect: Dialect,
     most: Option<usize>,
 ) -> Result<(), ScriptFault>
 where
     N: Named + Send + Sync + 'static,
     H: Wait,
     D: Disk,
-    ensures { IsPlayedBy most (R.remaining reader.old) client.old.holder client.new.holder result }
+    ensures { IsPlayedBy dialect most (R.remaining reader.old) client.old.holder client.new.holder result }
 {
     let mut talk = Talk::new(reader, writer, explanations);
     let caller = Caller { rt, alloc, service };
-    match caller.play(client, &mut talk, most) {
+    match caller.play(client, &mut talk, dialect, most) {
         Ok(()) => Ok(()),
         Err(fault) => match talk.tell_fault(fault) {
             Ok(()) => Err(fault),
@@ -89,6 +90,7 @@ where
         &mut script,
         &mut answer,
         &mut io::sink(),
+        Dialect::Served,
         Some(MOST_LINES),
     );
     spool.deliver(script, answer, end_of(played));

@@ -9,11 +9,12 @@ ghost use Rattle.cc_session.specs.Playing.{Audits, Calls, FetchesEach, IsCutShor
 ghost use Rattle.cc_session.specs.internal.Steps.{IsDone, IsShortOf, asking};
 
 use crate::auditing::audit_found;
+use crate::showing::{Part, text_of};
 use crate::talk::{Sent, Talk};
 use cc_disk::Disk;
 use cc_library::Name;
 use cc_program::run_image;
-use cc_script::{Command, LINE_BYTES, MOST_BYTES, Next, ScriptFault, command_of};
+use cc_script::{Command, Dialect, LINE_BYTES, MOST_BYTES, Next, ScriptFault, command_of};
 use cc_service::{Client, Found, Named, Service};
 use std::alloc::Global;
 use std::io::{Read, Write};
@@ -162,6 +163,47 @@ impl<'a, N: Named + Send + Sync + 'static, H: Wait, D: Disk> Caller<'a, N, H, D>
         told
     }
 
+    // Tells what is told of a name's unit.
+    fn show<R: Read, W: Write, E: Write>(
+        &self,
+        client: &mut Client<N>,
+        talk: &mut Talk<R, W, E>,
+        name: &[u8],
+        part: Part,
+    ) -> Result<(), ScriptFault>
+        ensures ending { IfErr result (λ fault. fault ≡ WriteFault) }
+        ensures rest { talk.new ≡ talk.old }
+        ensures called { Calls (GetAnswers name.now client.old.holder client.new.holder) }
+    {
+        let answer = self.service.get(self.rt, self.alloc, client, name);
+        let told = match &answer {
+            Ok(found) => self.show_found(talk, found, part),
+            Err(fault) => talk.tell_refusal(self.alloc, fault, &[]),
+        };
+        drop(answer);
+        told
+    }
+
+    // Tells this of a unit that was found.
+    fn show_found<R: Read, W: Write, E: Write>(
+        &self,
+        talk: &mut Talk<R, W, E>,
+        found: &Found,
+        part: Part,
+    ) -> Result<(), ScriptFault>
+        ensures ending { IfErr result (λ fault. fault ≡ WriteFault) }
+        ensures rest { talk.new ≡ talk.old }
+    {
+        match text_of(self.alloc, found, part) {
+            Ok(text) => {
+                let told = talk.tell_text(text.as_slice());
+                drop(text);
+                told
+            }
+            Err(_) => talk.tell_no_memory(self.alloc),
+        }
+    }
+
     fn compact<R: Read, W: Write, E: Write>(
         &self,
         talk: &mut Talk<R, W, E>,
@@ -264,17 +306,18 @@ impl<'a, N: Named + Send + Sync + 'static, H: Wait, D: Disk> Caller<'a, N, H, D>
         told
     }
 
-    // Does what a line asks for.
+    // Does what a line of a script asks for.
     fn obey<R: Read, W: Write, E: Write>(
         &self,
         client: &mut Client<N>,
         talk: &mut Talk<R, W, E>,
+        dialect: Dialect,
         line: &[u8],
     ) -> Result<(), ScriptFault>
-        ensures { IsDone (λ before after old new. Obeys (asked_of line.now) before after old new) (λ rest. IsCutShort (asked_of line.now) rest) talk.old talk.new
-            client.old.holder client.new.holder result }
+        ensures { IsDone (λ before after old new. Obeys (asked_of dialect line.now) before after old new) (λ rest. IsCutShort (asked_of dialect line.now) rest)
+            talk.old talk.new client.old.holder client.new.holder result }
     {
-        match command_of(line) {
+        match command_of(dialect, line) {
             Some(Command::Add { name, length }) => self.put(client, talk, name, length, true),
             Some(Command::Replace { name, length }) => self.put(client, talk, name, length, false),
             Some(Command::Withdraw { name }) => self.withdraw(client, talk, name),
@@ -282,25 +325,28 @@ impl<'a, N: Named + Send + Sync + 'static, H: Wait, D: Disk> Caller<'a, N, H, D>
             Some(Command::Run { name, steps }) => self.run(client, talk, name, steps),
             Some(Command::Compact) => self.compact(talk),
             Some(Command::Audit) => self.audit(client, talk),
+            Some(Command::Image { name }) => self.show(client, talk, name, Part::Image),
+            Some(Command::Source { name }) => self.show(client, talk, name, Part::Source),
             None => talk.refuse_line(),
         }
     }
 
-    // Does what a script asks for, up to its end or a fault that ends it; where there is a bound, so many lines at most.
+    // Does what a script of this dialect asks for, up to its end or a fault that ends it; where there is a bound, so many lines at most.
     pub(crate) fn play<R: Read, W: Write, E: Write>(
         &self,
         client: &mut Client<N>,
         talk: &mut Talk<R, W, E>,
+        dialect: Dialect,
         most: Option<usize>,
     ) -> Result<(), ScriptFault>
         requires { talk.old.left ≡ 16777216 }
-        ensures { IsPlayedBy most talk.old.rest client.old.holder client.new.holder result }
+        ensures { IsPlayedBy dialect most talk.old.rest client.old.holder client.new.holder result }
     {
         let mut line = [0u8; LINE_BYTES];
         // Each line but the last takes a byte at least.
         for lines in 0..=MOST_BYTES {
             match talk.next_line(&mut line, most, lines)? {
-                Next::Line(length) => self.obey(client, talk, &line[..length])?,
+                Next::Line(length) => self.obey(client, talk, dialect, &line[..length])?,
                 Next::TooLong => talk.refuse_and_skip()?,
                 Next::End => return Ok(()),
             }

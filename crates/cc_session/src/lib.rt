@@ -3,7 +3,7 @@
 //!
 //! `running` opens the service and ends it, `serving` does so for many clients, `generations` one such service behind the other, `attending`
 //! does one script, or those of a spool, by a client of a service that runs. `bounds` says when a service is ended so that the next begins,
-//! `steward` who is told of it. `calls` does the commands, `auditing` audits a unit, `talk` reads the script and writes what is answered,
+//! `steward` who is told of it. `calls` does the commands, `auditing` audits a unit, `showing` tells its image or its source, `talk` reads the script and writes what is answered,
 //! `words` has what a person is told of a fault, `end` is how a session ended. Which commands a script has is the matter of `cc_script`,
 //! where scripts come from that of `cc_spool`.
 //! It hands out `session`, `session_and_explain`, `serve`, `serve_on`, `Served`, `attend`, `play` and `SessionEnd`; `Bounds`, `BOUNDS`,
@@ -18,6 +18,7 @@ mod end;
 mod generations;
 mod running;
 mod serving;
+mod showing;
 mod steward;
 mod talk;
 mod words;

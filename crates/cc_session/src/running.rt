@@ -17,7 +17,7 @@ use crate::talk::Talk;
 use cc_disk::Disk;
 use cc_library::{Library, LibraryFault, UnitMap};
 use cc_pool::{Gate, NoGate};
-use cc_script::ScriptFault;
+use cc_script::{Dialect, ScriptFault};
 use cc_service::{Client, Closed, Fresh, Named, Service, ServiceFault};
 use std::alloc::Global;
 use std::io::{self, Read, Write};
@@ -129,7 +129,7 @@ where
     match service.client(rt, alloc) {
         Ok(mut client) => {
             let caller = Caller { rt, alloc, service };
-            let played = caller.play(&mut client, talk, None);
+            let played = caller.play(&mut client, talk, Dialect::Plain, None);
             clients.push_reserved(client);
             ended(talk, played)
         }
@@ -279,7 +279,7 @@ where
 /// Opens the library on a disk as a service with this many workers, 1 to 8, does the commands of a script by one client, and ends the
 /// service.
 ///
-/// The script comes from `reader`, each answer goes to `writer`, which is flushed behind it. A refusal writes its fault's line, and the
+/// The script, a plain one, comes from `reader`, each answer goes to `writer`, which is flushed behind it. A refusal writes its fault's line, and the
 /// session goes on; a fault of the opening, of the script (51 to 54; of 54 there is no line) or of the service's end (39, 40) ends it, and
 /// the first of them is told. The disk is handed back after each.
 ///

@@ -100,6 +100,12 @@ fn write_audit<W: Write>(name: &[u8], audit: Audit, writer: &mut W) -> io::Resul
     writer.flush()
 }
 
+// Writes lines that are there as a whole.
+fn write_text<W: Write>(text: &[u8], writer: &mut W) -> io::Result<()> {
+    writer.write_all(text)?;
+    writer.flush()
+}
+
 // Of a fault that stands in no source.
 fn write_fault<W: Write>(fault: ScriptFault, writer: &mut W) -> io::Result<()> {
     write_fault_line(fault.number(), &fault, None, None, &[], writer)?;
@@ -239,6 +245,14 @@ impl<R: Read, W: Write, E: Write> Talk<R, W, E> {
         ensures rest { self.new ≡ self.old }
     {
         written(write_audit(name, audit, &mut self.answers))
+    }
+
+    // Writes lines that are there as a whole.
+    pub(crate) fn tell_text(&mut self, text: &[u8]) -> Result<(), ScriptFault>
+        ensures ending { IfErr result (λ fault. fault ≡ WriteFault) }
+        ensures rest { self.new ≡ self.old }
+    {
+        written(write_text(text, &mut self.answers))
     }
 
     // Writes that what was asked for is done.
