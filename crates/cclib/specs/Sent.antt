@@ -1,6 +1,6 @@
 -- What stands behind the line of a command.
 use Rattle.std.specs.Prelude.{Bool, true, false, Option, Some, None}
-use Rattle.cc_script.specs.Line.{Asked, Add, Replace, Withdraw, Names, Run, Compact, Audit}
+use Rattle.cc_script.specs.Line.{Asked, Add, Replace, Withdraw, Names, Run, Compact, Audit, Image, Source}
 
 -- a line that has a source behind it
 abbrev pub has_source : Option Asked → Bool
@@ -12,6 +12,8 @@ has_source (Some Names) = false
 has_source (Some (Run name steps)) = false
 has_source (Some Compact) = false
 has_source (Some Audit) = false
+has_source (Some (Image name)) = false
+has_source (Some (Source name)) = false
 
 -- a line that is a whole command
 abbrev pub is_whole : Option Asked → Bool
@@ -23,3 +25,10 @@ is_whole (Some Names) = true
 is_whole (Some (Run name steps)) = true
 is_whole (Some Compact) = true
 is_whole (Some Audit) = true
+is_whole (Some (Image name)) = true
+is_whole (Some (Source name)) = true
+
+-- a line whose answer is a source
+abbrev pub asks_source : Option Asked → Bool
+asks_source (Some (Source name)) = true
+asks_source asked = false

@@ -3,14 +3,15 @@
 ghost use Rattle.std.specs.Prelude.{◌≡◌, ◌≢◌, ◌++◌, ◌∷◌, [], None, Ok, IfOk};
 ghost use Rattle.cc_script.specs.Line.{asked_of};
 ghost use Rattle.cc_spool.specs.declared.submission.Submission.TheVariants.{Answered};
-ghost use Rattle.cclib.specs.Sent.{has_source, is_whole};
+ghost use Rattle.cc_script.specs.declared.command.Dialect.TheVariants.{Served};
+ghost use Rattle.cclib.specs.Sent.{asks_source, has_source, is_whole};
 
 use crate::telling::{Persons, Telling};
 use cc_command_line::{Client, Task};
 use cc_program::perform_and_explain;
-use cc_script::{Command, command_of};
+use cc_script::{Command, Dialect, ScriptFault, command_of};
 use cc_session::{explain_words, words_of};
-use cc_spool::{Layout, SpoolFault, Submission, submit};
+use cc_spool::{Layout, SpoolFault, Submission, fault_lines, source_in, submit};
 use std::alloc::{AllocError, Global};
 use std::fs::File;
 use std::io::{self, BufWriter, Input, Print, Read, Write};
@@ -22,7 +23,12 @@ const MOST_SOURCE: usize = 65_537;
 const READ_FAULT: &[u8] = b"fault 53 ReadFault\n";
 
 const NO_COMMAND: &str =
-    "cclib: the words are no command of a script: add NAME, replace NAME, withdraw NAME, list, run NAME STEPS, compact or audit\n";
+    "cclib: the words are no command of a script: add NAME, replace NAME, withdraw NAME, list, run NAME STEPS, compact, audit, image NAME or source NAME\n";
+
+// What a person is told of a line that is no command of a server's script.
+const BAD_LINE: &str = "\
+cclib: the line is no command: add NAME LEN, replace NAME LEN, withdraw NAME, list, run NAME STEPS, compact, audit, image NAME or source NAME; \
+a newline follows the LEN bytes of a source\n";
 
 // What is sent.
 #[derive(Drop)]
@@ -31,18 +37,20 @@ enum Sent {
     Script,
     // A line that takes no source.
     Line(Vec<u8>),
+    // The same, whose answer is a source.
+    Fetch(Vec<u8>),
     // A line with its source, and how many bytes the line has.
     Source(Vec<u8>, usize),
 }
 
 // Whether a line takes a source: it is one with a length behind it.
 fn takes_source(alloc: Global, line: &str) -> Result<bool, AllocError>
-    ensures { IfOk result (λ takes. takes ≡ has_source (asked_of (line.now ++ 32 ∷ 48 ∷ []))) }
+    ensures { IfOk result (λ takes. takes ≡ has_source (asked_of Served (line.now ++ 32 ∷ 48 ∷ []))) }
 {
     let mut with_length = Vec::new(alloc);
     with_length.extend_from_slice(line.as_bytes())?;
     with_length.extend_from_slice(b" 0")?;
-    Ok(match command_of(with_length.as_slice()) {
+    Ok(match command_of(Dialect::Served, with_length.as_slice()) {
         Some(Command::Add { name: _, length: _ }) | Some(Command::Replace { name: _, length: _ }) =>
             true,
         _ => false,
@@ -51,14 +59,24 @@ fn takes_source(alloc: Global, line: &str) -> Result<bool, AllocError>
 
 // Whether a line is a whole command.
 fn is_whole(line: &str) -> bool
-    ensures { result ≡ is_whole (asked_of line.now) }
+    ensures { result ≡ is_whole (asked_of Served line.now) }
 {
-    match command_of(line.as_bytes()) {
+    match command_of(Dialect::Served, line.as_bytes()) {
         Some(Command::Add { name: _, length: _ })
         | Some(Command::Replace { name: _, length: _ })
         | None => false,
         Some(_) => true,
     }
+}
+
+// Whether the answer to a line is a source.
+fn asks_source(line: &str) -> bool
+    ensures { result ≡ asks_source (asked_of Served line.now) }
+{
+    matches!(
+        command_of(Dialect::Served, line.as_bytes()),
+        Some(Command::Source { name: _ })
+    )
 }
 
 // The source on standard input, up to a byte more than it may have.
@@ -102,7 +120,11 @@ fn sent_of<R: Input>(rt: &R, alloc: Global, line: Option<&String>) -> io::Result
     }
     bytes.extend_from_slice(line.as_bytes())?;
     bytes.push(b'\n')?;
-    Ok(Some(Sent::Line(bytes)))
+    Ok(Some(if asks_source(line) {
+        Sent::Fetch(bytes)
+    } else {
+        Sent::Line(bytes)
+    }))
 }
 
 // Leaves what is sent in the folder, and writes the answer.
@@ -128,7 +150,7 @@ where
             watched,
             wait,
         ),
-        Sent::Line(bytes) | Sent::Source(bytes, _) => submit(
+        Sent::Line(bytes) | Sent::Fetch(bytes) | Sent::Source(bytes, _) => submit(
             layout,
             process,
             bytes.as_slice(),
@@ -161,6 +183,10 @@ fn explain<R: AllocGlobal, E: Write>(
             told,
             "cclib: the server ended while it did the script; `list` tells whether the last command was done"
         )?;
+        return told.flush();
+    }
+    if number == ScriptFault::BadLine.number() {
+        told.write_all(BAD_LINE.as_bytes())?;
         return told.flush();
     }
     if words_of(number).is_some() {
@@ -266,6 +292,88 @@ fn finish<R: AllocGlobal, W: Write, E: Write>(
     }
 }
 
+// Writes the source that an answer is, and nothing else; or the lines of the faults that it tells. Whether it is a source.
+fn write_source<W: Write>(alloc: Global, answer: &[u8], writer: &mut W) -> io::Result<bool> {
+    let is_source = match source_in(alloc, answer)? {
+        Some(source) => {
+            writer.write_all(source)?;
+            true
+        }
+        None => {
+            let lines = fault_lines(alloc, answer)?;
+            writer.write_all(lines.as_slice())?;
+            false
+        }
+    };
+    writer.flush()?;
+    Ok(is_source)
+}
+
+// Writes what became of a line whose answer is a source, and tells a person of it; the status.
+fn finish_source<R: AllocGlobal, W: Write, E: Write>(
+    rt: &R,
+    done: io::Result<Submission>,
+    answer: &[u8],
+    asked: &Client,
+    sent: &Sent,
+    writer: &mut W,
+    told: &mut E,
+) -> u8
+    ensures { done ≢ Ok (Answered None) → result ≡ 1 }
+{
+    let done = match done {
+        Ok(Submission::Answered(number)) => match write_source(rt.alloc(), answer, writer) {
+            Ok(is_source) => {
+                if number.is_none() && !is_source {
+                    let _ = told.write_all(b"cclib: the answer is no source\n");
+                    let _ = told.flush();
+                    return 1;
+                }
+                Ok(Submission::Answered(number))
+            }
+            Err(_) => {
+                let _ = told.write_all(b"cclib: the source could not be written\n");
+                let _ = told.flush();
+                return 1;
+            }
+        },
+        // Nothing of the answer was written.
+        Ok(Submission::CutShort(name, why)) => Ok(Submission::Lost(name, why)),
+        other => other,
+    };
+    finish(rt, done, asked, sent, writer, told)
+}
+
+// Leaves what is sent in the folder, writes the answer, and tells a person of it; the status.
+fn leave<R, W: Write, E: Write>(
+    rt: &R,
+    layout: &Layout<R>,
+    process: u32,
+    asked: &Client,
+    sent: &Sent,
+    persons: Persons,
+    writer: &mut W,
+    told: &mut Telling<E>,
+) -> u8
+where
+    R: AllocGlobal + Files<File = File> + Clock + Input + Copy + Clone + Drop,
+{
+    let wait = asked.wait;
+    // That it waits is told to who sees it, and not to a file.
+    told.is_quiet = persons.is_quiet || !persons.is_watched;
+    if let Sent::Fetch(_) = sent {
+        let mut answer = Vec::new(rt.alloc());
+        let done = send(rt, layout, process, wait, sent, &mut answer, told);
+        told.is_quiet = persons.is_quiet;
+        let status = finish_source(rt, done, answer.as_slice(), asked, sent, writer, told);
+        drop(answer);
+        return status;
+    }
+    let done = send(rt, layout, process, wait, sent, writer, told);
+    told.is_quiet = persons.is_quiet;
+    finish(rt, done, asked, sent, writer, told)
+}
+
 /// Leaves a script for the server of a folder, and prints its answer; the status. The error is lack of memory before it began.
 pub fn submit_script<R, E: Write + Drop>(
     rt: &R,
@@ -302,19 +410,16 @@ where
             return Ok(1);
         }
     };
-    // That it waits is told to who sees it, and not to a file.
-    told.is_quiet = persons.is_quiet || !persons.is_watched;
-    let done = send(
+    let status = leave(
         rt,
         &layout,
         process,
-        asked.wait,
+        asked,
         &sent,
+        persons,
         &mut writer,
         &mut told,
     );
-    told.is_quiet = persons.is_quiet;
-    let status = finish(rt, done, asked, &sent, &mut writer, &mut told);
     drop(sent);
     Ok(status)
 }
