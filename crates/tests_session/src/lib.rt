@@ -2,7 +2,7 @@
 //!
 //! `helpers` runs a script on a formatted disk, `scripts` has the worked scripts, `audits` those that audit, `earlier` a library of before
 //! selection, `refusals` what is refused, `failing` readers and writers that fail, `files` a library in a file, `spools` scripts of
-//! several clients, `serving` many clients at once, `generations` one service behind the other.
+//! several clients, `serving` many clients at once, `generations` one service behind the other, `showing` images and sources of units.
 #![tactic(auto)]
 
 #[cfg(test)]
@@ -23,5 +23,7 @@ mod refusals;
 mod scripts;
 #[cfg(test)]
 mod serving;
+#[cfg(test)]
+mod showing;
 #[cfg(test)]
 mod spools;
