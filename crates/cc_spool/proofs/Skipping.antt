@@ -8,7 +8,7 @@ use Rattle.std.proofs.lemmas.Bool.Decides.{nat_tests}
 use Rattle.std.proofs.lemmas.Fmt.{decimal_is_IsNumeral}
 use Rattle.std.proofs.lemmas.Str.{digit_value_digit}
 use Rattle.std.proofs.lemmas.Str.Parse.{digit_from_value}
-use Rattle.cc_spool.specs.Answer.{between, framed, place_behind, read_byte, read_bytes, told_at}
+use Rattle.cc_spool.specs.Answer.{between, framed, place_behind, read_byte, read_bytes, told_at, with_digit}
 use Rattle.cc_spool.specs.declared.lines.Lines.{Lines}
 use Rattle.cc_spool.specs.declared.lines.Place.{Place}
 use Rattle.cc_spool.specs.declared.lines.Place.TheVariants.{Behind, Fault, Length, Source, Within}
@@ -29,11 +29,17 @@ from_there place last byte rest there is same =
 
 -- ---- how many bytes it has
 
+one_more : (n c : ℕ) → digit_value c < 10 → n < 100000000 → with_digit n c ≡ n * 10 + digit_value c
+one_more n c is small =
+    let within = digit_from_value c is in
+    let value = digit_value_digit c within in
+    omega (arith, within, value, small)
+
 digit_behind : (n c : ℕ) → digit_value c < 10 → n < 100000000 → place_behind (Length n) c ≡ Length (n * 10 + digit_value c)
 digit_behind n c is small =
     let within = digit_from_value c is in
-    let value = digit_value_digit c within in
-    grind (arith, nat_tests)
+    let there : place_behind (Length n) c ≡ Length (with_digit n c) = grind (arith, nat_tests) in
+    there ∙ ap (λ (m : ℕ). Length m) (one_more n c is small)
 
 digit_first : (c : ℕ) → digit_value c < 10 → place_behind (Source 7) c ≡ Length (0 * 10 + digit_value c)
 digit_first c is =

@@ -1,5 +1,5 @@
 -- How an answer is read: lines, and the sources that stand between them.
-use Rattle.std.specs.Prelude.{ℕ, Bool, true, false, ◌+◌, ◌-◌, ◌*◌, ◌&&◌, ◌==◌, nat_lt, if◌then◌else◌, List, [], ◌∷◌, ◌++◌, length, slice_index, Option, Some, None, codes}
+use Rattle.std.specs.Prelude.{ℕ, Bool, true, false, ◌+◌, ◌-◌, ◌*◌, ◌&&◌, ◌==◌, min, nat_lt, if◌then◌else◌, List, [], ◌∷◌, ◌++◌, length, slice_index, Option, Some, None, codes}
 use Rattle.std.specs.Char.{is_ascii_digit}
 use Rattle.std.specs.Fmt.{decimal}
 use Rattle.cc_spool.specs.declared.lines.Place.{Place}
@@ -12,9 +12,9 @@ framed source = codes "source " ++ decimal (length source) ++ 10 ∷ source ++ 1
 
 -- ---- byte by byte
 
--- the number with one digit more; of one with more than nine digits the first nine
+-- the number with one digit more, as far as 32 bits go
 abbrev pub with_digit : (number byte : ℕ) → ℕ
-with_digit number byte = if nat_lt number 100000000 then 10 * number + (byte - 48) else number
+with_digit number byte = min (10 * number + (byte - 48)) 4294967295
 
 -- behind the first bytes of a line that may be that of a fault, this many
 abbrev pub in_fault : (count byte : ℕ) → Place

@@ -37,16 +37,14 @@ enum Place {
     Broken,
 }
 
-// A number with one digit more; of one with more than nine digits the first nine.
+// A number with one digit more, as far as it goes.
 fn with_digit(number: u32, byte: u8) -> u32
     requires { (48 ≤ byte) × (byte ≤ 57) }
     ensures { result ≡ with_digit number byte }
 {
-    if number < 100_000_000 {
-        10 * number + u32::from(byte - b'0')
-    } else {
-        number
-    }
+    number
+        .saturating_mul(10)
+        .saturating_add(u32::from(byte - b'0'))
 }
 
 // Behind so many bytes of the beginning of a fault's line another stands than a newline.

@@ -15,7 +15,8 @@ use std::sync::Wait;
 use std::test::Fail;
 use std::thread::Threads;
 
-fn served<H>(
+/// Serves the scripts of these spools once, by two workers.
+pub fn served<H>(
     rt: &H,
     alloc: Global,
     spools: Vec<MemorySpool<Paper, Page>>,

@@ -1,12 +1,11 @@
 // The lines that a served script has beside those of a session: a unit's image, and its source, which stands in a frame.
 
 use crate::helpers::{answers, formatted};
+use crate::serving::served;
 use crate::spools::{Page, Paper, ROOM, page_of, script_of};
-use cc_pool::NoGate;
-use cc_session::{BOUNDS, NoSteward, SessionEnd, serve};
+use cc_session::SessionEnd;
 use cc_spool::{MemorySpool, fault_lines, frame, source_in};
 use std::alloc::Global;
-use std::io;
 use std::sync::Wait;
 use std::test::Fail;
 use std::thread::Threads;
@@ -35,18 +34,7 @@ where
     let mut spools: Vec<MemorySpool<Paper, Page>> = Vec::new(alloc);
     spools.push(MemorySpool::new(alloc, scripts)?)?;
     let mut written = Vec::new(alloc);
-    let left = serve(
-        rt,
-        alloc,
-        spools,
-        &mut written,
-        &mut io::sink(),
-        formatted(alloc, 262_144)?,
-        1,
-        NoGate,
-        BOUNDS,
-        &mut NoSteward,
-    );
+    let left = served(rt, alloc, spools, formatted(alloc, 262_144)?, &mut written);
     let Some(spool) = left.spools.as_slice().first() else {
         return Ok(false);
     };
