@@ -104,12 +104,12 @@ fn wanted_of(
     given: &ArgMatches<'_>,
     name: &str,
     part: Part,
-) -> Result<Option<Work>, AllocError> {
+) -> Result<Option<Wanted>, AllocError> {
     let Some(disk) = path_of(alloc, given, DISK)? else {
         return Ok(None);
     };
     let name = String::from_str(alloc, name)?;
-    Ok(Some(Work::TakeOut(Wanted { disk, name, part })))
+    Ok(Some(Wanted { disk, name, part }))
 }
 
 /// What `image` asks for: a task for a text where it has no word, else the image of a unit.
@@ -123,7 +123,7 @@ pub(crate) fn image_of(alloc: Global, given: &ArgMatches<'_>) -> Result<Work, Er
         return Err(refused_image(alloc, BOTH_RULE)?);
     };
     match wanted_of(alloc, given, name, Part::Image)? {
-        Some(work) => Ok(work),
+        Some(wanted) => Ok(Work::TakeOut(wanted)),
         None => Err(refused_image(alloc, PATH_RULE)?),
     }
 }
@@ -134,7 +134,7 @@ pub(crate) fn source_of(alloc: Global, given: &ArgMatches<'_>) -> Result<Work, E
 {
     let name = given.get_str(NAME).unwrap_or("");
     match wanted_of(alloc, given, name, Part::Source)? {
-        Some(work) => Ok(work),
+        Some(wanted) => Ok(Work::TakeOut(wanted)),
         None => Err(refused_source(alloc, PATH_RULE)?),
     }
 }
