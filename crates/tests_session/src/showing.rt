@@ -14,8 +14,15 @@ use std::thread::Threads;
 const TABLE: &str =
     "int t[3]={7,-2,258};\n/*\nfault 1 x\nsource 4\n*/\nint main(void){write_word(t[1]);return t[2];}";
 
-// Its image: so many words of code, which `cclib asm` lists, and the table.
-const HEX: &str = "HEX";
+// Its image: nine words of code, as `cclib asm` lists them, and the three of the table.
+const HEX: &str = "\
+:020000040001F9\n\
+:10000000EF00C0009308D005730000003703200004\n\
+:1000100003254300930810007300000003258300AC\n\
+:0400200067800000F5\n\
+:020000040020DA\n\
+:0C00000007000000FEFFFFFF02010000EF\n\
+:00000001FF\n";
 
 // Whether a script of a spool is answered by these lines, up to the fault that ends it, where one does. Its answer has this much room.
 fn is_served<H>(
