@@ -1,6 +1,6 @@
 -- A change of the map in two halves, as a library makes it: what needs memory first, the rest when the journal has answered.
-use Rattle.std.proofs.Common.{◌≡◌, Bool, true, false, cond, refl, ap, ◌∙◌, ℕ}
-use Rattle.std.specs.Prelude.{None, Result, Ok, Err, IsOk}
+use Rattle.std.proofs.Common.{◌≡◌, Bool, true, false, cond, refl, sym, ap, ◌∙◌, ℕ}
+use Rattle.std.specs.Prelude.{Option, None, Result, Ok, Err, IsOk, is_some}
 use Rattle.std.specs.Cmp.Lexicographic.{nat_list_cmp_total}
 use Rattle.std.specs.FinMap as map
 use Rattle.cc_library.specs.declared.command.Command.{Command}
@@ -13,6 +13,10 @@ use Rattle.cc_library.proofs.Tables.{put_and_taken}
 pub is_accepted : (answer : Result Units ℕ) → refusal answer ≡ None → IsOk answer
 is_accepted (Ok made) e = refl
 is_accepted (Err number) e = absurd (cc e)
+
+pub accepted_where : (answer : Result Units ℕ) (number : Option ℕ) → number ≡ refusal answer → is_some number ≡ false → IsOk answer
+accepted_where (Ok made) number is none = refl
+accepted_where (Err n) number is none = let no : true ≡ false = sym (ap is_some is) ∙ none in absurd (cc)
 
 added : (there : Bool) (units made : Units) → IsOk {T = Units} {E = ℕ} (cond there (Err exists) (Ok made)) → made ≡ kept units (cond there (Err exists) (Ok made))
 added true units made ok = absurd (cc ok)

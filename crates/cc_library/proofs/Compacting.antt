@@ -1,6 +1,6 @@
 -- One Add per name stands for the map. How: from the map of the entries before them, the Adds of the next entries lead to the map
 -- of all; each is accepted, since a name of rising entries is not among those before it.
-use Rattle.std.proofs.Common.{◌≡◌, ℕ, ◌+◌, ◌<◌, ◌≤◌, length, List, [], ◌∷◌, ◌++◌, Bool, true, false, ◌&&◌, refl, sym, ap, subst, ◌∙◌, append_assoc, length-append, cond, Some, None, arith}
+use Rattle.std.proofs.Common.{◌≡◌, ℕ, ◌+◌, ◌-◌, ◌<◌, ◌≤◌, length, List, [], ◌∷◌, ◌++◌, Bool, true, false, ◌&&◌, refl, sym, ap, subst, ◌∙◌, append_assoc, length-append, cond, Some, None, arith}
 use Rattle.std.specs.Int.{w32, to_le_bytes}
 use Rattle.std.specs.Prelude.{T, IsOk, Ok, Err, if◌then◌else◌, is_some, Result}
 use Rattle.std.proofs.lemmas.List.{append-nil}
@@ -102,6 +102,20 @@ pub spelled_compacted : (bodies : List (List ℕ)) (units : Units) → AreSpelle
 spelled_compacted bodies units spelled = spelled_bodies bodies (map.entries units) spelled
 
 -- ---- their room
+
+-- of some records and one more
+pub room_record : (bodies : List (List ℕ)) (body : List ℕ) → room_of (bodies ++ body ∷ []) ≡ room_of bodies + (length body + 5)
+room_record [] body = omega (arith, length-append (record_bytes body) [], record_long body)
+room_record (b ∷ bodies) body = omega (arith, room_record bodies body, length-append (record_bytes b) (records (bodies ++ body ∷ [])), length-append (record_bytes b) (records bodies))
+
+-- what one more needs is not there
+pub no_room_left : (bodies : List (List ℕ)) (body : List ℕ) (area n : ℕ) → n ≡ length body → area - 5 ≤ n → room_of (bodies ++ body ∷ []) ≤ area → ⊥
+no_room_left bodies body area n long few fits = omega (arith, room_record bodies body, long, few, fits)
+
+-- or is there where the others leave it
+pub room_left : (bodies : List (List ℕ)) (body : List ℕ) (area n left : ℕ) → n ≡ length body → n < area - 5 → left ≡ area - 5 - n
+    → (room_of bodies ≤ left → room_of (bodies ++ body ∷ []) ≤ area) × (room_of (bodies ++ body ∷ []) ≤ area → room_of bodies ≤ left)
+room_left bodies body area n left long few is = (λ le. omega (arith, room_record bodies body, long, few, is, le), λ le. omega (arith, room_record bodies body, long, few, is, le))
 
 -- of some entries and one more
 pub room_push : (es : List Entry) (e : Entry) → room_of (bodies_of (adds (es ++ e ∷ []))) ≡ room_of (bodies_of (adds es)) + (length (body_of (Add e.0 e.1)) + 5)

@@ -17,7 +17,7 @@ use Rattle.cc_library.specs.Body.{body_of}
 use Rattle.cc_library.specs.Recovered.{StandFor, RecoversAlone, View}
 use Rattle.cc_library.specs.internal.Steps.{IsOldOrNew}
 use Rattle.cc_library.specs.Compact.{compacted}
-use Rattle.cc_library.specs.Answers.{ChangeAnswers, ChangeLeaves, ChangesDisk, CompactAnswers}
+use Rattle.cc_library.specs.Answers.{ChangeAnswers, ChangeLeaves, ChangesDisk, CompactAnswers, IsAsked, IsMended, room_with}
 use Rattle.cc_library.proofs.Standing.{quiet, no_call, holds_recovers}
 
 module _ {D : Type 0} where
@@ -107,6 +107,28 @@ module _ {D : Type 0} where
   change_refused journal.OutOfMemory j units closed command failures same ok answers = ((same ∙ answers.0, ok), answers.2)
   change_refused journal.Damaged j units closed command failures same ok answers = absurd answers
   change_refused journal.NotALibrary j units closed command failures same ok answers = absurd answers
+
+  -- ---- what a `compact` would mend
+
+  -- 34 refuses what the map accepts: the record does not fit
+  pub is_full : (fault : JournalFault) (full : Bool) (j : journals.View D) (units : Units) (closed : Bool) (command : Command) → full ≡ sameb the_type fault journal.Full → full ≡ true → closed ≡ j.closed → IsOk (apply units command)
+      → AppendAnswers {T = Unit {0}} j.closed j.area j.bodies (body_of command) 0 0 (Err fault) → IsAsked (seen_as j units closed) command × (j.area < room_with (seen_as j units closed) command)
+  is_full journal.Full full j units closed command e is same ok answers = ((same ∙ answers.0, ok), answers.1)
+  is_full journal.DiskFault full j units closed command e is same ok answers = let no : true ≡ false = sym is ∙ e in absurd (cc)
+  is_full journal.Closed full j units closed command e is same ok answers = let no : true ≡ false = sym is ∙ e in absurd (cc)
+  is_full journal.OutOfMemory full j units closed command e is same ok answers = let no : true ≡ false = sym is ∙ e in absurd (cc)
+  is_full journal.Damaged full j units closed command e is same ok answers = absurd answers
+  is_full journal.NotALibrary full j units closed command e is same ok answers = absurd answers
+
+  -- any other answer says that it fits, or that the journal is closed
+  pub not_full : (fault : JournalFault) (full : Bool) (j : journals.View D) (units : Units) (closed : Bool) (command : Command) → full ≡ sameb the_type fault journal.Full → full ≡ false → closed ≡ j.closed
+      → AppendAnswers {T = Unit {0}} j.closed j.area j.bodies (body_of command) 0 0 (Err fault) → IsMended (seen_as j units closed) command → ⊥
+  not_full journal.Full full j units closed command e is same answers mended = let no : true ≡ false = sym e ∙ is in cc
+  not_full journal.DiskFault full j units closed command e is same answers mended = omega (arith, answers.1, mended.1)
+  not_full journal.Closed full j units closed command e is same answers mended = let no : true ≡ false = sym answers.0 ∙ sym same ∙ mended.0.0 in cc
+  not_full journal.OutOfMemory full j units closed command e is same answers mended = omega (arith, answers.1, mended.1)
+  not_full journal.Damaged full j units closed command e is same answers mended = absurd answers
+  not_full journal.NotALibrary full j units closed command e is same answers mended = absurd answers
 
   -- it leaves all as it was: no device has failed
   pub change_leaves : (fault : JournalFault) (closed : Bool) (area : ℕ) (bodies : List (List ℕ)) (body : List ℕ) (old : View D) (command : Command)

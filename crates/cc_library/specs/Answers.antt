@@ -11,7 +11,7 @@ use Rattle.cc_library.specs.Apply.{Units, apply, after, exists, absent}
 use Rattle.cc_library.specs.declared.reading.ReadFault.{ReadFault}
 use Rattle.cc_library.specs.declared.reading.ReadFault.TheVariants as read
 use Rattle.cc_library.specs.Body.{body_of}
-use Rattle.cc_library.specs.Compact.{compacted}
+use Rattle.cc_library.specs.Compact.{compacted, room_compacted}
 use Rattle.cc_library.specs.Recovered.{Recovers, StandFor, View}
 
 -- what a function returned, seen by view, is what there is to read; where memory ran out, nothing is said
@@ -124,6 +124,10 @@ module _ {D : Type 0} where
   CompactLeaves old new (Err OutOfMemory) = new ≡ old
   CompactLeaves old new (Err Damaged) = new ≡ old
   CompactLeaves old new (Err NotALibrary) = new ≡ old
+
+  -- 34 refuses the change now, and would not behind a `compact`: the record does not fit, and fits behind the compacted records
+  abbrev pub IsMended : View D → Command → Type 0
+  IsMended old command = IsAsked old command × (old.area < room_with old command) × (room_compacted old.units command ≤ old.area)
 
   -- the journal's commit of the compacted records, on a disk with this area byte
   abbrev pub rewrites_in : (area_byte : ℕ) → View D → Commit

@@ -1,6 +1,7 @@
 -- The shortest journal of a map: one Add per name, in the order of the names' bytes.
-use Rattle.std.specs.Prelude.{ℕ, List, [], ◌∷◌}
+use Rattle.std.specs.Prelude.{ℕ, List, [], ◌∷◌, ◌++◌}
 use Rattle.std.specs.FinMap.{entries}
+use Rattle.cc_journal.specs.Format.{room_of}
 use Rattle.cc_unit.specs.declared.unit.StoredUnit.{StoredUnit}
 use Rattle.cc_library.specs.declared.command.Command.{Command}
 use Rattle.cc_library.specs.declared.command.Command.TheVariants.{Add}
@@ -24,3 +25,7 @@ bodies_of (command ∷ commands) = body_of command ∷ bodies_of commands
 -- the bodies of a compacted journal
 abbrev pub compacted : Units → List (List ℕ)
 compacted units = bodies_of (adds_of units)
+
+-- how many bytes of an area a compacted journal takes with this command's record behind it
+abbrev pub room_compacted : Units → Command → ℕ
+room_compacted units command = room_of (compacted units ++ body_of command ∷ [])

@@ -1,5 +1,5 @@
 // The library and its calls.
-ghost use Rattle.std.specs.Prelude.{◌≡◌, ◌⊎◌, ◌+◌, [], ◌∷◌, ◌++◌, List, ℕ, false, IsTrue, IfOk, IfErr, OnOk, MatchResult};
+ghost use Rattle.std.specs.Prelude.{◌≡◌, ◌↔◌, ◌≤◌, ◌⊎◌, ◌+◌, [], ◌∷◌, ◌++◌, List, ℕ, false, IsTrue, IfOk, IfErr, Ok, OnOk, MatchResult};
 ghost use Rattle.std.specs.Option.{option_map};
 ghost use Rattle.std.specs.Arc.{arc_value};
 ghost use Rattle.std.specs.FinMap as map;
@@ -9,9 +9,9 @@ ghost use Rattle.cc_library.specs.declared.command.Command.{Command};
 ghost use Rattle.cc_library.specs.declared.command.Command.TheVariants as command;
 ghost use Rattle.cc_library.specs.Apply.{after, after_all, library_of};
 ghost use Rattle.cc_library.specs.Body.{body_of};
-ghost use Rattle.cc_library.specs.Recovered.{Recovers, RecoversAlone, RecoversOneOf, StandFor};
-ghost use Rattle.cc_library.specs.Compact.{compacted};
-ghost use Rattle.cc_library.specs.Answers.{OpenFaults, ChangesDisk, CompactsDisk, ChangeAnswers, ChangeLeaves, CompactAnswers, CompactLeaves};
+ghost use Rattle.cc_library.specs.Recovered.{Recovers, RecoversAlone, RecoversOneOf, StandFor, View};
+ghost use Rattle.cc_library.specs.Compact.{compacted, room_compacted};
+ghost use Rattle.cc_library.specs.Answers.{OpenFaults, ChangesDisk, CompactsDisk, ChangeAnswers, ChangeLeaves, CompactAnswers, CompactLeaves, IsMended, room_with};
 ghost use Rattle.cc_library.specs.Runs.{AreDone, AreEdited, EditAnswers, EditLeaves, HadNoRoom, IsEdited, IsRefused, RecoversAmong, Stopped, after_edit, records_after};
 ghost use Rattle.cc_library.specs.internal.Steps.{IsOldOrNew, IsMidEdit};
 
@@ -243,6 +243,40 @@ impl<D: Disk> Library<D> {
             → (image : List ℕ) → D.may_leave self.new.disk image → RecoversAlone image self.old.units }
     {
         self.write_anew(alloc)
+    }
+
+    /// Whether the record of this command would have room behind compacted records: after a `compact` a change that the map
+    /// accepts is refused by 34 exactly where this is false. It takes no memory and makes no device call; it looks at each unit.
+    pub fn has_room_compacted(&self, command: &Command) -> bool
+        ensures room { IsTrue result ↔ (room_compacted self.now.units command.now ≤ self.now.area) }
+        // So it says of the library that a `compact` leaves whether the record fits there.
+        ensures compacted { (new : View D) → CompactLeaves {T = Unit {0}} self.now new (Ok tt) → IsTrue result ↔ (room_with new command.now ≤ new.area) }
+    {
+        // A record takes five bytes beside its body.
+        let room = self.log.area() - 5;
+        let body = body_length(command);
+        if room <= body {
+            return false;
+        }
+        self.units.fits(room - body)
+    }
+
+    /// Whether 34 would refuse this change now, and would not behind a `compact`. It takes no memory and makes no device call;
+    /// it looks at each unit only where 34 would come.
+    pub fn is_mended_by_compact(&self, command: &Command) -> bool
+        ensures { IsTrue result ↔ IsMended self.now command.now }
+    {
+        if self.units.refusal(command).is_some() {
+            return false;
+        }
+        match self.log.takes(body_length(command)) {
+            Ok(()) => false,
+            Err(fault) => if fault == JournalFault::Full {
+                self.has_room_compacted(command)
+            } else {
+                false
+            },
+        }
     }
 
     /// Whether a call has failed on the device: then every change and `compact` answer 36. It takes no memory.
