@@ -38,8 +38,9 @@ const WORD_RULE: &str = "a word of COMMAND has no space and no newline";
 
 // What a person reads below the options of `serve`.
 const SERVE_HELP: &str = "\
-A script is what `cclib library` reads. `cclib submit FOLDER` leaves one in the folder and prints its answer. What is not there
-of the folder is made: everybody may be a client, or, where FOLDER has the set-group-id bit, the members of its group.
+A script is what `cclib library` reads; it may have the lines `image NAME` and `source NAME` too. `cclib submit FOLDER` leaves
+one in the folder and prints its answer. What is not there of the folder is made: everybody may be a client, or, where FOLDER
+has the set-group-id bit, the members of its group.
 
   touch FOLDER/stop    ends the server when the scripts that were begun are done
 
@@ -59,6 +60,8 @@ Without a COMMAND the script comes on standard input. A COMMAND is one line of a
   run NAME STEPS
   compact
   audit
+  image NAME         its image as Intel HEX
+  source NAME        its source, to the byte
 
 A script that waits is taken back after three seconds in which no server is there, and nothing of it is done. One that a server
 has begun is waited for.
