@@ -1,16 +1,20 @@
 -- From what the book answers to what a client of the service sees.
-use Rattle.std.proofs.Common.{◌≡◌, ℕ, IsTrue, IfOk, List, Result, Ok, Err, sym, ap, subst}
+use Rattle.std.proofs.Common.{◌≡◌, ℕ, Bool, true, false, IsTrue, IfOk, IfErr, List, Result, Ok, Err, refl, sym, ap, subst, ◌∙◌}
+use Rattle.std.specs.Prelude.{if◌then◌else◌}
+use Rattle.std.specs.FinMap.{contains_key, insert, remove}
+use Rattle.cc_library.specs.Apply.{Units, absent, exists}
 use Rattle.cc_library.specs.Name.{is_name}
-use Rattle.cc_history.specs.Calls.{reply_of}
+use Rattle.cc_history.specs.Calls.{reply_of, reply_of_change}
 use Rattle.cc_history.specs.declared.command.Asked.{Asked}
 use Rattle.cc_history.specs.declared.command.Asked.TheVariants.{Change}
 use Rattle.cc_history.specs.declared.command.Command.{Command}
+use Rattle.cc_history.specs.declared.command.Command.TheVariants as commands
 use Rattle.cc_history.specs.declared.entry.Entry.{Entry}
 use Rattle.cc_history.specs.declared.entry.Receipt.{Receipt}
 use Rattle.cc_history.specs.declared.reply.Reply.{Reply}
 use Rattle.cc_history.specs.declared.reply.Reply.TheVariants as reply
 use Rattle.cc_history.specs.History.{Chronicle, Holder, IsAnswered, IsRecorded}
-use Rattle.cc_service.specs.Answers.{LookAnswers}
+use Rattle.cc_service.specs.Answers.{CommitAnswers, LookAnswers}
 use Rattle.cc_service.specs.Book.{BookView, chronicle_of}
 use Rattle.cc_service.specs.Compiling.{IsCompileRefusal, IsProgram}
 use Rattle.cc_service.specs.Serving.{IsEntered, IsTurnedDown, PutAnswers, refusal_of}
@@ -33,6 +37,43 @@ module _ {D : Type 0} where
       → LookAnswers before old asked after new result → IfOk result (λ receipt. IsSeen asked old new receipt)
   seen_where_ok before old asked after new (Ok receipt) look = seen (chronicle_of before) old asked (chronicle_of after) new receipt look.0
   seen_where_ok before old asked after new (Err fault) look = tt
+
+-- ---- what the book answers to a change
+
+not_there : (b : Bool) (made : Units) → reply.Exists ≡ reply_of_change (if b then Ok made else Err absent) → ⊥
+not_there true made is = cc
+not_there false made is = cc
+
+there : (b : Bool) (made : Units) → reply.Absent ≡ reply_of_change (if b then Err exists else Ok made) → ⊥
+there true made is = cc
+there false made is = cc
+
+-- what the map's reply says of the change that it refuses
+exists_is : (units : Units) (command : Command) → reply.Exists ≡ reply_of units (Change command) → refusal_of command ≡ reply.Exists
+exists_is units (commands.Add name unit) is = refl
+exists_is units (commands.Replace name unit) is = absurd (not_there (contains_key units name) (insert units name unit) is)
+exists_is units (commands.Withdraw name) is = absurd (not_there (contains_key units name) (remove units name) is)
+
+absent_is : (units : Units) (command : Command) → reply.Absent ≡ reply_of units (Change command) → refusal_of command ≡ reply.Absent
+absent_is units (commands.Add name unit) is = absurd (there (contains_key units name) (insert units name unit) is)
+absent_is units (commands.Replace name unit) is = refl
+absent_is units (commands.Withdraw name) is = refl
+
+module _ {D : Type 0} (failures : D → ℕ) (before : BookView D) (old : Holder) (command : Command) (after : BookView D) (new : Holder) where
+  pub entered_where_ok : (result : Result Receipt BookFault) → CommitAnswers failures before old command after new result → IfOk result (λ receipt. IsEntered (λ c. c ≡ command) old reply.Done new receipt)
+  entered_where_ok (Ok receipt) answers = record { command = command; asked = refl; answered = answers.0.recorded.answered }
+  entered_where_ok (Err fault) answers = tt
+
+  pub turned_down_where_err : (result : Result Receipt BookFault) → CommitAnswers failures before old command after new result → IfErr result (λ fault. IsTurnedDown (λ c. c ≡ command) old new fault)
+  turned_down_where_err (Ok receipt) answers = tt
+  turned_down_where_err (Err (book.Exists receipt)) refused = record { command = command; asked = (refl, exists_is before.library.units command refused.recorded.replied); answered = refused.recorded.answered }
+  turned_down_where_err (Err (book.Absent receipt)) refused = record { command = command; asked = (refl, absent_is before.library.units command refused.recorded.replied); answered = refused.recorded.answered }
+  turned_down_where_err (Err (book.Estranged number found)) (_, stranger, _, same) =
+      (record { last = stranger.0; is_last = stranger.1; number_is = stranger.2; found_is = λ is. stranger.4 (sym stranger.3 ∙ is) }, same)
+  turned_down_where_err (Err book.Full) (_, _, _, same) = same
+  turned_down_where_err (Err book.DiskFault) (_, _, _, _, same) = same
+  turned_down_where_err (Err book.Closed) (_, _, same) = same
+  turned_down_where_err (Err book.OutOfMemory) (_, _, same) = same
 
 -- ---- what the service answers
 

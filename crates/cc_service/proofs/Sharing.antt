@@ -33,7 +33,7 @@ module _ (N : RattleType) (n : Named.Ghosts N.Denot) (l : Ledger.Ghosts N.Denot)
   pub client_send : IsSend N → IsSend (Client.the_row N n l q)
   client_send s =
       view_send _ _ _ _ _ (recorded_send (clients.the_field N n l q).row _ _ (clients.the_type N n l q).to_one (struct_send (shape (clients.the_type N n l q))
-      (member_send, (pass_send N q s, tt))))
+      (member_send, (pass_send N q s, (search sendable, tt)))))
 
   desk_send : IsSend (Desk.the_row N n l q)
   desk_send =

@@ -1,18 +1,22 @@
 // The value of a service's lock.
-ghost use Rattle.std.specs.Prelude.{◌≡◌, ℕ, List, [], ◌∷◌, ◌++◌, true, false, IsTrue, IfErr, IfOk, MatchResult, Some, slice_get, length};
+ghost use Rattle.std.specs.Prelude.{◌≡◌, ◌⊎◌, ℕ, List, [], ◌∷◌, ◌++◌, true, false, IsTrue, IfErr, IfOk, MatchResult, Some, slice_get, length};
 ghost use Rattle.std.specs.FinMap.{empty};
 ghost use Rattle.cc_disk.specs.Images.{LeavesAlone, LeavesOnly, OnlyReads};
 ghost use Rattle.cc_journal.specs.Format.{HoldsRecords};
 ghost use Rattle.cc_core.specs.Run.{EachUnit, IsRightOr};
-ghost use Rattle.cc_library.specs.Answers.{OpenFaults};
+ghost use Rattle.cc_library.specs.Answers.{IsMended, OpenFaults};
 ghost use Rattle.cc_library.specs.Apply.{Units, after};
 ghost use Rattle.cc_library.specs.Recovered.{Recovers, RecoversAlone, RecoversOneOf, StandFor};
 ghost use Rattle.cc_build.specs.Compiling.{compiling, Keeps, is_right};
 ghost use Rattle.cc_history.specs.Calls.{change_of};
+ghost use Rattle.cc_history.specs.History.{LastStands};
+ghost use Rattle.cc_history.specs.declared.reply.Reply.TheVariants as reply;
 ghost use Rattle.cc_service.specs.Book.{BookView, RecoversTo};
-ghost use Rattle.cc_service.specs.Answers.{CommitAnswers, CompactAnswers, IsBegun, IsLook, LookAnswers};
+ghost use Rattle.cc_service.specs.Answers.{CommitAnswers, CompactAnswers, IsBegun, IsLook, IsRefusedEarly, LookAnswers};
+ghost use Rattle.cc_service.specs.Compacting.{CompactingAnswers};
 ghost use Rattle.cc_service.specs.Disk.{ChangesDisk, CompactsDisk};
 ghost use Rattle.cc_service.specs.Promise.{IsSound};
+ghost use Rattle.cc_service.specs.Serving.{IsEntered, IsTurnedDown};
 ghost use Rattle.cc_service.specs.Since.{HoldsFrom, IsPast};
 ghost use Rattle.cc_service.specs.Tie.{IsTied};
 
@@ -170,6 +174,81 @@ impl<N: Named, D: Disk> Book<N, D> {
         self.recorded.kept();
         self.since = self.since.and(&self.recorded);
         result
+    }
+
+    /// Makes a change as `commit` does; but where 34 would refuse it, and would not behind a `compact`, that comes first. It makes no
+    /// entry in the history, and the map stays.
+    ///
+    /// Refusals as `commit` has them. 34 comes where the record does not fit behind compacted records either, without a call of the
+    /// device; and where `compact` was refused: then nothing of the change was begun, and every crash leaves the map as it was, though
+    /// the library is closed where the device failed, and answers 36 from then on.
+    pub fn commit_compacting(
+        &mut self,
+        alloc: Global,
+        client: &mut Client<N>,
+        command: Command,
+    ) -> Result<Receipt, BookFault>
+        ensures answers { CompactingAnswers D.honest D.failures D.seen D.may_leave self.old.book client.old.holder command self.new.book client.new.holder result }
+        ensures sent { client.new.sent ≡ client.old.sent }
+        // Nothing was done, or the book afterwards is the newest.
+        ensures since { (self.new ≡ self.old) ⊎ ((between : List (BookView D)) × (self.new.since ≡ self.old.since ++ (between ++ self.new.book ∷ []))) }
+
+        // A crash at any moment of the call leaves the map before it or the map after it.
+        ensures moments { IsTrue D.honest → self.old.book.library.closed ≡ false
+            → LeavesOnly D.moment D.left_since self.old.book.library.disk self.new.book.library.disk
+            (RecoversOneOf self.old.book.library.units (after self.old.book.library.units (change_of command))) }
+
+        // From then on, too: at Ok the map after it, alone.
+        ensures images { IsTrue D.honest → (image : List ℕ) → D.may_leave self.new.book.library.disk image → RecoversTo self.new.book.library.units self.new.book.failed image }
+    {
+        self.kept();
+        match self.is_mended_by_compact(client, &command) {
+            Ok(true) => {}
+            Ok(false) => return self.commit(alloc, client, command),
+            Err(fault) => return Err(fault),
+        }
+        match self.compact(alloc) {
+            Ok(()) => self.commit(alloc, client, command),
+            Err(_) => Err(BookFault::Full),
+        }
+    }
+
+    // Makes a change, as its client does: with a compaction where that makes room, or without.
+    #[tactic(auto, using(crate::proofs::Answering::entered_where_ok, crate::proofs::Answering::turned_down_where_err, crate::proofs::Mending::compacting_entered, crate::proofs::Mending::compacting_turned_down))]
+    pub(crate) fn change(
+        &mut self,
+        alloc: Global,
+        client: &mut Client<N>,
+        command: Command,
+    ) -> Result<Receipt, BookFault>
+        ensures ok { IfOk result (λ receipt. IsEntered (λ c. c ≡ command) client.old.holder reply.Done client.new.holder receipt) }
+        ensures err { IfErr result (λ fault. IsTurnedDown (λ c. c ≡ command) client.old.holder client.new.holder fault) }
+        ensures sent { client.new.sent ≡ client.old.sent }
+    {
+        if client.compacts() {
+            self.commit_compacting(alloc, client, command)
+        } else {
+            self.commit(alloc, client, command)
+        }
+    }
+
+    // Whether 34 would refuse a change of this client now, and would not behind a `compact`.
+    fn is_mended_by_compact(&self, client: &Client<N>, command: &Command) -> Result<bool, BookFault>
+        ensures mended { IfOk result (λ mended. IsTrue mended → IsMended self.now.book.library (change_of command.now)) }
+        ensures stands { IfOk result (λ mended. IsTrue mended → LastStands self.now.book.history client.now.holder.receipts) }
+        ensures not { IfOk result (λ mended. mended ≡ false → ¬ IsMended self.now.book.library (change_of command.now)) }
+        ensures refused { IfErr result (λ fault. IsRefusedEarly self.now.book.history client.now.holder fault) }
+        ensures idle { IfErr result (λ _. self.now.book.library.closed ≡ false) }
+    {
+        self.recorded.is_mended_by_compact(&client.member, command)
+    }
+
+    // What its type keeps of what a crash leaves now. It does nothing.
+    fn kept(&self)
+        ensures images { IsTrue D.honest → (image : List ℕ) → D.may_leave self.now.book.library.disk image → RecoversTo self.now.book.library.units self.now.book.failed image }
+        ensures idle { self.now.book.library.closed ≡ false → self.now.book.failed ≡ [] }
+    {
+        self.recorded.kept();
     }
 
     /// Looks at a name or at all names, and puts the call into the history with its answer, which is in the receipt's entry.

@@ -71,6 +71,8 @@ impl<N: Named> Member<N> {
 pub struct Client<N: Named> {
     pub(crate) member: Member<N>,
     pub(crate) pass: Pass<N>,
+    // Whether its changes compact the library where that makes room for them.
+    compacts: bool,
 }
 
 impl<N: Named> Model for Client<N> {
@@ -89,10 +91,36 @@ impl<N: Named> Client<N> {
         ensures holder { result.holder ≡ record { number = number; receipts = [] } }
         ensures sent { result.sent ≡ pass.sent }
     {
+        Client::of(Member::new(alloc, number, share), pass)
+    }
+
+    // The client of a member and a pass, whose changes do not compact.
+    pub(crate) fn of(member: Member<N>, pass: Pass<N>) -> Client<N>
+        ensures { result ≡ record { holder = member; sent = pass.sent } }
+    {
         Client {
-            member: Member::new(alloc, number, share),
+            member,
             pass,
+            compacts: false,
         }
+    }
+
+    /// The same client, whose changes compact the library where 34 would refuse them and would not behind a compaction, as
+    /// `Book::commit_compacting` does.
+    pub fn compacting(self) -> Client<N>
+        ensures { result ≡ self }
+    {
+        let Client { member, pass, .. } = self;
+        Client {
+            member,
+            pass,
+            compacts: true,
+        }
+    }
+
+    // Whether its changes compact.
+    pub(crate) fn compacts(&self) -> bool {
+        self.compacts
     }
 
     // What its type keeps: its receipts are of its own calls, in their order. It does nothing.

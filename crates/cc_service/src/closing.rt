@@ -94,7 +94,7 @@ fn gather<N: Named>(rest: &mut Share<N>, clients: Vec<Client<N>>, left: &mut Lef
         passes,
     } = left;
     for client in clients {
-        let Client { member, pass } = client;
+        let Client { member, pass, .. } = client;
         let Member {
             number: _,
             receipts,

@@ -1,12 +1,13 @@
 // The library with the history of its calls.
-ghost use Rattle.std.specs.Prelude.{◌≡◌, ◌≤◌, ℕ, List, [], false, IsTrue, IfOk, length};
+ghost use Rattle.std.specs.Prelude.{◌≡◌, ◌≤◌, ℕ, List, [], false, IsTrue, IfErr, IfOk, length};
 ghost use Rattle.cc_disk.specs.Images.{LeavesOnly};
+ghost use Rattle.cc_library.specs.Answers.{IsMended};
 ghost use Rattle.cc_library.specs.Apply.{apply, after};
 ghost use Rattle.cc_library.specs.Recovered.{RecoversAlone, RecoversOneOf};
 ghost use Rattle.cc_history.specs.Calls.{change_of, reply_of, reply_of_change};
-ghost use Rattle.cc_history.specs.History.{HaveAgreed, Replays};
+ghost use Rattle.cc_history.specs.History.{HaveAgreed, LastStands, Replays};
 ghost use Rattle.cc_service.specs.Book.{AllAgreed, RecoversTo, chronicle_of};
-ghost use Rattle.cc_service.specs.Answers.{CommitAnswers, CompactAnswers, IsLook, LookAnswers};
+ghost use Rattle.cc_service.specs.Answers.{CommitAnswers, CompactAnswers, IsLook, IsRefusedEarly, LookAnswers};
 ghost use Rattle.cc_service.specs.Disk.{ChangesDisk, CompactsDisk};
 ghost use Rattle.cc_service.specs.internal.Decide.{answer_reply};
 
@@ -173,6 +174,36 @@ impl<N: Named, D: Disk> RecordedLibrary<N, D> {
                     Err(_) => Err(BookFault::OutOfMemory),
                 }
             }
+        }
+    }
+
+    /// Whether 34 would refuse the change now, and would not behind a compaction.
+    ///
+    /// 39 where the client's last receipt does not stand; 40 where memory ran out.
+    pub(crate) fn is_mended_by_compact(
+        &self,
+        client: &Member<N>,
+        command: &Command,
+    ) -> Result<bool, BookFault>
+        ensures mended { IfOk result (λ mended. IsTrue mended → IsMended self.now.library (change_of command.now)) }
+        ensures stands { IfOk result (λ mended. IsTrue mended → LastStands self.now.history client.now.receipts) }
+        ensures not { IfOk result (λ mended. mended ≡ false → ¬ IsMended self.now.library (change_of command.now)) }
+        ensures refused { IfErr result (λ fault. IsRefusedEarly self.now.history client.now fault) }
+        ensures idle { IfErr result (λ _. self.now.library.closed ≡ false) }
+    {
+        if self.library.is_closed() {
+            return Ok(false);
+        }
+        let Ok(change) = command.change() else {
+            return Err(BookFault::OutOfMemory);
+        };
+        // The library is asked first: receipts are compared by their units.
+        if !self.library.is_mended_by_compact(&change) {
+            return Ok(false);
+        }
+        match last_stands(self.history.as_slice(), client.receipts.as_slice()) {
+            Ok(()) => Ok(true),
+            Err(fault) => Err(BookFault::from(fault)),
         }
     }
 

@@ -110,7 +110,7 @@ impl<N: Named + Send + Sync + 'static, D: Disk> Service<N, D> {
         match seat {
             Some(member) => {
                 let pass = self.pool.pass(rt);
-                Ok(Client { member, pass })
+                Ok(Client::of(member, pass))
             }
             None => Err(ServiceFault::TooManyClients),
         }
@@ -195,7 +195,7 @@ impl<N: Named + Send + Sync + 'static, D: Disk> Service<N, D> {
         ensures answers { MakesAnswers command client.old.holder client.new.holder result }
         ensures sent { client.new.sent ≡ client.old.sent }
     {
-        let answer = self.book.lock(rt).commit(alloc, client, command);
+        let answer = self.book.lock(rt).change(alloc, client, command);
         match answer {
             Ok(receipt) => Ok(receipt),
             Err(fault) => Err(ServiceFault::Book(fault)),
