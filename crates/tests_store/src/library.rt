@@ -3,7 +3,7 @@
 //! `helpers` makes units, names and disks, `parts` tests names and the bytes of commands, `certificates` both versions of
 //! bodies on a disk, `rows` has the worked rows,
 //! `sweep` fails the device at each call in turn, `hostile` opens disks that nobody formatted so, `random` disks with random
-//! records and bytes, `memory` refuses growths.
+//! records and bytes, `memory` refuses growths, `room` has what a `compact` makes room for.
 
 #[cfg(test)]
 mod certificates;
@@ -17,6 +17,8 @@ mod memory;
 mod parts;
 #[cfg(test)]
 mod random;
+#[cfg(test)]
+mod room;
 #[cfg(test)]
 mod rows;
 #[cfg(test)]

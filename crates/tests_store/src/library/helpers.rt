@@ -83,8 +83,8 @@ pub fn edits(alloc: Global, steps: &[Step]) -> Result<Vec<Edit>, Fail> {
     Ok(edits)
 }
 
-// The number of an answer, 0 for Ok.
-fn number(answer: Result<(), LibraryFault>) -> u32 {
+/// The number of an answer, 0 for Ok.
+pub fn number(answer: Result<(), LibraryFault>) -> u32 {
     match answer {
         Ok(()) => 0,
         Err(fault) => fault.number(),
