@@ -82,7 +82,7 @@ where
     ensures refused { IfErr result (λ fault. fault ≡ TooManyClients) }
 {
     for _ in 0..count {
-        clients.push_reserved(service.client(rt, alloc)?);
+        clients.push_reserved(service.client(rt, alloc)?.compacting());
     }
     Ok(())
 }
