@@ -10,6 +10,7 @@ use Rattle.cc_spool.specs.contracts.folder.FolderSpool as FolderSpool
 use Rattle.cc_spool.specs.contracts.claims.Ending as Ending
 use Rattle.cc_spool.specs.contracts.folder.Queue as Queue
 use Rattle.cc_spool.specs.contracts.folder.Unanswered as Unanswered
+use Rattle.cc_spool.specs.contracts.found.Found as Found
 use Rattle.cc_spool.specs.contracts.layout.Layout as Layout
 use Rattle.cc_spool.specs.contracts.memory.Answered as Answered
 use Rattle.cc_spool.specs.contracts.memory.MemorySpool as MemorySpool
@@ -25,8 +26,11 @@ spool_send R W s t =
     recorded_send _ _ _ (MemorySpool.the_type R W).to_one (struct_send (shape (MemorySpool.the_type R W))
     (search (sendable, crosses) depth 20, (let a = answered_send W t in search (sendable, crosses) depth 20, (history_send R s, (history_send (Option.the_row u32) end_send, tt)))))
 
-layout_send : (R : RattleType) → IsSend R → IsSend (Layout.the_row R)
-layout_send R s = search (sendable, crosses) depth 20
+found_send : IsSend Found.the_row
+found_send = search (sendable, crosses) depth 20
+
+layout_send : IsSend Layout.the_field.row
+layout_send = let f = found_send in search (sendable, crosses) depth 40 fits 40000
 
 ending_send : IsSend Ending.the_row
 ending_send = search (sendable, crosses) depth 20
@@ -34,10 +38,10 @@ ending_send = search (sendable, crosses) depth 20
 unanswered_send : IsSend Unanswered.the_row
 unanswered_send = let e = ending_send in search (sendable, crosses) depth 20
 
-queue_send : (R : RattleType) → IsSend R → IsSend (Queue.the_field R).row
-queue_send R s =
-    struct_send (shape (Queue.the_type R)) (
-      let l = layout_send R s in search (sendable, crosses) depth 20,
+queue_send : IsSend Queue.the_field.row
+queue_send =
+    struct_send (shape Queue.the_type) (
+      let l = layout_send in search (sendable, crosses) depth 20,
       (
         search (sendable, crosses) depth 20,
         (
@@ -50,7 +54,10 @@ queue_send R s =
                 search (sendable, crosses) depth 20,
                 (
                   search (sendable, crosses) depth 20,
-                  (search (sendable, crosses) depth 20, (let u = unanswered_send in search (sendable, crosses) depth 20, tt)),
+                  (
+                    search (sendable, crosses) depth 20,
+                    (let u = unanswered_send in search (sendable, crosses) depth 20, (search (sendable, crosses) depth 20, tt)),
+                  ),
                 ),
               ),
             ),
@@ -59,7 +66,7 @@ queue_send R s =
       ),
     )
 
-pub folder_send : (R : RattleType) → IsSend R → IsSend (FolderSpool.the_row R)
-folder_send R s =
-    recorded_send _ _ _ (FolderSpool.the_type R).to_one (struct_send (shape (FolderSpool.the_type R))
-    (queue_send R s, (search (sendable, crosses) depth 20, (history_send (Option.the_row u32) end_send, tt))))
+pub folder_send : IsSend FolderSpool.the_row
+folder_send =
+    recorded_send _ _ _ FolderSpool.the_type.to_one (struct_send (shape FolderSpool.the_type)
+    (queue_send, (search (sendable, crosses) depth 20, (history_send (Option.the_row u32) end_send, tt))))

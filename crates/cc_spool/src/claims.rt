@@ -16,11 +16,11 @@
 // would find the answer to another script.
 
 use crate::answer::AnswerFile;
+use crate::calls::{set_length, settle, write_at};
 use crate::layout::Layout;
-use std::fs::{self, File, OpenOptions};
-use std::io;
-use std::os::unix::fs::FileExt;
-use std::rt::{Clock, Files};
+use crate::place::Place;
+use crate::refusal::Refusal;
+use std::fs::File;
 
 /// The lines of faults that the spool itself tells.
 pub(crate) const INTERRUPTED: &[u8] = b"fault 55 Interrupted\n";
@@ -28,6 +28,17 @@ pub(crate) const INTERRUPTED: &[u8] = b"fault 55 Interrupted\n";
 pub(crate) const UNWRITTEN: &[u8] = b"fault 54 WriteFault\n";
 
 const UNREAD: &[u8] = b"fault 53 ReadFault\n";
+
+/// A fault that the spool itself tells, in a line alone.
+#[derive(Clone, Copy, Drop)]
+pub(crate) enum Told {
+    /// 53: the script can't be read.
+    Unread,
+    /// 54: its answer can't be written to its end.
+    Unwritten,
+    /// 55: its claim can't be settled.
+    Interrupted,
+}
 
 /// A script that was claimed.
 #[derive(Drop)]
@@ -42,7 +53,7 @@ pub(crate) enum Ending {
     /// As it was written.
     Whole,
     /// As the line of a fault alone.
-    Line(&'static [u8]),
+    Line(Told),
     /// As a start finds it: whether its script was claimed is not known, or an earlier server had begun it.
     Left,
 }
@@ -56,80 +67,85 @@ pub(crate) enum ClaimResult {
     Answered,
     /// Its answer could not be handed over.
     Kept(Ending),
+    /// Another has it, it is gone or no regular file, or it can't be answered.
+    Left,
+}
+
+impl Told {
+    fn line(self) -> &'static [u8] {
+        match self {
+            Told::Unread => UNREAD,
+            Told::Unwritten => UNWRITTEN,
+            Told::Interrupted => INTERRUPTED,
+        }
+    }
 }
 
 // Whether an earlier script of that name is at an end: nothing of it is left in `cur`, and no answer of the server's in `done`.
-fn is_unused<R: Files<File = File> + Clock + Copy + Drop>(
-    layout: &Layout<R>,
-    name: &str,
-    claimed: &str,
-) -> io::Result<bool> {
-    if !layout.is_free(claimed) {
-        return Ok(false);
+fn is_unused(layout: &Layout, name: &str) -> bool {
+    if !layout.is_free(Place::Claimed, name) {
+        return false;
     }
-    let done = layout.file("done", name)?;
-    match layout.look(done.as_str())? {
-        Some(found) => Ok(!layout.is_servers(&found)?),
-        None => Ok(true),
+    match layout.look(Place::Done, name) {
+        Ok(Some(found)) => !layout.is_servers(&found).unwrap_or(true),
+        Ok(None) => true,
+        Err(_) => false,
     }
 }
 
-// Moves a script from `new` to `cur`, where nothing has its name; whether it is known that it was moved. An `Err` where it was not.
-fn move_claimed<R: Files<File = File> + Clock + Copy + Drop>(
-    layout: &Layout<R>,
-    name: &str,
-    claimed: &str,
-) -> io::Result<bool> {
-    let waiting = layout.file("new", name)?;
-    if !is_unused(layout, name, claimed)? {
-        return Err(io::Error::from(io::ErrorKind::AlreadyExists));
+// What came of the try to move a script from `new` to `cur`.
+#[derive(Clone, Copy, Drop)]
+enum Move {
+    Made,
+    NotMade,
+    // Whether it was made is not known.
+    Open,
+}
+
+// Moves a script from `new` to `cur`, where nothing has its name.
+fn move_claimed(layout: &Layout, name: &str) -> Move {
+    if !is_unused(layout, name) {
+        return Move::NotMade;
     }
-    let Err(error) = fs::rename(&layout.rt, waiting.as_str(), claimed) else {
-        return Ok(true);
-    };
+    if layout.rename(name, Place::Waiting, Place::Claimed).is_ok() {
+        return Move::Made;
+    }
     // Over a network a call may be done and its answer be lost.
-    match layout.look(claimed) {
-        Ok(Some(_)) => Ok(true),
-        Ok(None) => Err(error),
-        Err(_) => Ok(false),
+    match layout.look(Place::Claimed, name) {
+        Ok(Some(_)) => Move::Made,
+        Ok(None) => Move::NotMade,
+        Err(_) => Move::Open,
     }
 }
 
 // Settles a claim, and opens its script, where it is a regular file: nobody else writes to `cur`, so it stays what it is.
-fn open_claimed<R: Files<File = File> + Clock + Copy + Drop>(
-    layout: &Layout<R>,
-    claimed: &str,
-) -> Result<File, &'static [u8]> {
+fn open_claimed(layout: &Layout, name: &str) -> Result<File, Told> {
     if layout.sync_claims().is_err() && layout.sync_claims().is_err() {
-        return Err(INTERRUPTED);
+        return Err(Told::Interrupted);
     }
-    if !layout.is_file(claimed) {
-        return Err(UNREAD);
+    if !layout.is_file(Place::Claimed, name) {
+        return Err(Told::Unread);
     }
-    match File::open(&layout.rt, claimed) {
+    match layout.open(Place::Claimed, name) {
         Ok(script) => Ok(script),
-        Err(_) => Err(UNREAD),
+        Err(_) => Err(Told::Unread),
     }
 }
 
 // Writes the line of a fault over what an answer had: its room serves for that, and a kill leaves an answer that begins with that line.
-fn write_line(file: &File, line: &[u8]) -> io::Result<()> {
-    file.write_all_at(line, 0)?;
-    file.set_len(line.len() as u64)?;
-    file.sync_all()
+fn write_line(file: &File, told: Told) -> Result<(), Refusal> {
+    let line = told.line();
+    write_at(file, line, 0)?;
+    set_length(file, line.len() as u64)?;
+    settle(file)
 }
 
 // Answers a script by the line of a fault alone. The answer's file is open, since no other one may be to be had.
-fn refuse<R: Files<File = File> + Clock + Copy + Drop>(
-    layout: &Layout<R>,
-    name: &str,
-    file: File,
-    line: &'static [u8],
-) -> ClaimResult {
-    let written = write_line(&file, line);
+fn refuse(layout: &Layout, name: &str, file: File, told: Told) -> ClaimResult {
+    let written = write_line(&file, told);
     drop(file);
     if written.is_err() {
-        ClaimResult::Kept(Ending::Line(line))
+        ClaimResult::Kept(Ending::Line(told))
     } else if hand_over(layout, name).is_err() {
         ClaimResult::Kept(Ending::Whole)
     } else {
@@ -138,82 +154,63 @@ fn refuse<R: Files<File = File> + Clock + Copy + Drop>(
 }
 
 // Begins a script that was claimed: from here on it is answered whatever comes.
-fn begin<R: Files<File = File> + Clock + Copy + Drop>(
-    layout: &Layout<R>,
-    name: &str,
-    claimed: &str,
-    file: File,
-) -> ClaimResult {
-    match open_claimed(layout, claimed) {
-        Ok(script) => match AnswerFile::new(layout.alloc, file) {
-            Ok(answer) => ClaimResult::Begun(Claimed { script, answer }),
-            Err(_) => {
-                drop(script);
-                ClaimResult::Kept(Ending::Line(INTERRUPTED))
-            }
-        },
-        Err(line) => refuse(layout, name, file, line),
-    }
-}
-
-// Claims the script of that name: an `Err` where another has it, where it is gone or no regular file, or where it can't be answered.
-fn try_claim<R: Files<File = File> + Clock + Copy + Drop>(
-    layout: &Layout<R>,
-    name: &str,
-) -> io::Result<ClaimResult> {
-    let waiting = layout.file("new", name)?;
-    if !layout.is_file(waiting.as_str()) {
-        return Err(io::Error::from(io::ErrorKind::NotFound));
-    }
-    let claimed = layout.file("cur", name)?;
-    let path = layout.answer(name)?;
-    // Only one can make it.
-    let file = layout.make_file(path.as_str())?;
-    match move_claimed(layout, name, claimed.as_str()) {
-        Ok(true) => Ok(begin(layout, name, claimed.as_str(), file)),
-        Ok(false) => {
-            drop(file);
-            Ok(ClaimResult::Kept(Ending::Left))
-        }
-        Err(error) => {
-            drop(file);
-            let _ = fs::remove_file(&layout.rt, path.as_str());
-            Err(error)
+fn begin(layout: &Layout, name: &str, file: File) -> ClaimResult {
+    let script = match open_claimed(layout, name) {
+        Ok(script) => script,
+        Err(told) => return refuse(layout, name, file, told),
+    };
+    match AnswerFile::new(layout.alloc, file) {
+        Ok(answer) => ClaimResult::Begun(Claimed { script, answer }),
+        Err(_) => {
+            drop(script);
+            ClaimResult::Kept(Ending::Line(Told::Interrupted))
         }
     }
 }
 
 /// Claims the script of that name, where that can be done.
-pub(crate) fn claim<R: Files<File = File> + Clock + Copy + Drop>(
-    layout: &Layout<R>,
-    name: &str,
-) -> Option<ClaimResult> {
-    try_claim(layout, name).ok()
+pub(crate) fn claim(layout: &Layout, name: &str) -> ClaimResult {
+    if !layout.is_file(Place::Waiting, name) {
+        return ClaimResult::Left;
+    }
+    // Only one can make it.
+    let Ok(file) = layout.make(Place::Answer, name) else {
+        return ClaimResult::Left;
+    };
+    match move_claimed(layout, name) {
+        Move::Made => begin(layout, name, file),
+        Move::NotMade => {
+            drop(file);
+            let _ = layout.remove(Place::Answer, name);
+            ClaimResult::Left
+        }
+        Move::Open => {
+            drop(file);
+            ClaimResult::Kept(Ending::Left)
+        }
+    }
+}
+
+// Whether an answer that could not be moved is gone from `cur` all the same: over a network a call may be done and its answer be lost, and
+// nobody else takes files out of `cur`.
+fn is_gone(layout: &Layout, name: &str) -> bool {
+    layout.is_free(Place::Answer, name) && layout.must_be_held().is_ok()
 }
 
 /// Moves an answer that is whole to `done`, and takes the claim away behind it.
-pub(crate) fn hand_over<R: Files<File = File> + Clock + Copy + Drop>(
-    layout: &Layout<R>,
-    name: &str,
-) -> io::Result<()> {
-    let claimed = layout.file("cur", name)?;
-    let answer = layout.answer(name)?;
-    let done = layout.file("done", name)?;
-    fs::rename(&layout.rt, answer.as_str(), done.as_str())?;
+pub(crate) fn hand_over(layout: &Layout, name: &str) -> Result<(), Refusal> {
+    if let Err(refusal) = layout.rename(name, Place::Answer, Place::Done)
+        && !is_gone(layout, name)
+    {
+        return Err(refusal);
+    }
     // A claim without an answer is taken away at the next start.
-    let _ = fs::remove_file(&layout.rt, claimed.as_str());
+    let _ = layout.remove(Place::Claimed, name);
     Ok(())
 }
 
 /// Makes an answer the line of a fault alone, which takes the place of what it had.
-pub(crate) fn write_fault<R: Files<File = File> + Clock + Copy + Drop>(
-    layout: &Layout<R>,
-    name: &str,
-    line: &[u8],
-) -> io::Result<()> {
-    let path = layout.answer(name)?;
-    let file = OpenOptions::new()
-        .write(true)
-        .open(&layout.rt, path.as_str())?;
-    write_line(&file, line)
+pub(crate) fn write_fault(layout: &Layout, name: &str, told: Told) -> Result<(), Refusal> {
+    let file = layout.open_to_write(Place::Answer, name)?;
+    write_line(&file, told)
 }

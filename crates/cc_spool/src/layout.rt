@@ -10,11 +10,15 @@
 // Clients write to `tmp` and `new`, so what stands there may be anything: it is looked at without following a link before it is opened, or
 // not opened at all.
 
-use crate::names::ANSWER;
+use crate::calls::{is_locked, settle, take_lock};
+use crate::found::Found;
+use crate::place::Place;
+use crate::refusal::Refusal;
 use std::alloc::{AllocError, Global};
-use std::fs::{self, File, Metadata, OpenOptions, Permissions, TryLockError};
-use std::os::unix::fs::{MetadataExt, OpenOptionsExt, PermissionsExt};
-use std::rt::{Clock, Files};
+use std::fs::{File, Permissions};
+use std::os::unix::fs::PermissionsExt;
+use std::sync::Arc;
+use std::sync::atomic::{AtomicBool, Ordering};
 use std::time::Duration;
 use std::{io, thread};
 
@@ -30,14 +34,16 @@ const LOCK_PAUSE: u64 = 10;
 
 /// A spool's folder.
 #[derive(Drop)]
-pub struct Layout<R: Drop> {
-    pub(crate) rt: R,
+pub struct Layout {
+    pub(crate) rt: HostRuntime,
     pub(crate) alloc: Global,
     pub(crate) path: String,
     // The rights of files that are made in it.
-    pub(crate) file_mode: u32,
-    // The device and the number of the file `lock`, where this server holds it.
-    held: Option<(u64, u64)>,
+    pub(crate) file_rights: u32,
+    // The file `lock`, where this server holds it.
+    held: Option<Found>,
+    // Whether it could not be used for a while: known to all that have the folder of one server.
+    is_lost: Arc<AtomicBool>,
 }
 
 /// The lock of a folder, held as long as it lives.
@@ -46,55 +52,59 @@ pub struct Held {
     file: File,
 }
 
-/// Whether two looks found one file.
-pub(crate) fn is_same(one: &Metadata, other: &Metadata) -> bool {
-    one.dev() == other.dev() && one.ino() == other.ino()
-}
-
-impl<R: Files<File = File> + Clock + Copy + Drop> Layout<R> {
+impl Layout {
     /// The folder at this path, whether or not it is there. Where others may not write to its `new`, it is a group's.
-    pub fn new(rt: R, alloc: Global, path: &str) -> Result<Layout<R>, AllocError> {
+    pub fn new(rt: HostRuntime, alloc: Global, path: &str) -> Result<Layout, AllocError> {
         let mut layout = Layout {
             rt,
             alloc,
             path: String::from_str(alloc, path)?,
-            file_mode: OPEN_FILE,
+            file_rights: OPEN_FILE,
             held: None,
+            is_lost: Arc::new(alloc, AtomicBool::new(false))?,
         };
-        let new = layout.part("new")?;
-        if let Ok(Some(found)) = layout.look(new.as_str())
-            && found.mode() & 0o002 == 0
-        {
-            layout.file_mode = GROUP_FILE;
-        }
+        layout.look_for_rights();
         Ok(layout)
     }
 
     /// The same folder, looked at anew.
-    pub fn again(&self) -> Result<Layout<R>, AllocError> {
-        let mut layout = Layout::new(self.rt, self.alloc, self.path.as_str())?;
-        layout.held = self.held;
+    pub fn again(&self) -> Result<Layout, AllocError> {
+        let mut layout = Layout {
+            rt: self.rt,
+            alloc: self.alloc,
+            path: String::from_str(self.alloc, self.path.as_str())?,
+            file_rights: OPEN_FILE,
+            held: self.held,
+            is_lost: Arc::try_clone(&self.is_lost)?,
+        };
+        layout.look_for_rights();
         Ok(layout)
     }
 
+    /// Looks which rights files have that are made in it: where others may not write to `new`, it is a group's.
+    pub(crate) fn look_for_rights(&mut self) {
+        self.file_rights = match self.look_at("new") {
+            Ok(Some(found)) if found.rights() & 0o002 == 0 => GROUP_FILE,
+            _ => OPEN_FILE,
+        };
+    }
+
+    /// Whether it is a group's.
+    pub(crate) fn is_group(&self) -> bool {
+        self.file_rights == GROUP_FILE
+    }
+
     /// Takes the folder for this server, until what is returned is let go. None where another one has had it for a second.
-    pub(crate) fn lock(&self) -> io::Result<Option<Held>> {
-        let path = self.part("lock")?;
-        if let Some(found) = self.look(path.as_str())?
+    pub(crate) fn lock(&self) -> Result<Option<Held>, Refusal> {
+        if let Some(found) = self.look_at("lock")?
             && !found.is_file()
         {
-            return Err(io::Error::new(io::ErrorKind::InvalidInput, "`lock` is no regular file"));
+            return Err(Refusal::NoLock);
         }
-        let file = OpenOptions::new()
-            .read(true)
-            .write(true)
-            .create(true)
-            .open(&self.rt, path.as_str())?;
+        let file = self.open_lock()?;
         for _ in 0..LOCK_TRIES {
-            match file.try_lock() {
-                Ok(()) => return Ok(Some(Held { file })),
-                Err(TryLockError::WouldBlock) => {}
-                Err(TryLockError::Error(error)) => return Err(error),
+            if take_lock(&file)? {
+                return Ok(Some(Held { file }));
             }
             thread::sleep(&self.rt, Duration::from_millis(LOCK_PAUSE));
         }
@@ -102,103 +112,88 @@ impl<R: Files<File = File> + Clock + Copy + Drop> Layout<R> {
     }
 
     /// Remembers which file the held lock is.
-    pub(crate) fn hold(&mut self, held: &Held) -> io::Result<()> {
-        let found = held.file.metadata()?;
-        self.held = Some((found.dev(), found.ino()));
+    pub(crate) fn hold(&mut self, held: &Held) -> Result<(), Refusal> {
+        self.held = Some(Found::of_file(&held.file)?);
         Ok(())
     }
 
     /// An `Err` where the folder is another one than that whose lock is held, or can't be looked at.
-    pub(crate) fn must_be_held(&self) -> io::Result<()> {
-        let Some((device, number)) = self.held else {
+    pub(crate) fn must_be_held(&self) -> Result<(), Refusal> {
+        let Some(held) = self.held else {
             return Ok(());
         };
-        let path = self.part("lock")?;
-        match self.look(path.as_str())? {
-            Some(found) if found.dev() == device && found.ino() == number => Ok(()),
-            _ => Err(io::Error::new(
-                io::ErrorKind::NotFound,
-                "`lock` is not the file that the server holds",
-            )),
+        match self.look_at("lock")? {
+            Some(found) if found.is_same(&held) => Ok(()),
+            _ => Err(Refusal::NotHeld),
         }
     }
 
     /// Whether a server holds the folder. A shared lock tells, which is let go at once.
-    pub(crate) fn is_held(&self) -> io::Result<bool> {
-        let path = self.part("lock")?;
-        if !self.is_file(path.as_str()) {
-            return Ok(false);
+    pub(crate) fn is_held(&self) -> Result<bool, Refusal> {
+        match self.look_at("lock") {
+            Ok(Some(found)) if found.is_file() => {
+                let file = self.open_part("lock")?;
+                is_locked(&file)
+            }
+            _ => Ok(false),
         }
-        let file = File::open(&self.rt, path.as_str())?;
-        match file.try_lock_shared() {
-            Ok(()) => Ok(false),
-            Err(TryLockError::WouldBlock) => Ok(true),
-            Err(TryLockError::Error(error)) => Err(error),
-        }
+    }
+
+    /// Whether the folder could not be used for a while.
+    pub(crate) fn is_lost(&self) -> bool {
+        self.is_lost.load(Ordering::SeqCst)
+    }
+
+    /// Tells all that have this folder that it could not be used for a while.
+    pub(crate) fn give_up(&self) {
+        self.is_lost.store(true, Ordering::SeqCst);
     }
 
     /// Whether the server is asked to end.
     pub fn is_stopped(&self) -> bool {
-        match self.part("stop") {
-            Ok(path) => match self.look(path.as_str()) {
-                Ok(found) => found.is_some(),
-                Err(_) => false,
-            },
+        match self.look_at("stop") {
+            Ok(found) => found.is_some(),
             Err(_) => false,
         }
     }
 
     /// Takes back that the server is asked to end. An `Err` where `stop` can't be removed, or the folder is no longer the one that is held.
     pub fn unstop(&self) -> io::Result<()> {
+        Ok(self.take_stop_back()?)
+    }
+
+    pub(crate) fn take_stop_back(&self) -> Result<(), Refusal> {
         self.must_be_held()?;
-        let path = self.part("stop")?;
-        match fs::remove_file(&self.rt, path.as_str()) {
-            Err(error) if error.kind() != io::ErrorKind::NotFound => Err(error),
+        match self.remove_part("stop") {
+            Err(refusal) if !refusal.is_absent() => Err(refusal),
             _ => Ok(()),
         }
     }
 
     /// Settles what was claimed, and which answers are being written.
-    pub(crate) fn sync_claims(&self) -> io::Result<()> {
-        let path = self.part("cur")?;
-        File::open(&self.rt, path.as_str())?.sync_all()
+    pub(crate) fn sync_claims(&self) -> Result<(), Refusal> {
+        let cur = self.open_part("cur")?;
+        settle(&cur)
     }
 
-    /// A new file for writing at this path, with the rights of the folder's files.
-    pub(crate) fn make_file(&self, path: &str) -> io::Result<File> {
-        let file = OpenOptions::new()
-            .write(true)
-            .create_new(true)
-            .mode(0o600)
-            .open(&self.rt, path)?;
-        match file.set_permissions(Permissions::from_mode(self.file_mode)) {
-            Ok(()) => Ok(file),
-            Err(error) => {
-                drop(file);
-                let _ = fs::remove_file(&self.rt, path);
-                Err(error)
-            }
-        }
-    }
-
-    /// Gives a new file, which has one name, another one, where nothing has that, and takes the old one away.
-    pub(crate) fn move_new(&self, from: &str, to: &str) -> io::Result<()> {
-        if let Err(error) = fs::hard_link(&self.rt, from, to)
-            && !self.is_linked(from, to)
+    /// Gives a new file, which has one place, another one, where nothing is there, and takes it away from the old one.
+    pub(crate) fn move_new(&self, name: &str, from: Place, to: Place) -> Result<(), Refusal> {
+        if let Err(refusal) = self.link(name, from, to)
+            && !self.is_linked(name, from, to)
         {
-            return Err(error);
+            return Err(refusal);
         }
         // Where the old name stays, the file has two: the new one counts.
-        let _ = fs::remove_file(&self.rt, from);
+        let _ = self.remove(from, name);
         Ok(())
     }
 
-    // Whether a file has another name too though the call was refused that gave it: over a network a call may be done and its answer be lost.
+    // Whether a file has another place too though the call was refused that gave it: over a network a call may be done and its answer be lost.
     // Where that name is gone by then, the file has its second one in `cur`: a server has claimed it.
-    fn is_linked(&self, from: &str, to: &str) -> bool {
-        match (self.look(from), self.look(to)) {
-            (Ok(Some(here)), Ok(Some(there))) => is_same(&here, &there),
-            (Ok(Some(here)), Ok(None)) => here.nlink() == 2,
+    fn is_linked(&self, name: &str, from: Place, to: Place) -> bool {
+        match (self.look(from, name), self.look(to, name)) {
+            (Ok(Some(here)), Ok(Some(there))) => here.is_alike(&there),
+            (Ok(Some(here)), Ok(None)) => here.links == 2,
             _ => false,
         }
     }
@@ -209,65 +204,30 @@ impl<R: Files<File = File> + Clock + Copy + Drop> Layout<R> {
         format!(in self.alloc; "{path}/{part}")
     }
 
-    /// The path of a file in a part.
-    pub(crate) fn file(&self, part: &str, name: &str) -> Result<String, AllocError> {
-        let path = self.path.as_str();
-        format!(in self.alloc; "{path}/{part}/{name}")
+    /// The path of a script's file.
+    pub(crate) fn path_of(&self, place: Place, name: &str) -> Result<String, AllocError> {
+        let (path, part, ending) = (self.path.as_str(), place.part(), place.ending());
+        format!(in self.alloc; "{path}/{part}/{name}{ending}")
     }
 
-    /// The path of an answer that is being written.
-    pub(crate) fn answer(&self, name: &str) -> Result<String, AllocError> {
-        let path = self.path.as_str();
-        format!(in self.alloc; "{path}/cur/{name}{ANSWER}")
-    }
-
-    /// What is at a path, if something is; a link is not followed. An `Err` where that is not known.
-    pub(crate) fn look(&self, path: &str) -> io::Result<Option<Metadata>> {
-        match fs::symlink_metadata(&self.rt, path) {
-            Ok(found) => Ok(Some(found)),
-            Err(error) if error.kind() == io::ErrorKind::NotFound => Ok(None),
-            Err(error) => Err(error),
-        }
-    }
-
-    /// Whether it is known that a regular file is at a path, and no link to one.
-    pub(crate) fn is_file(&self, path: &str) -> bool {
-        match self.look(path) {
-            Ok(Some(found)) => found.is_file(),
-            _ => false,
-        }
-    }
-
-    /// Whether it is known that nothing is at a path.
-    pub(crate) fn is_free(&self, path: &str) -> bool {
-        match self.look(path) {
-            Ok(found) => found.is_none(),
-            Err(_) => false,
-        }
-    }
-
-    /// An `Err` where the folder is gone, or can't be looked at.
-    pub(crate) fn must_be_there(&self) -> io::Result<()> {
-        let cur = self.part("cur")?;
-        match self.look(cur.as_str())? {
-            Some(_) => Ok(()),
-            None => Err(io::Error::new(io::ErrorKind::NotFound, "the folder has no `cur`")),
+    /// The user who has `cur`: the server's. An `Err` where the folder is gone, or can't be looked at.
+    pub(crate) fn server(&self) -> Result<u32, Refusal> {
+        match self.look_at("cur")? {
+            Some(found) => Ok(found.user),
+            None => Err(Refusal::NoFolder),
         }
     }
 
     /// Whether what was found is a regular file of the user who has `cur`: then the server made it.
-    pub(crate) fn is_servers(&self, found: &Metadata) -> io::Result<bool> {
-        let cur = self.part("cur")?;
-        match self.look(cur.as_str())? {
-            Some(server) => Ok(found.is_file() && found.uid() == server.uid()),
-            None => Err(io::Error::new(io::ErrorKind::NotFound, "the folder has no `cur`")),
-        }
+    pub(crate) fn is_servers(&self, found: &Found) -> Result<bool, Refusal> {
+        let server = self.server()?;
+        Ok(found.is_file() && found.user == server)
     }
 }
 
 impl Held {
     /// Gives `lock` the rights of the folder's files. Where it is another user's it keeps its own.
-    pub(crate) fn open_to_clients(&self, mode: u32) {
-        let _ = self.file.set_permissions(Permissions::from_mode(mode));
+    pub(crate) fn open_to_clients(&self, rights: u32) {
+        let _ = self.file.set_permissions(Permissions::from_mode(rights));
     }
 }

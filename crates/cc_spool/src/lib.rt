@@ -1,10 +1,11 @@
 //! Spools: where the scripts of one client come from, and where their answers go.
 //!
 //! `spool` is what serving needs of a spool, `memory` a spool in memory, `folder` one in a folder in which clients of other processes leave
-//! scripts and find their answers. Of that, `layout` has the parts, `rights` how they are made, `names` which files are taken, `claims` how
-//! a script is claimed and answered, `answer` the file that its answer is written to, `recovery` what a server that was killed left,
-//! `submission` how a client leaves a script and waits for its answer, `lines` which fault that tells, `framing` how a source stands in it,
-//! `fault` why one of these is refused.
+//! scripts and find their answers. Of that, `layout` has the parts, `place` where the files of a script stand in them, `calls` the system's
+//! calls on these, `found` and `entries` what such a call tells, `refusal` why one is refused. `rights` makes the parts, `names` says which
+//! files are taken, `claims` has how a script is claimed and answered, `answer` the file that its answer is written to, `recovery` what a
+//! server that was killed left, `submission` how a client leaves a script and waits for its answer, `lines` which fault that tells,
+//! `framing` how a source stands in it, `fault` why one of these is refused.
 //!
 //! It knows nothing of libraries; of `cc_disk` it has the history that contracts alone read. It needs no handle but files and the clock.
 //! Hands out `Spool`, `MemorySpool` and `Answered`; `FolderSpool`, `Layout`, `SpoolFault`, and what a server (`take_folder`, `wide_parts`,
@@ -13,15 +14,20 @@
 #![tactic(auto)]
 
 mod answer;
+mod calls;
 mod claims;
+mod entries;
 mod fault;
 mod folder;
+mod found;
 mod framing;
 mod layout;
 mod lines;
 mod memory;
 mod names;
+mod place;
 mod recovery;
+mod refusal;
 mod rights;
 mod spool;
 mod submission;

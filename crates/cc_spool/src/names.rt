@@ -4,17 +4,20 @@ ghost use Rattle.std.specs.Prelude.{◌≡◌};
 ghost use Rattle.std.specs.List.{list_all};
 ghost use Rattle.cc_spool.specs.Names.{is_letter, is_plain, is_plain_byte};
 
+use crate::refusal::Refusal;
 use std::alloc::Global;
 use std::fs::File;
-use std::io::{self, Read};
-use std::rt::{Clock, Files};
-use std::time::SystemTime;
+use std::io::Read;
+use std::time::{Duration, SystemTime};
 
 /// The most bytes of a script's name.
 const NAME_BYTES: usize = 64;
 
 /// What an answer's name has behind that of its script as long as it is being written. No name of a script ends so.
 pub const ANSWER: &str = ".answer";
+
+/// What the name of a file begins with that a server tries the folder with. No name of a script begins so.
+pub const TRIED: &str = ".try-";
 
 fn is_letter(byte: u8) -> bool
     ensures { result ≡ is_letter byte }
@@ -44,23 +47,26 @@ pub fn is_plain(name: &str) -> bool
 }
 
 // 64 random bits of the system.
-fn random_bits<R: Files<File = File>>(rt: &R) -> io::Result<u64> {
+fn random_bits(rt: &HostRuntime) -> Result<u64, Refusal> {
     let mut bytes = [0u8; 8];
     let mut file = File::open(rt, "/dev/urandom")?;
     file.read_exact(&mut bytes)?;
     Ok(u64::from_le_bytes(bytes))
 }
 
+/// The time since the beginning of 1970; none where the clock stands before that.
+pub(crate) fn since_1970(rt: &HostRuntime) -> Result<Duration, Refusal> {
+    let now = SystemTime::now(rt)?;
+    Ok(
+        now.duration_since(SystemTime::UNIX_EPOCH)
+            .unwrap_or(Duration::ZERO),
+    )
+}
+
 /// A name that nobody else has, of 48 bytes: the time, so that scripts are taken in its order, the number of a process, and 64 random bits.
-pub(crate) fn fresh_name<R: Files<File = File> + Clock>(
-    rt: &R,
-    alloc: Global,
-    process: u32,
-) -> io::Result<String> {
+pub(crate) fn fresh_name(rt: &HostRuntime, alloc: Global, process: u32) -> Result<String, Refusal> {
     let own = random_bits(rt)?;
-    let (seconds, nanoseconds) = match SystemTime::now(rt)?.duration_since(SystemTime::UNIX_EPOCH) {
-        Ok(since) => (since.as_secs(), since.subsec_nanos()),
-        Err(_) => (0, 0),
-    };
+    let since = since_1970(rt)?;
+    let (seconds, nanoseconds) = (since.as_secs(), since.subsec_nanos());
     Ok(format!(in alloc; "{seconds:010}-{nanoseconds:09}-{process:010}-{own:016x}")?)
 }

@@ -1,16 +1,19 @@
 // What a server that was killed left, and what clients left long ago.
 
+use crate::calls::{read_at, set_length, settle, write_at};
 use crate::claims::{INTERRUPTED, UNWRITTEN, hand_over};
+use crate::entries::Entry;
+use crate::found::Found;
 use crate::layout::Layout;
 use crate::lines::Lines;
-use crate::names::{ANSWER, is_plain};
-use std::fs::{self, File, OpenOptions};
+use crate::names::{ANSWER, TRIED, is_plain, since_1970};
+use crate::place::Place;
+use crate::refusal::Refusal;
+use std::alloc::{AllocError, Global};
+use std::fs::File;
 use std::io;
-use std::os::unix::fs::{FileExt, MetadataExt};
-use std::rt::{Clock, Files};
-use std::time::{Duration, SystemTime};
 
-const DAY: u64 = 86_400;
+const DAY: i64 = 86_400;
 
 // What stands in `cur` under names that are plain: scripts, and those of the answers.
 #[derive(Drop)]
@@ -19,35 +22,39 @@ struct Left {
     answers: Vec<String>,
 }
 
-fn find_left<R: Files<File = File> + Clock + Copy + Clone + Drop>(
-    layout: &Layout<R>,
-) -> io::Result<Left> {
-    let alloc = layout.alloc;
-    let mut claims = Vec::new(alloc);
-    let mut answers = Vec::new(alloc);
-    let path = layout.part("cur")?;
-    for entry in fs::read_dir(&(layout.rt, alloc), path.as_str())? {
-        let entry = match entry {
-            Ok(entry) => entry,
-            // A name that is no UTF-8 is none of a script.
-            Err(error) if error.kind() == io::ErrorKind::InvalidFilename => continue,
-            Err(error) => return Err(error),
-        };
-        let name = entry.file_name();
-        if is_plain(name) {
-            claims.push(String::from_str(alloc, name)?)?;
-        } else if let Some(script) = name.strip_suffix(ANSWER)
-            && is_plain(script)
-        {
-            answers.push(String::from_str(alloc, script)?)?;
+// Notes a name.
+fn note(names: &mut Vec<String>, alloc: Global, name: &str) -> Result<(), AllocError> {
+    names.push(String::from_str(alloc, name)?)?;
+    Ok(())
+}
+
+impl Left {
+    fn note(&mut self, alloc: Global, name: &str) -> Result<(), AllocError> {
+        match name.strip_suffix(ANSWER) {
+            Some(script) if is_plain(script) => note(&mut self.answers, alloc, script),
+            None if is_plain(name) => note(&mut self.claims, alloc, name),
+            _ => Ok(()),
         }
     }
-    Ok(Left { claims, answers })
+
+    // Looks through `cur`.
+    fn look(&mut self, layout: &Layout) -> Result<(), Refusal> {
+        let mut entries = layout.entries("cur")?;
+        for _ in 0..u64::MAX {
+            match entries.next() {
+                Entry::Named(name) => self.note(layout.alloc, name.as_str())?,
+                Entry::Odd => {}
+                Entry::Refused(refusal) => return Err(refusal),
+                Entry::End => break,
+            }
+        }
+        Ok(())
+    }
 }
 
 // How many bytes of a file are whole lines, and whole sources with the lines that say their lengths.
-fn whole_lines(file: &File) -> io::Result<u64> {
-    let end = file.metadata()?.len();
+fn whole_lines(file: &File) -> Result<u64, Refusal> {
+    let end = Found::of_file(file)?.bytes;
     let mut piece = [0u8; 4096];
     let mut lines = Lines::new();
     let mut read = 0u64;
@@ -58,7 +65,7 @@ fn whole_lines(file: &File) -> io::Result<u64> {
         }
         let count = (end - read).min(4096);
         let part = &mut piece[..count as usize];
-        file.read_exact_at(part, read)?;
+        read_at(file, part, read)?;
         for byte in part.iter() {
             lines.read(*byte);
             read = read.saturating_add(1);
@@ -71,13 +78,13 @@ fn whole_lines(file: &File) -> io::Result<u64> {
 }
 
 // Whether so many bytes of a file end with this line.
-fn ends_with(file: &File, end: u64, line: &[u8]) -> io::Result<bool> {
+fn ends_with(file: &File, end: u64, line: &[u8]) -> Result<bool, Refusal> {
     let mut last = [0u8; 21];
     let count = line.len();
     if count > 21 || end < count as u64 {
         return Ok(false);
     }
-    file.read_exact_at(&mut last[..count], end - count as u64)?;
+    read_at(file, &mut last[..count], end - count as u64)?;
     Ok(&last[..count] == line)
 }
 
@@ -86,77 +93,80 @@ fn ends_with(file: &File, end: u64, line: &[u8]) -> io::Result<bool> {
 //
 // An answer that ends within a source is cut back to before the line that says how long it is: else the line of 55 could be taken for the
 // rest of the source, and nobody could tell.
-fn complete<R: Files<File = File> + Clock + Copy + Drop>(
-    layout: &Layout<R>,
-    answer: &str,
-) -> io::Result<()> {
-    let file = OpenOptions::new()
-        .read(true)
-        .write(true)
-        .open(&layout.rt, answer)?;
-    let end = whole_lines(&file)?;
+fn complete(file: &File) -> Result<(), Refusal> {
+    let end = whole_lines(file)?;
     let unwritten = UNWRITTEN.len() as u64;
-    if unwritten <= end && ends_with(&file, unwritten, UNWRITTEN)? {
-        file.set_len(unwritten)?;
+    if unwritten <= end && ends_with(file, unwritten, UNWRITTEN)? {
+        set_length(file, unwritten)?;
     } else {
-        file.set_len(end)?;
-        if !ends_with(&file, end, INTERRUPTED)? {
-            file.write_all_at(INTERRUPTED, end)?;
+        set_length(file, end)?;
+        if !ends_with(file, end, INTERRUPTED)? {
+            write_at(file, INTERRUPTED, end)?;
         }
     }
-    file.sync_all()
+    settle(file)
 }
 
 // Takes a script out of `new` that was claimed: on a system that orders no renames a power cut may leave it under both names.
-fn take_out<R: Files<File = File> + Clock + Copy + Drop>(
-    layout: &Layout<R>,
-    name: &str,
-) -> io::Result<()> {
-    let claimed = layout.file("cur", name)?;
-    let waiting = layout.file("new", name)?;
-    if let Some(here) = layout.look(claimed.as_str())?
-        && let Some(there) = layout.look(waiting.as_str())?
-        && here.dev() == there.dev()
-        && here.ino() == there.ino()
-    {
-        fs::remove_file(&layout.rt, waiting.as_str())?;
+fn take_out(layout: &Layout, name: &str) -> Result<(), Refusal> {
+    match (
+        layout.look(Place::Claimed, name)?,
+        layout.look(Place::Waiting, name)?,
+    ) {
+        (Some(here), Some(there)) if here.is_same(&there) => layout.remove(Place::Waiting, name),
+        _ => Ok(()),
     }
-    Ok(())
 }
 
-/// Does what an answer that was left asks for; whether its script was begun. An `Err` leaves both for the next start.
-pub(crate) fn recover_answer<R: Files<File = File> + Clock + Copy + Drop>(
-    layout: &Layout<R>,
-    name: &str,
-) -> io::Result<bool> {
-    let answer = layout.answer(name)?;
-    let claimed = layout.file("cur", name)?;
-    let Some(found) = layout.look(answer.as_str())? else {
-        return Ok(false);
+// What a start finds of an answer.
+#[derive(Clone, Copy, Drop)]
+enum LeftAnswer {
+    Gone,
+    // Its script was not claimed.
+    Unclaimed,
+    Begun,
+}
+
+fn left_answer(layout: &Layout, name: &str) -> Result<LeftAnswer, Refusal> {
+    let Some(found) = layout.look(Place::Answer, name)? else {
+        return Ok(LeftAnswer::Gone);
     };
     if !found.is_file() {
-        return Err(io::Error::from(io::ErrorKind::InvalidInput));
+        Err(Refusal::NotOwn)
+    } else if 0 < found.bytes || layout.look(Place::Claimed, name)?.is_some() {
+        Ok(LeftAnswer::Begun)
+    } else {
+        Ok(LeftAnswer::Unclaimed)
     }
-    if found.len() == 0 && layout.look(claimed.as_str())?.is_none() {
-        fs::remove_file(&layout.rt, answer.as_str())?;
-        return Ok(false);
-    }
+}
+
+fn complete_left(layout: &Layout, name: &str) -> Result<(), Refusal> {
     take_out(layout, name)?;
-    complete(layout, answer.as_str())?;
-    hand_over(layout, name)?;
-    Ok(true)
+    let file = layout.open_to_write(Place::Answer, name)?;
+    complete(&file)
+}
+
+/// Makes an answer that was left one that can be handed over; whether its script was begun. One that was not is taken away. An `Err` leaves
+/// both for the next start.
+pub(crate) fn complete_answer(layout: &Layout, name: &str) -> Result<bool, Refusal> {
+    match left_answer(layout, name)? {
+        LeftAnswer::Gone => Ok(false),
+        LeftAnswer::Unclaimed => {
+            layout.remove(Place::Answer, name)?;
+            Ok(false)
+        }
+        LeftAnswer::Begun => {
+            complete_left(layout, name)?;
+            Ok(true)
+        }
+    }
 }
 
 // Takes away a script without an answer: that was handed over. An `Err` leaves it for the next start.
-fn remove_answered<R: Files<File = File> + Clock + Copy + Drop>(
-    layout: &Layout<R>,
-    name: &str,
-) -> io::Result<()> {
-    let answer = layout.answer(name)?;
-    let claimed = layout.file("cur", name)?;
-    if layout.look(answer.as_str())?.is_none() {
+fn remove_answered(layout: &Layout, name: &str) -> Result<(), Refusal> {
+    if layout.look(Place::Answer, name)?.is_none() {
         take_out(layout, name)?;
-        fs::remove_file(&layout.rt, claimed.as_str())?;
+        layout.remove(Place::Claimed, name)?;
     }
     Ok(())
 }
@@ -170,67 +180,103 @@ pub struct Recovered {
     pub kept: Vec<String>,
 }
 
+impl Recovered {
+    // Answers one script.
+    fn answer(&mut self, layout: &Layout, name: &str) -> Result<(), Refusal> {
+        match complete_answer(layout, name) {
+            Ok(true) if hand_over(layout, name).is_ok() => {
+                self.begun = self.begun.saturating_add(1);
+                Ok(())
+            }
+            Ok(false) => Ok(()),
+            _ => Ok(note(&mut self.kept, layout.alloc, name)?),
+        }
+    }
+
+    // Answers what a server had begun, and takes away what was answered.
+    fn recover(&mut self, layout: &Layout, left: &Left) -> Result<(), Refusal> {
+        for name in left.answers.as_slice() {
+            self.answer(layout, name.as_str())?;
+        }
+        for name in left.claims.as_slice() {
+            let _ = remove_answered(layout, name.as_str());
+        }
+        Ok(())
+    }
+}
+
 /// Answers what a server that was killed had begun, by 55 behind the whole lines of each answer, and takes away what it had left of claims
 /// that were not made or were answered.
 ///
 /// What can't be handed over, or not be looked at, stays in `cur`, and keeps no server from its work. An `Err` where `cur` can't be read, or
 /// there is no memory for the names in it.
-pub fn recover<R: Files<File = File> + Clock + Copy + Clone + Drop>(
-    layout: &Layout<R>,
-) -> io::Result<Recovered> {
-    let Left { claims, answers } = find_left(layout)?;
-    let mut begun = 0u64;
-    let mut kept = Vec::new(layout.alloc);
-    for name in answers.as_slice() {
-        match recover_answer(layout, name.as_str()) {
-            Ok(true) => begun = begun.saturating_add(1),
-            Ok(false) => {}
-            Err(_) => kept.push(String::from_str(layout.alloc, name.as_str())?)?,
-        }
-    }
-    for name in claims.as_slice() {
-        let _ = remove_answered(layout, name.as_str());
-    }
-    Ok(Recovered { begun, kept })
-}
-
-// Whether a file was last written before so many seconds.
-fn is_older(found: &fs::Metadata, now: SystemTime, seconds: u64) -> bool {
-    let Ok(written) = found.modified() else {
-        return false;
+pub fn recover(layout: &Layout) -> io::Result<Recovered> {
+    let mut left = Left {
+        claims: Vec::new(layout.alloc),
+        answers: Vec::new(layout.alloc),
     };
-    match now.duration_since(written) {
-        Ok(since) => since.as_secs() > seconds,
-        Err(_) => false,
+    let mut recovered = Recovered {
+        begun: 0,
+        kept: Vec::new(layout.alloc),
+    };
+    left.look(layout)?;
+    recovered.recover(layout, &left)?;
+    Ok(recovered)
+}
+
+// Whether a file of this name in a part may be cleared: a script or an answer that clients left, or what a start was tried with.
+fn may_be_cleared(place: Place, name: &str) -> bool {
+    let is_clients = match place {
+        Place::Written | Place::Done => true,
+        Place::Waiting | Place::Claimed | Place::Answer => false,
+    };
+    name.starts_with(TRIED) || is_clients && is_plain(name)
+}
+
+// Removes a file where it may be cleared and was last written before a moment, in seconds since 1970; how many files that were.
+fn clear(layout: &Layout, place: Place, name: &str, moment: i64) -> u64 {
+    if !may_be_cleared(place, name) {
+        return 0;
+    }
+    match layout.look(place, name) {
+        Ok(Some(found)) if found.is_file() && found.seconds < moment => {
+            u64::from(layout.remove(place, name).is_ok())
+        }
+        _ => 0,
     }
 }
 
-/// Removes from `done` and `tmp` scripts and answers that were last written more than so many days ago; how many files that were. What can't
-/// be removed stays; so does what is no regular file, or has a name that no script has. An `Err` where the folder is no longer the one that is
-/// held: nothing was removed then.
-pub fn clear_old<R: Files<File = File> + Clock + Copy + Clone + Drop>(
-    layout: &Layout<R>,
-    days: u32,
-) -> io::Result<u64> {
-    layout.must_be_held()?;
-    let now = SystemTime::now(&layout.rt)?;
-    let seconds = u64::from(days) * DAY;
+// Clears a part of what was last written before a moment; how many files that were. What can't be looked at stays.
+fn clear_part(layout: &Layout, place: Place, moment: i64) -> Result<u64, Refusal> {
+    let mut entries = layout.entries(place.part())?;
     let mut cleared = 0u64;
-    for part in ["done", "tmp"] {
-        let path = layout.part(part)?;
-        for entry in fs::read_dir(&(layout.rt, layout.alloc), path.as_str())? {
-            let Ok(entry) = entry else {
-                continue;
-            };
-            if is_plain(entry.file_name())
-                && let Ok(found) = entry.metadata()
-                && found.is_file()
-                && is_older(&found, now, seconds)
-                && fs::remove_file(&layout.rt, entry.path()).is_ok()
-            {
-                cleared = cleared.saturating_add(1);
+    for _ in 0..u64::MAX {
+        match entries.next() {
+            Entry::Named(name) => {
+                cleared = cleared.saturating_add(clear(layout, place, name.as_str(), moment));
             }
+            Entry::Odd | Entry::Refused(_) => {}
+            Entry::End => break,
         }
     }
     Ok(cleared)
+}
+
+// Clears all parts of what was last written so many days ago.
+fn clear_parts(layout: &Layout, days: u32) -> Result<u64, Refusal> {
+    layout.must_be_held()?;
+    let now = i64::try_from(since_1970(&layout.rt)?.as_secs()).unwrap_or(0);
+    let moment = now.saturating_sub(i64::from(days) * DAY);
+    let mut cleared = 0u64;
+    for place in [Place::Done, Place::Written, Place::Waiting, Place::Claimed] {
+        cleared = cleared.saturating_add(clear_part(layout, place, moment)?);
+    }
+    Ok(cleared)
+}
+
+/// Removes from `done` and `tmp` scripts and answers that were last written more than so many days ago, and from all parts what the start of
+/// a server that was killed left there; how many files that were. What can't be removed stays; so does what is no regular file, or has a name
+/// that no script has. An `Err` where the folder is no longer the one that is held: nothing was removed then.
+pub fn clear_old(layout: &Layout, days: u32) -> io::Result<u64> {
+    Ok(clear_parts(layout, days)?)
 }

@@ -5,12 +5,13 @@
 
 ghost use Rattle.std.specs.Prelude.{◌≡◌, IfSome};
 
+use crate::found::Found;
 use crate::layout::{Held, Layout};
-use crate::names::fresh_name;
-use std::fs::{self, DirBuilder, File, Metadata, Permissions};
+use crate::names::{TRIED, fresh_name};
+use crate::place::Place;
+use crate::refusal::Refusal;
+use std::fs::File;
 use std::io;
-use std::os::unix::fs::{DirBuilderExt, MetadataExt, PermissionsExt};
-use std::rt::{Clock, Files};
 
 /// A part of a folder whose rights are wider than they should be.
 #[derive(Clone, Copy, Drop)]
@@ -23,46 +24,25 @@ pub struct WidePart {
     pub most: u32,
 }
 
-// The rights of what is at a path, where something is.
-fn mode_of<R: Files<File = File> + Clock + Copy + Drop>(
-    layout: &Layout<R>,
-    path: &str,
-) -> io::Result<Option<u32>> {
-    match layout.look(path)? {
-        Some(found) => Ok(Some(found.mode() & 0o7777)),
-        None => Ok(None),
-    }
-}
-
 // Makes a part with these rights, whatever the process takes from them, where nothing is at its path. It gets its name when it has its rights.
 // An `Err` where what has its name until then is no empty directory: who put it there would share the part.
-fn make_part<R: Files<File = File> + Clock + Copy + Drop>(
-    layout: &Layout<R>,
-    part: &str,
-    mode: u32,
-) -> io::Result<()> {
-    let path = layout.part(part)?;
-    if layout.look(path.as_str())?.is_some() {
+fn make_part(layout: &Layout, part: &str, making: &str, rights: u32) -> Result<(), Refusal> {
+    if layout.has(part)? {
         return Ok(());
     }
-    let name = format!(in layout.alloc; ".making-{part}")?;
-    let making = layout.part(name.as_str())?;
     // A server may have left it that was killed here.
-    if layout.look(making.as_str())?.is_some() {
-        fs::remove_dir(&layout.rt, making.as_str())?;
+    if layout.has(making)? {
+        layout.remove_directory(making)?;
     }
-    DirBuilder::new()
-        .mode(0o700)
-        .create(&layout.rt, making.as_str())?;
-    fs::set_permissions(&layout.rt, making.as_str(), Permissions::from_mode(mode))?;
-    fs::rename(&layout.rt, making.as_str(), path.as_str())
+    layout.make_directory(making)?;
+    layout.set_rights(making, rights)?;
+    layout.rename_part(making, part)
 }
 
 // Makes the parts that are not there.
-fn make_parts<R: Files<File = File> + Clock + Copy + Drop>(layout: &Layout<R>) -> io::Result<()> {
-    let folder = layout.part(".")?;
-    let is_group = match mode_of(layout, folder.as_str())? {
-        Some(mode) => mode & 0o2000 != 0,
+fn make_parts(layout: &Layout) -> Result<(), Refusal> {
+    let is_group = match layout.look_at(".")? {
+        Some(found) => found.rights() & 0o2000 != 0,
         None => false,
     };
     // What is made in a group's folder belongs to the group, answers too.
@@ -71,30 +51,50 @@ fn make_parts<R: Files<File = File> + Clock + Copy + Drop>(layout: &Layout<R>) -
     } else {
         (0o700, 0o3777, 0o755)
     };
-    make_part(layout, "cur", cur)?;
-    make_part(layout, "tmp", clients)?;
-    make_part(layout, "new", clients)?;
-    make_part(layout, "done", done)
+    make_part(layout, "cur", ".making-cur", cur)?;
+    make_part(layout, "tmp", ".making-tmp", clients)?;
+    make_part(layout, "new", ".making-new", clients)?;
+    make_part(layout, "done", ".making-done", done)
 }
 
 // An `Err` where the folder has a part but no `lock`, which is made first: then it is no spool, and what is in it no server's. The parts are
 // looked at before, since another server may be making them.
-fn must_be_spool<R: Files<File = File> + Clock + Copy + Drop>(
-    layout: &Layout<R>,
-) -> io::Result<()> {
+fn must_be_spool(layout: &Layout) -> Result<(), Refusal> {
     let mut has_parts = false;
     for part in ["cur", "tmp", "new", "done"] {
-        let path = layout.part(part)?;
-        has_parts |= layout.look(path.as_str())?.is_some();
+        has_parts |= layout.has(part)?;
     }
-    let lock = layout.part("lock")?;
-    if has_parts && layout.look(lock.as_str())?.is_none() {
-        return Err(io::Error::new(
-            io::ErrorKind::AlreadyExists,
-            "it has `cur`, `tmp`, `new` or `done` but no `lock`, so it is no spool",
-        ));
+    if has_parts && !layout.has("lock")? {
+        return Err(Refusal::NoSpool);
     }
     Ok(())
+}
+
+// Makes the folder where it is not there.
+fn make_folder(layout: &Layout) -> Result<(), Refusal> {
+    if !layout.has(".")? {
+        layout.make_folder()?;
+        layout.set_rights(".", 0o755)?;
+    }
+    Ok(())
+}
+
+fn take(layout: &mut Layout, process: u32) -> Result<Option<Held>, Refusal> {
+    make_folder(layout)?;
+    must_be_spool(layout)?;
+    let Some(held) = layout.lock()? else {
+        return Ok(None);
+    };
+    match settle_folder(layout, &held, process) {
+        Ok(()) => {
+            held.open_to_clients(layout.file_rights);
+            Ok(Some(held))
+        }
+        Err(refusal) => {
+            drop(held);
+            Err(refusal)
+        }
+    }
 }
 
 /// Takes the folder for this server, until what is returned is let go; none where another one has had it for a second.
@@ -102,115 +102,73 @@ fn must_be_spool<R: Files<File = File> + Clock + Copy + Drop>(
 /// What is not there of it is made: the folder with 0755; `cur` with 0700, `new` and `tmp` with 3777, `done` with 0755; where the folder has
 /// the set-group-id bit `cur` with 2700 and the others with 2770. What is there keeps its rights. Then it tries what a server does in it.
 /// An `Err` where one of these is refused, which leaves what was made; or where a part is there and `lock` is not.
-pub fn take_folder<R: Files<File = File> + Clock + Copy + Drop>(
-    layout: &mut Layout<R>,
-    process: u32,
-) -> io::Result<Option<Held>> {
-    let folder = layout.part(".")?;
-    if layout.look(folder.as_str())?.is_none() {
-        DirBuilder::new()
-            .recursive(true)
-            .mode(0o755)
-            .create(&layout.rt, layout.path.as_str())?;
-        let rights = Permissions::from_mode(0o755);
-        fs::set_permissions(&layout.rt, folder.as_str(), rights)?;
-    }
-    must_be_spool(layout)?;
-    let Some(held) = layout.lock()? else {
-        return Ok(None);
-    };
-    match settle_folder(layout, &held, process) {
-        Ok(()) => {
-            held.open_to_clients(layout.file_mode);
-            Ok(Some(held))
-        }
-        Err(error) => {
-            drop(held);
-            Err(error)
-        }
-    }
+pub fn take_folder(layout: &mut Layout, process: u32) -> io::Result<Option<Held>> {
+    Ok(take(layout, process)?)
 }
 
-fn settle_folder<R: Files<File = File> + Clock + Copy + Drop>(
-    layout: &mut Layout<R>,
-    held: &Held,
-    process: u32,
-) -> io::Result<()> {
+fn settle_folder(layout: &mut Layout, held: &Held, process: u32) -> Result<(), Refusal> {
     layout.hold(held)?;
-    layout.unstop()?;
+    layout.take_stop_back()?;
     make_parts(layout)?;
-    let again = layout.again()?;
-    layout.file_mode = again.file_mode;
-    drop(again);
+    layout.look_for_rights();
     try_folder(layout, process)
 }
 
 // Tries what server and clients do: makes a file in `cur`, links it into `new`, moves it back, moves it to `done`, removes it, and syncs `cur`.
-fn try_folder<R: Files<File = File> + Clock + Copy + Drop>(
-    layout: &Layout<R>,
-    process: u32,
-) -> io::Result<()> {
+fn try_folder(layout: &Layout, process: u32) -> Result<(), Refusal> {
     let own = fresh_name(&layout.rt, layout.alloc, process)?;
     // No script has a name with a dot.
-    let name = format!(in layout.alloc; ".try-{own}")?;
-    let here = layout.file("cur", name.as_str())?;
-    let new = layout.file("new", name.as_str())?;
-    let done = layout.file("done", name.as_str())?;
-    let tried = try_moves(layout, here.as_str(), new.as_str(), done.as_str());
-    for path in [&here, &new, &done] {
-        let _ = fs::remove_file(&layout.rt, path.as_str());
+    let name = format!(in layout.alloc; "{TRIED}{own}")?;
+    let tried = try_moves(layout, name.as_str());
+    for place in [Place::Claimed, Place::Waiting, Place::Done] {
+        let _ = layout.remove(place, name.as_str());
     }
+    drop(own);
+    drop(name);
     tried?;
     layout.sync_claims()
 }
 
-fn try_moves<R: Files<File = File> + Clock + Copy + Drop>(
-    layout: &Layout<R>,
-    here: &str,
-    new: &str,
-    done: &str,
-) -> io::Result<()> {
-    let file = layout.make_file(here)?;
-    let made = file.metadata()?;
+fn try_moves(layout: &Layout, name: &str) -> Result<(), Refusal> {
+    let file = layout.make(Place::Claimed, name)?;
+    let made = Found::of_file(&file);
     drop(file);
-    try_owners(layout, &made)?;
-    fs::hard_link(&layout.rt, here, new)?;
-    fs::remove_file(&layout.rt, here)?;
-    fs::rename(&layout.rt, new, here)?;
-    fs::rename(&layout.rt, here, done)
+    try_owners(layout, &made?)?;
+    layout.link(name, Place::Claimed, Place::Waiting)?;
+    layout.remove(Place::Claimed, name)?;
+    layout.rename(name, Place::Waiting, Place::Claimed)?;
+    layout.rename(name, Place::Claimed, Place::Done)
+}
+
+// Whether a part's owner is what clients expect of the server whose file this is.
+fn is_right(found: &Found, made: &Found, is_servers: bool, is_shared: bool) -> bool {
+    let is_own = found.user == made.user;
+    let is_free = found.rights() & 0o1000 == 0 || is_own;
+    let is_reached = !is_shared || found.group == made.group;
+    found.is_directory() && is_free && is_reached && (is_own || !is_servers)
 }
 
 // Whether the server's files are what clients expect: those of the owner of the folder and of `cur`, and of the group where the folder is
 // one's; and whether it may take others' scripts out of a sticky part.
-fn try_owners<R: Files<File = File> + Clock + Copy + Drop>(
-    layout: &Layout<R>,
-    made: &Metadata,
-) -> io::Result<()> {
-    let is_group = layout.file_mode & 0o006 == 0;
-    for part in [".", "cur", "new", "tmp", "done"] {
-        let path = layout.part(part)?;
-        let is_servers = part == "." || part == "cur";
-        let is_right = match layout.look(path.as_str())? {
-            Some(found) => {
-                let is_own = found.uid() == made.uid();
-                let is_free = found.mode() & 0o1000 == 0 || is_own;
-                let is_shared = !is_group || part == "." || found.gid() == made.gid();
-                found.is_dir() && is_free && is_shared && (is_own || !is_servers)
-            }
-            None => false,
-        };
-        if !is_right {
-            return Err(io::Error::new(
-                io::ErrorKind::PermissionDenied,
-                "the folder or a part of it is no directory, or is another user's or group's than the server's",
-            ));
+fn try_owners(layout: &Layout, made: &Found) -> Result<(), Refusal> {
+    let is_group = layout.is_group();
+    for (part, is_servers, is_shared) in [
+        (".", true, false),
+        ("cur", true, is_group),
+        ("new", false, is_group),
+        ("tmp", false, is_group),
+        ("done", false, is_group),
+    ] {
+        match layout.look_at(part)? {
+            Some(found) if is_right(&found, made, is_servers, is_shared) => {}
+            _ => return Err(Refusal::NotOwn),
         }
     }
     Ok(())
 }
 
 // The part, where its rights are wider than these: where they have one of these bits, or lack the sticky bit though everybody may write.
-fn wide(part: &'static str, mode: u32, most: u32) -> Option<WidePart>
+fn wide_part(part: &'static str, mode: u32, most: u32) -> Option<WidePart>
     ensures { IfSome result (λ wide. (wide.mode ≡ mode) × (wide.most ≡ most)) }
 {
     let is_wide = if most == 0o3777 {
@@ -225,11 +183,27 @@ fn wide(part: &'static str, mode: u32, most: u32) -> Option<WidePart>
     }
 }
 
+// Notes a part where its rights are wider than these.
+fn note_wide(
+    layout: &Layout,
+    part: &'static str,
+    most: u32,
+    wide: &mut Vec<WidePart>,
+) -> Result<(), Refusal> {
+    let Some(found) = layout.look_at(part)? else {
+        return Ok(());
+    };
+    if let Some(part) = wide_part(part, found.rights(), most)
+        && wide.push(part).is_err()
+    {
+        return Err(Refusal::NoMemory);
+    }
+    Ok(())
+}
+
 /// The parts whose rights are wider than they should be: others could take the place of the server, or take scripts and answers away.
-pub fn wide_parts<R: Files<File = File> + Clock + Copy + Drop>(
-    layout: &Layout<R>,
-) -> io::Result<Vec<WidePart>> {
-    let mut found = Vec::new(layout.alloc);
+pub fn wide_parts(layout: &Layout) -> io::Result<Vec<WidePart>> {
+    let mut wide = Vec::new(layout.alloc);
     for (part, most) in [
         (".", 0o755),
         ("cur", 0o700),
@@ -237,11 +211,7 @@ pub fn wide_parts<R: Files<File = File> + Clock + Copy + Drop>(
         ("new", 0o3777),
         ("done", 0o3777),
     ] {
-        if let Some(mode) = mode_of(layout, layout.part(part)?.as_str())?
-            && let Some(part) = wide(part, mode, most)
-        {
-            found.push(part)?;
-        }
+        note_wide(layout, part, most, &mut wide)?;
     }
-    Ok(found)
+    Ok(wide)
 }

@@ -4,12 +4,18 @@
 // another. As long as it stands in `new` nothing of it is done, and taking it back is one call: either that finds the script, or a claim. A
 // script that was claimed is waited for: its server answers it, or the next one. Where another file has its place in `new`, it was claimed.
 
-use crate::layout::{Layout, is_same};
+ghost use Rattle.std.specs.Prelude.{◌≤◌, IfOk, length};
+
+use crate::calls::settle;
+use crate::entries::Entry;
+use crate::found::Found;
+use crate::layout::Layout;
 use crate::lines::Lines;
 use crate::names::{fresh_name, is_plain};
-use std::fs::{self, File, Metadata};
+use crate::place::Place;
+use crate::refusal::Refusal;
+use std::fs::File;
 use std::io::{self, Read, Write};
-use std::rt::{Clock, Files};
 use std::thread;
 use std::time::{Duration, Instant};
 
@@ -49,10 +55,34 @@ pub enum Submission {
 }
 
 // A copy that ended early: at the reader, or at the writer.
-#[derive(Drop)]
+#[derive(Clone, Copy, Drop)]
 enum Side {
-    Reader(io::Error),
-    Writer(io::Error),
+    Reader(Refusal),
+    Writer(Refusal),
+}
+
+// Reads the next bytes. An interrupted call is made again.
+fn read_some<S: Read>(reader: &mut S, room: &mut [u8]) -> Result<usize, Refusal>
+    ensures { IfOk result (λ count. count ≤ length room.new) }
+{
+    for _ in 0..u64::MAX {
+        match reader.read(room) {
+            Ok(count) => return Ok(count),
+            Err(error) if error.kind() == io::ErrorKind::Interrupted => {}
+            Err(error) => return Err(Refusal::from(error)),
+        }
+    }
+    Ok(0)
+}
+
+fn write_some<W: Write>(writer: &mut W, bytes: &[u8]) -> Result<(), Refusal> {
+    writer.write_all(bytes)?;
+    Ok(())
+}
+
+fn flush<W: Write>(writer: &mut W) -> Result<(), Refusal> {
+    writer.flush()?;
+    Ok(())
 }
 
 // Copies so many bytes at most; which fault their lines tell last.
@@ -61,10 +91,9 @@ fn copy<S: Read, W: Write>(reader: &mut S, writer: &mut W, most: u64) -> Result<
     let mut lines = Lines::new();
     let mut left = most;
     for _ in 0..u64::MAX {
-        let count = match reader.read(&mut piece) {
+        let count = match read_some(reader, &mut piece) {
             Ok(count) => count,
-            Err(error) if error.kind() == io::ErrorKind::Interrupted => continue,
-            Err(error) => return Err(Side::Reader(error)),
+            Err(refusal) => return Err(Side::Reader(refusal)),
         };
         if count == 0 || left == 0 {
             break;
@@ -72,14 +101,14 @@ fn copy<S: Read, W: Write>(reader: &mut S, writer: &mut W, most: u64) -> Result<
         for byte in &piece[..count] {
             lines.read(*byte);
         }
-        if let Err(error) = writer.write_all(&piece[..count]) {
-            return Err(Side::Writer(error));
+        if let Err(refusal) = write_some(writer, &piece[..count]) {
+            return Err(Side::Writer(refusal));
         }
         left = left.saturating_sub(count as u64);
     }
-    match writer.flush() {
+    match flush(writer) {
         Ok(()) => Ok(lines),
-        Err(error) => Err(Side::Writer(error)),
+        Err(refusal) => Err(Side::Writer(refusal)),
     }
 }
 
@@ -88,104 +117,82 @@ fn write_script<S: Read>(
     file: &mut File,
     begin: &[u8],
     script: &mut S,
-) -> io::Result<Option<Metadata>> {
-    file.write_all(begin)?;
+) -> Result<Option<Found>, Refusal> {
+    write_some(file, begin)?;
     match copy(script, file, MOST_BYTES) {
         Ok(_) => {}
         Err(Side::Reader(_)) => return Ok(None),
-        Err(Side::Writer(error)) => return Err(error),
+        Err(Side::Writer(refusal)) => return Err(refusal),
     }
-    file.sync_all()?;
-    Ok(Some(file.metadata()?))
+    settle(file)?;
+    Ok(Some(Found::of_file(file)?))
 }
 
 // Puts a script where a server finds it; as which file, where it was read to its end. Where it is not put there, nothing is left of it.
-fn put<R: Files<File = File> + Clock + Copy + Drop, S: Read>(
-    layout: &Layout<R>,
+fn put<S: Read>(
+    layout: &Layout,
     name: &str,
     begin: &[u8],
     script: &mut S,
-) -> io::Result<Option<Metadata>> {
-    let writing = layout.file("tmp", name)?;
-    let new = layout.file("new", name)?;
-    let mut file = layout.make_file(writing.as_str())?;
+) -> Result<Option<Found>, Refusal> {
+    let mut file = layout.make(Place::Written, name)?;
     let written = write_script(&mut file, begin, script);
     drop(file);
     let put = match written {
-        Ok(Some(made)) => match layout.move_new(writing.as_str(), new.as_str()) {
+        Ok(Some(made)) => match layout.move_new(name, Place::Written, Place::Waiting) {
             Ok(()) => return Ok(Some(made)),
-            Err(error) => Err(error),
+            Err(refusal) => Err(refusal),
         },
         other => other,
     };
-    let _ = fs::remove_file(&layout.rt, writing.as_str());
+    let _ = layout.remove(Place::Written, name);
     put
 }
 
 // The answer to a script, where it is there: a regular file of the user who has `cur`, so that nobody else answers in the server's place.
-fn answer_of<R: Files<File = File> + Clock + Copy + Drop>(
-    layout: &Layout<R>,
-    done: &str,
-) -> io::Result<Option<File>> {
-    let Some(found) = layout.look(done)? else {
+fn answer_of(layout: &Layout, name: &str) -> Result<Option<File>, Refusal> {
+    let Some(found) = layout.look(Place::Done, name)? else {
         return Ok(None);
     };
     if !layout.is_servers(&found)? {
         return Ok(None);
     }
-    match File::open(&layout.rt, done) {
+    match layout.open(Place::Done, name) {
         Ok(file) => Ok(Some(file)),
-        Err(error) if error.kind() == io::ErrorKind::NotFound => Ok(None),
-        Err(error) => Err(error),
+        Err(refusal) if refusal.is_absent() => Ok(None),
+        Err(refusal) => Err(refusal),
     }
 }
 
 // Takes a script back; whether it was not claimed before.
-fn take_back<R: Files<File = File> + Clock + Copy + Drop>(
-    layout: &Layout<R>,
-    new: &str,
-) -> io::Result<bool> {
-    match fs::remove_file(&layout.rt, new) {
+fn take_back(layout: &Layout, name: &str) -> Result<bool, Refusal> {
+    match layout.remove(Place::Waiting, name) {
         Ok(()) => Ok(true),
-        Err(error) if error.kind() == io::ErrorKind::NotFound => Ok(false),
-        Err(error) => Err(error),
+        Err(refusal) if refusal.is_absent() => Ok(false),
+        Err(refusal) => Err(refusal),
     }
 }
 
 // How many scripts wait before the one of this name.
-fn count_before<R: Files<File = File> + Clock + Copy + Clone + Drop>(
-    layout: &Layout<R>,
-    name: &str,
-) -> io::Result<u64> {
+fn count_before(layout: &Layout, name: &str) -> Result<u64, Refusal> {
     let mut count = 0u64;
-    let path = layout.part("new")?;
-    for entry in fs::read_dir(&(layout.rt, layout.alloc), path.as_str())? {
-        if let Ok(entry) = entry
-            && is_plain(entry.file_name())
-            && entry.file_name() < name
-        {
-            count = count.saturating_add(1);
+    let mut entries = layout.entries(Place::Waiting.part())?;
+    for _ in 0..u64::MAX {
+        match entries.next() {
+            Entry::Named(other) => {
+                let is_before = is_plain(other.as_str()) && other.as_str() < name;
+                count = count.saturating_add(u64::from(is_before));
+            }
+            Entry::Odd | Entry::Refused(_) => {}
+            Entry::End => break,
         }
     }
     Ok(count)
 }
 
-// The milliseconds since a moment, which becomes the present one.
-fn passed<R: Clock>(rt: &R, moment: &mut Instant) -> io::Result<u64> {
-    let now = Instant::now(rt)?;
-    let since = now.duration_since(*moment);
-    *moment = now;
-    Ok(
-        since
-            .as_secs()
-            .saturating_mul(1000)
-            .saturating_add(u64::from(since.subsec_millis())),
-    )
-}
-
 // What a look at a script found.
 #[derive(Drop)]
-enum Found {
+enum Seen {
     Answer(File),
     // It stands in `new`.
     Waiting,
@@ -199,10 +206,8 @@ enum Found {
 #[derive(Drop)]
 struct Waiting {
     name: String,
-    new: String,
-    done: String,
     // Which file it is.
-    made: Metadata,
+    made: Found,
     // For how long it may wait, in milliseconds; where that is not given, as long as a server is there.
     most: Option<u64>,
     // For how long it was not claimed, and no server was there where that counts, in milliseconds.
@@ -211,131 +216,177 @@ struct Waiting {
 
 impl Waiting {
     // Whether the script stands in `new`.
-    fn is_there<R: Files<File = File> + Clock + Copy + Drop>(
-        &self,
-        layout: &Layout<R>,
-    ) -> io::Result<bool> {
-        match layout.look(self.new.as_str())? {
-            Some(found) => Ok(is_same(&found, &self.made)),
+    fn is_there(&self, layout: &Layout) -> Result<bool, Refusal> {
+        match layout.look(Place::Waiting, self.name.as_str())? {
+            Some(found) => Ok(found.is_alike(&self.made)),
             None => Ok(false),
         }
     }
 
     // Looks at the script, so many milliseconds behind the last look, and takes it back where it waited for too long.
-    fn look<R: Files<File = File> + Clock + Copy + Drop>(
-        &mut self,
-        layout: &Layout<R>,
-        since: u64,
-    ) -> io::Result<Found> {
-        if let Some(file) = answer_of(layout, self.done.as_str())? {
-            return Ok(Found::Answer(file));
+    fn look(&mut self, layout: &Layout, since: u64) -> Result<Seen, Refusal> {
+        if let Some(file) = answer_of(layout, self.name.as_str())? {
+            return Ok(Seen::Answer(file));
         }
-        if !self.is_there(layout)? {
-            // Where the whole folder is gone there is no answer to wait for.
-            layout.must_be_there()?;
-            self.unclaimed = 0;
-            return Ok(Found::Claimed);
+        if self.is_there(layout)? {
+            self.count(layout, since);
+            return self.look_waiting(layout);
         }
+        // Where the whole folder is gone there is no answer to wait for.
+        let _server = layout.server()?;
+        self.unclaimed = 0;
+        Ok(Seen::Claimed)
+    }
+
+    // Counts the milliseconds behind the last look, where they count.
+    fn count(&mut self, layout: &Layout, since: u64) {
         self.unclaimed = match self.most {
             Some(_) => self.unclaimed.saturating_add(since),
             // A lock that can't be tried tells nothing.
             None if layout.is_held().unwrap_or(true) => 0,
             None => self.unclaimed.saturating_add(since.min(MOST_STEP)),
         };
+    }
+
+    // Takes the script back where it waited for too long.
+    fn look_waiting(&self, layout: &Layout) -> Result<Seen, Refusal> {
         if self.unclaimed < self.most.unwrap_or(NO_SERVER) {
-            return Ok(Found::Waiting);
-        }
-        if take_back(layout, self.new.as_str())? {
-            Ok(Found::Back)
+            Ok(Seen::Waiting)
+        } else if take_back(layout, self.name.as_str())? {
+            Ok(Seen::Back)
         } else {
-            Ok(Found::Claimed)
+            Ok(Seen::Claimed)
         }
     }
 
-    // Tells a person that the script waits.
-    fn tell<R: Files<File = File> + Clock + Copy + Clone + Drop, E: Write>(
-        &self,
-        layout: &Layout<R>,
-        is_claimed: bool,
-        explanations: &mut E,
-    ) -> io::Result<()> {
-        if is_claimed {
-            writeln!(explanations, "cclib: the script is being done")?;
+    // Tells a person that the script waits. What can't be told is no reason to end.
+    fn tell<E: Write>(&self, layout: &Layout, is_claimed: bool, explanations: &mut E) {
+        let _ = if is_claimed {
+            writeln!(explanations, "cclib: the script is being done")
         } else {
-            let before = count_before(layout, self.name.as_str())?;
-            writeln!(
-                explanations,
-                "cclib: the script waits, and {before} before it"
-            )?;
-        }
-        explanations.flush()
+            match count_before(layout, self.name.as_str()) {
+                Ok(0) => writeln!(explanations, "cclib: the script waits, and is the next"),
+                Ok(before) => writeln!(
+                    explanations,
+                    "cclib: the script waits, and {before} before it"
+                ),
+                Err(_) => Ok(()),
+            }
+        };
+        let _ = explanations.flush();
     }
 
     // Writes an answer on, and takes it away.
-    fn take_answer<R: Files<File = File> + Clock + Copy + Drop, W: Write>(
-        self,
-        layout: &Layout<R>,
-        mut file: File,
-        writer: &mut W,
-    ) -> Submission {
+    fn take_answer<W: Write>(self, layout: &Layout, mut file: File, writer: &mut W) -> Submission {
         let copied = copy(&mut file, writer, u64::MAX);
         drop(file);
         match copied {
             Ok(lines) => {
                 // Where `done` is the server's alone the answer goes after some days.
-                let _ = fs::remove_file(&layout.rt, self.done.as_str());
+                let _ = layout.remove(Place::Done, self.name.as_str());
                 Submission::Answered(lines.last())
             }
-            Err(Side::Reader(error)) => Submission::CutShort(self.name, error),
+            Err(Side::Reader(refusal)) => {
+                Submission::CutShort(self.name, io::Error::from(refusal))
+            }
             Err(Side::Writer(_)) => Submission::Unwritten(self.name),
         }
     }
 }
 
+// How long a script has waited, and what a person was told of it.
+#[derive(Clone, Copy, Drop)]
+struct Patience {
+    // Of the last look.
+    moment: Instant,
+    // In milliseconds.
+    waited: u64,
+    // For how long looks have failed in a row, in milliseconds.
+    failing: u64,
+    is_told: bool,
+    // The next pause, in milliseconds.
+    pause: u64,
+}
+
+impl Patience {
+    fn new(rt: &HostRuntime) -> Result<Patience, Refusal> {
+        Ok(Patience {
+            moment: Instant::now(rt)?,
+            waited: 0,
+            failing: 0,
+            is_told: false,
+            pause: LEAST_PAUSE,
+        })
+    }
+
+    // The milliseconds since the last look.
+    fn pass(&mut self, rt: &HostRuntime) -> Result<u64, Refusal> {
+        let now = Instant::now(rt)?;
+        let since = now.duration_since(self.moment);
+        let passed = since
+            .as_secs()
+            .saturating_mul(1000)
+            .saturating_add(u64::from(since.subsec_millis()));
+        self.moment = now;
+        self.waited = self.waited.saturating_add(passed);
+        Ok(passed)
+    }
+
+    // A look succeeded; whether a person is to be told now.
+    fn look(&mut self) -> bool {
+        self.failing = 0;
+        let is_due = !self.is_told && TELL <= self.waited;
+        self.is_told |= is_due;
+        is_due
+    }
+
+    // A look failed; whether that has gone on for too long.
+    fn fail(&mut self, since: u64) -> bool {
+        self.failing = self.failing.saturating_add(since.min(MOST_STEP));
+        self.failing >= NO_SERVER
+    }
+
+    // Waits a moment.
+    fn rest(&mut self, rt: &HostRuntime) {
+        thread::sleep(rt, Duration::from_millis(self.pause));
+        if self.pause < MOST_PAUSE {
+            self.pause *= 2;
+        }
+    }
+}
+
 // Waits until a script has its answer, or was taken back: then there is none. What fails is tried again for three seconds.
-fn wait_for_answer<R: Files<File = File> + Clock + Copy + Clone + Drop, E: Write>(
-    layout: &Layout<R>,
+fn wait_for_answer<E: Write>(
+    layout: &Layout,
     waiting: &mut Waiting,
     explanations: &mut E,
-) -> io::Result<Option<File>> {
-    let mut moment = Instant::now(&layout.rt)?;
-    let mut pause = LEAST_PAUSE;
-    let mut waited = 0u64;
-    let mut failing = 0u64;
-    let mut is_told = false;
+) -> Result<Option<File>, Refusal> {
+    let mut patience = Patience::new(&layout.rt)?;
     for _ in 0..u64::MAX {
-        let since = passed(&layout.rt, &mut moment)?;
-        waited = waited.saturating_add(since);
+        let since = patience.pass(&layout.rt)?;
         match waiting.look(layout, since) {
-            Ok(Found::Answer(file)) => return Ok(Some(file)),
-            Ok(Found::Back) => return Ok(None),
-            Ok(found) => {
-                failing = 0;
-                if !is_told && TELL <= waited {
-                    is_told = true;
-                    let is_claimed = matches!(found, Found::Claimed);
-                    // What can't be told is no reason to end.
-                    let _ = waiting.tell(layout, is_claimed, explanations);
+            Ok(Seen::Answer(file)) => return Ok(Some(file)),
+            Ok(Seen::Back) => return Ok(None),
+            Ok(seen) => {
+                if patience.look() {
+                    let is_claimed = matches!(seen, Seen::Claimed);
+                    waiting.tell(layout, is_claimed, explanations);
                 }
             }
-            Err(error) => {
-                failing = failing.saturating_add(since.min(MOST_STEP));
-                if failing >= NO_SERVER {
-                    return Err(error);
+            Err(refusal) => {
+                if patience.fail(since) {
+                    return Err(refusal);
                 }
             }
         }
-        thread::sleep(&layout.rt, Duration::from_millis(pause));
-        if pause < MOST_PAUSE {
-            pause *= 2;
-        }
+        patience.rest(&layout.rt);
     }
     Ok(None)
 }
 
 // Waits for the answer of a script that was left in a folder, and writes it on.
-fn wait<R: Files<File = File> + Clock + Copy + Clone + Drop, W: Write, E: Write>(
-    layout: &Layout<R>,
+fn wait<W: Write, E: Write>(
+    layout: &Layout,
     mut waiting: Waiting,
     writer: &mut W,
     explanations: &mut E,
@@ -343,8 +394,32 @@ fn wait<R: Files<File = File> + Clock + Copy + Clone + Drop, W: Write, E: Write>
     match wait_for_answer(layout, &mut waiting, explanations) {
         Ok(Some(file)) => waiting.take_answer(layout, file, writer),
         Ok(None) => Submission::NotTaken,
-        Err(error) => Submission::Lost(waiting.name, error),
+        Err(refusal) => Submission::Lost(waiting.name, io::Error::from(refusal)),
     }
+}
+
+// Leaves a script in the folder; none where it can't be read to its end.
+fn leave<S: Read>(
+    layout: &Layout,
+    process: u32,
+    begin: &[u8],
+    script: &mut S,
+    seconds: Option<u32>,
+) -> Result<Option<Waiting>, Refusal> {
+    let name = fresh_name(&layout.rt, layout.alloc, process)?;
+    let Some(made) = put(layout, name.as_str(), begin, script)? else {
+        return Ok(None);
+    };
+    let most = match seconds {
+        Some(seconds) => Some(u64::from(seconds) * 1000),
+        None => None,
+    };
+    Ok(Some(Waiting {
+        name,
+        made,
+        most,
+        unclaimed: 0,
+    }))
 }
 
 /// Leaves a script in the folder, the bytes given and then those of the reader, waits for its answer, copies that to the writer and takes
@@ -355,8 +430,8 @@ fn wait<R: Files<File = File> + Clock + Copy + Clone + Drop, W: Write, E: Write>
 /// next one does, by 55. Who waits is told so on `explanations` after a second.
 ///
 /// An `Err` where the script could not be left in the folder (56): nothing of it is done.
-pub fn submit<R: Files<File = File> + Clock + Copy + Clone + Drop, S: Read, W: Write, E: Write>(
-    layout: &Layout<R>,
+pub fn submit<S: Read, W: Write, E: Write>(
+    layout: &Layout,
     process: u32,
     begin: &[u8],
     script: &mut S,
@@ -364,23 +439,8 @@ pub fn submit<R: Files<File = File> + Clock + Copy + Clone + Drop, S: Read, W: W
     explanations: &mut E,
     seconds: Option<u32>,
 ) -> io::Result<Submission> {
-    let name = fresh_name(&layout.rt, layout.alloc, process)?;
-    let new = layout.file("new", name.as_str())?;
-    let done = layout.file("done", name.as_str())?;
-    let Some(made) = put(layout, name.as_str(), begin, script)? else {
-        return Ok(Submission::Unread);
-    };
-    let most = match seconds {
-        Some(seconds) => Some(u64::from(seconds) * 1000),
-        None => None,
-    };
-    let waiting = Waiting {
-        name,
-        new,
-        done,
-        made,
-        most,
-        unclaimed: 0,
-    };
-    Ok(wait(layout, waiting, writer, explanations))
+    match leave(layout, process, begin, script, seconds)? {
+        Some(waiting) => Ok(wait(layout, waiting, writer, explanations)),
+        None => Ok(Submission::Unread),
+    }
 }

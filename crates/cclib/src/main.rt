@@ -182,7 +182,7 @@ where
         Work::Serve(asked) => serve_folder(rt, files, &asked, persons.is_quiet, errors),
         Work::Submit(asked) => {
             let process = process::id(files.process());
-            submit_script(rt, process, &asked, persons, errors)
+            submit_script(rt, files, process, &asked, persons, errors)
         }
     }
 }

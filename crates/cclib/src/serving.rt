@@ -13,10 +13,8 @@ use cc_spool::{
     count_entries, recover, take_folder, wide_parts,
 };
 use std::alloc::{AllocError, Global};
-use std::fs::File;
 use std::io::{self, BufWriter, Print, Write};
 use std::process;
-use std::rt::{Clock, Files};
 use std::sync::Wait;
 use std::thread::Threads;
 
@@ -51,6 +49,14 @@ fn no_folder<W: Write, E: Write>(reason: NoFolder, folder: &str, writer: &mut W,
     1
 }
 
+// The word for so many of a thing: of one, or of any other number.
+fn word(count: u64, one: &'static str, more: &'static str) -> &'static str
+    ensures one { count ≡ 1 → result.now ≡ one.now }
+    ensures more { count ≢ 1 → result.now ≡ more.now }
+{
+    if count == 1 { one } else { more }
+}
+
 // Tells of the parts of a folder whose rights are wider than they should be.
 fn tell_wide<E: Write>(folder: &str, parts: &[WidePart], told: &mut E) -> io::Result<()> {
     for wide in parts {
@@ -66,15 +72,17 @@ fn tell_wide<E: Write>(folder: &str, parts: &[WidePart], told: &mut E) -> io::Re
 // Tells what an earlier server had left.
 fn tell_recovered<E: Write>(begun: u64, kept: usize, told: &mut E) -> io::Result<()> {
     if begun > 0 {
+        let scripts = word(begun, "script", "scripts");
         writeln!(
             told,
-            "cclib: {begun} scripts that an earlier server had begun are answered as interrupted"
+            "cclib: answered as interrupted: {begun} {scripts} that an earlier server had begun"
         )?;
     }
     if kept > 0 {
+        let answers = word(kept as u64, "answer", "answers");
         writeln!(
             told,
-            "cclib: {kept} answers of an earlier server can't be handed over yet"
+            "cclib: not handed over yet: {kept} {answers} of an earlier server"
         )?;
     }
     told.flush()
@@ -92,8 +100,8 @@ fn tell_crowded<E: Write>(folder: &str, waiting: usize, told: &mut E) -> io::Res
 }
 
 // Answers what an earlier server had begun; the names of the scripts for which that has to be tried again.
-fn clean_folder<R: Files<File = File> + Clock + Copy + Clone + Drop, E: Write>(
-    layout: &Layout<R>,
+fn clean_folder<E: Write>(
+    layout: &Layout,
     asked: &Server,
     told: &mut E,
 ) -> io::Result<Vec<String>> {
@@ -109,10 +117,7 @@ fn clean_folder<R: Files<File = File> + Clock + Copy + Clone + Drop, E: Write>(
 }
 
 // Takes the folder for this server.
-fn taken<R: Files<File = File> + Clock + Copy + Clone + Drop>(
-    layout: &mut Layout<R>,
-    process: u32,
-) -> Result<Held, NoFolder> {
+fn taken(layout: &mut Layout, process: u32) -> Result<Held, NoFolder> {
     match take_folder(layout, process) {
         Ok(Some(held)) => Ok(held),
         Ok(None) => Err(NoFolder::InUse),
@@ -122,9 +127,10 @@ fn taken<R: Files<File = File> + Clock + Copy + Clone + Drop>(
 
 // Tells that scripts are taken.
 fn tell_ready<E: Write>(folder: &str, clients: usize, told: &mut E) -> io::Result<()> {
+    let many = word(clients as u64, "client", "clients");
     writeln!(
         told,
-        "cclib: ready, taking scripts from {folder} by {clients} clients; `touch {folder}/stop` ends it"
+        "cclib: ready, taking scripts from {folder} by {clients} {many}; `touch {folder}/stop` ends it"
     )?;
     told.flush()
 }
@@ -136,10 +142,28 @@ fn tell_generation<E: Write>(generation: Generation, told: &mut E) -> io::Result
         GenerationEnd::Bytes => "its history is full",
         GenerationEnd::Scripts => "it took as many as it may",
     };
+    let Generation {
+        scripts,
+        entries,
+        bytes,
+        ..
+    } = generation;
+    let (done, calls) = (
+        word(scripts, "script", "scripts"),
+        word(entries, "call", "calls"),
+    );
     writeln!(
         told,
-        "cclib: {} scripts done, {} calls and {} bytes of history: {why}",
-        generation.scripts, generation.entries, generation.bytes
+        "cclib: {scripts} {done} done, {entries} {calls} and {bytes} bytes of history: {why}"
+    )?;
+    told.flush()
+}
+
+// Tells that what nobody fetched was not taken away.
+fn tell_uncleared<E: Write>(folder: &str, why: &io::Error, told: &mut E) -> io::Result<()> {
+    writeln!(
+        told,
+        "cclib: what is old in {folder} is not taken away: {why}"
     )?;
     told.flush()
 }
@@ -147,7 +171,7 @@ fn tell_generation<E: Write>(generation: Generation, told: &mut E) -> io::Result
 // Takes away what nobody fetched when a generation begins, and tells a person of the generations.
 #[derive(Drop)]
 struct Keeper {
-    layout: Layout<HostRuntime>,
+    layout: Layout,
     folder: String,
     clients: usize,
     // For how many days an answer is kept.
@@ -158,7 +182,9 @@ struct Keeper {
 impl Steward for Keeper {
     fn opened<E: Write>(&mut self, told: &mut E) {
         // What can't be removed stays.
-        let _ = clear_old(&self.layout, self.keep);
+        if let Err(why) = clear_old(&self.layout, self.keep) {
+            let _ = tell_uncleared(self.folder.as_str(), &why, told);
+        }
         if !self.is_ready {
             self.is_ready = true;
             let _ = tell_ready(self.folder.as_str(), self.clients, told);
@@ -170,11 +196,7 @@ impl Steward for Keeper {
     }
 }
 
-fn keeper_of(
-    alloc: Global,
-    layout: &Layout<HostRuntime>,
-    asked: &Server,
-) -> Result<Keeper, AllocError> {
+fn keeper_of(alloc: Global, layout: &Layout, asked: &Server) -> Result<Keeper, AllocError> {
     Ok(Keeper {
         layout: layout.again()?,
         folder: String::from_str(alloc, asked.folder.as_str())?,
@@ -185,12 +207,12 @@ fn keeper_of(
 }
 
 // A spool for each client, the first of which tries again what the start could not answer.
-fn spools_of<R: Files<File = File> + Clock + Copy + Clone + Drop>(
+fn spools_of(
     alloc: Global,
-    layout: &Layout<R>,
+    layout: &Layout,
     count: usize,
     kept: Vec<String>,
-) -> Result<Vec<FolderSpool<R>>, AllocError> {
+) -> Result<Vec<FolderSpool>, AllocError> {
     let mut spools = Vec::with_capacity(alloc, count)?;
     let mut first = FolderSpool::new(layout.again()?, u64::MAX);
     first.keep(kept);
@@ -209,9 +231,7 @@ struct Counts {
     has_failed: bool,
 }
 
-fn count_all<R: Files<File = File> + Clock + Copy + Clone + Drop>(
-    spools: &[FolderSpool<R>],
-) -> Counts {
+fn count_all(spools: &[FolderSpool]) -> Counts {
     let mut counts = Counts {
         answered: 0,
         kept: 0,
@@ -239,10 +259,11 @@ fn ended<W: Write, E: Write>(
     ensures failed { counts.has_failed ≡ true → result ≡ 1 }
 {
     if counts.kept > 0 {
+        let kept = counts.kept;
+        let answers = word(kept, "answer", "answers");
         let _ = writeln!(
             told,
-            "cclib: {} answers could not be handed over, and stay in cur for the next start",
-            counts.kept
+            "cclib: left in cur for the next start: {kept} {answers} that could not be handed over"
         );
         let _ = told.flush();
     }
@@ -262,7 +283,7 @@ fn ended<W: Write, E: Write>(
 // Serves a folder that was taken, over a library's disk; the status. The names are those of scripts that the start could not answer.
 fn serve_taken<R, W: Write, E: Write>(
     rt: &R,
-    layout: &Layout<HostRuntime>,
+    layout: &Layout,
     asked: &Server,
     kept: Vec<String>,
     disk: FileDisk,

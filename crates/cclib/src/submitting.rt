@@ -13,9 +13,7 @@ use cc_script::{Command, Dialect, ScriptFault, command_of};
 use cc_session::{explain_words, words_of};
 use cc_spool::{Layout, SpoolFault, Submission, fault_lines, source_in, submit};
 use std::alloc::{AllocError, Global};
-use std::fs::File;
 use std::io::{self, BufWriter, Input, Print, Read, Write};
-use std::rt::{Clock, Files};
 
 /// The most bytes of a source that are sent: one more than a source may have, so that the server sees that it is too long.
 const MOST_SOURCE: usize = 65_537;
@@ -128,18 +126,15 @@ fn sent_of<R: Input>(rt: &R, alloc: Global, line: Option<&String>) -> io::Result
 }
 
 // Leaves what is sent in the folder, and writes the answer.
-fn send<R, W: Write, E: Write>(
+fn send<R: Input, W: Write, E: Write>(
     rt: &R,
-    layout: &Layout<R>,
+    layout: &Layout,
     process: u32,
     wait: Option<u32>,
     sent: &Sent,
     writer: &mut W,
     watched: &mut E,
-) -> io::Result<Submission>
-where
-    R: Files<File = File> + Clock + Input + Copy + Clone + Drop,
-{
+) -> io::Result<Submission> {
     match sent {
         Sent::Script => submit(
             layout,
@@ -375,16 +370,14 @@ where
 }
 
 /// Leaves a script for the server of a folder, and prints its answer; the status. The error is lack of memory before it began.
-pub fn submit_script<R, E: Write + Drop>(
+pub fn submit_script<R: AllocGlobal + Input + Print, E: Write + Drop>(
     rt: &R,
+    files: &HostRuntime,
     process: u32,
     asked: &Client,
     persons: Persons,
     errors: E,
-) -> Result<u8, AllocError>
-where
-    R: AllocGlobal + Files<File = File> + Clock + Input + Print + Copy + Clone + Drop,
-{
+) -> Result<u8, AllocError> {
     let alloc = rt.alloc();
     let (Ok(mut writer), Ok(errors)) = (
         BufWriter::new(alloc, io::writer(rt)),
@@ -396,7 +389,7 @@ where
         errors,
         is_quiet: persons.is_quiet,
     };
-    let layout = Layout::new(*rt, alloc, asked.folder.as_str())?;
+    let layout = Layout::new(*files, alloc, asked.folder.as_str())?;
     let sent = match sent_of(rt, alloc, asked.line.as_ref()) {
         Ok(Some(sent)) => sent,
         Ok(None) => {

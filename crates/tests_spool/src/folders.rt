@@ -88,7 +88,7 @@ fn path_in(rt: &HostRuntime, folder: &str, part: &str, name: &str) -> io::Result
 }
 
 // A new folder with its parts, and its lock.
-fn made(rt: &HostRuntime, folder: &str) -> io::Result<(Layout<HostRuntime>, Held)> {
+fn made(rt: &HostRuntime, folder: &str) -> io::Result<(Layout, Held)> {
     let mut layout = Layout::new(*rt, rt.alloc(), folder)?;
     match take_folder(&mut layout, 1)? {
         Some(held) => Ok((layout, held)),
@@ -116,7 +116,7 @@ fn is_there(rt: &HostRuntime, folder: &str, part: &str, name: &str) -> io::Resul
 }
 
 // Takes what waits, and answers each; how many scripts that were.
-fn done(spool: &mut FolderSpool<HostRuntime>) -> io::Result<usize> {
+fn done(spool: &mut FolderSpool) -> io::Result<usize> {
     for count in 0..20 {
         let Some((script, mut answer)) = spool.next() else {
             return Ok(count);
@@ -260,23 +260,46 @@ fn what_a_kill_left(rt: HostRuntime) -> Result<(), Fail> {
     Ok(())
 }
 
+// When the answer of a script in `cur` was last written.
+fn written(rt: &HostRuntime, folder: &str, name: &str) -> io::Result<(i64, i64)> {
+    let path = format!(in rt.alloc(); "{folder}/cur/{name}.answer")?;
+    let found = fs::symlink_metadata(rt, path.as_str())?;
+    Ok((found.mtime(), found.mtime_nsec()))
+}
+
 #[test]
 fn what_a_start_could_not_hand_over(rt: HostRuntime) -> Result<(), Fail> {
     let folder = "what_a_start_could_not_hand_over.spool";
     let (layout, held) = made(&rt, folder)?;
-    leave(&rt, folder, STATES[2])?;
-    let bar = path_in(&rt, folder, "done", STATES[2].name)?;
-    fs::create_dir(&rt, bar.as_str())?;
+    // Three that were begun.
+    for state in &STATES[1..4] {
+        leave(&rt, folder, *state)?;
+        fs::create_dir(&rt, path_in(&rt, folder, "done", state.name)?.as_str())?;
+    }
     let Recovered { begun, kept } = recover(&layout)?;
-    assert!(rt; begun == 0 && kept.len() == 1);
+    assert!(rt; begun == 0 && kept.len() == 3);
     let mut spool = FolderSpool::new(layout, 100);
     spool.keep(kept);
+    for _ in 0..3 {
+        assert!(rt; done(&mut spool)? == 0);
+    }
+    assert!(rt; spool.answered() == 0 && spool.kept() == 3);
+    // An answer that is whole is not written again.
+    let moment = written(&rt, folder, STATES[2].name)?;
+    thread::sleep(&rt, Duration::from_millis(20));
+    for _ in 0..3 {
+        assert!(rt; done(&mut spool)? == 0);
+    }
+    assert!(rt; written(&rt, folder, STATES[2].name)? == moment);
+    for state in &STATES[1..4] {
+        fs::remove_dir(&rt, path_in(&rt, folder, "done", state.name)?.as_str())?;
+    }
+    // They go together.
     assert!(rt; done(&mut spool)? == 0);
-    assert!(rt; spool.answered() == 0 && spool.kept() == 1);
-    fs::remove_dir(&rt, bar.as_str())?;
-    assert!(rt; done(&mut spool)? == 0);
-    assert!(rt; spool.answered() == 1 && spool.kept() == 0);
-    assert!(rt; is_recovered(&rt, folder, STATES[2])?);
+    assert!(rt; spool.answered() == 3 && spool.kept() == 0);
+    for state in &STATES[1..4] {
+        assert!(rt; is_recovered(&rt, folder, *state)?);
+    }
     drop(spool);
     drop(held);
     fs::remove_dir_all(&rt, folder)?;
@@ -351,7 +374,7 @@ fn a_script_that_nobody_takes(rt: HostRuntime) -> Result<(), Fail> {
 // A server that answers when its client says that it waits.
 #[derive(Drop)]
 struct Server {
-    spool: FolderSpool<HostRuntime>,
+    spool: FolderSpool,
     text: &'static str,
 }
 
@@ -371,11 +394,7 @@ impl Write for Server {
 }
 
 // Claims the script that comes, gives its place in `new` to another one, and answers two seconds later.
-fn claims_and_replaces(
-    rt: HostRuntime,
-    folder: &str,
-    spool: &mut FolderSpool<HostRuntime>,
-) -> io::Result<()> {
+fn claims_and_replaces(rt: HostRuntime, folder: &str, spool: &mut FolderSpool) -> io::Result<()> {
     for _ in 0..1000 {
         let Some((script, mut answer)) = spool.next() else {
             continue;
@@ -422,6 +441,56 @@ fn another_script_in_the_place_of_a_claimed_one(rt: HostRuntime) -> Result<(), F
     );
     assert!(rt; !is_empty(&rt, folder, "new")? && is_empty(&rt, folder, "done")?);
     drop(spool);
+    drop(layout);
+    drop(held);
+    fs::remove_dir_all(&rt, folder)?;
+    Ok(())
+}
+
+// Puts another file with the same text and time in the place of the script that comes, as where a file's number belongs to its path.
+fn renumbers(rt: HostRuntime, folder: &str) -> io::Result<()> {
+    let part = format!(in rt.alloc(); "{folder}/new")?;
+    let copy = path_in(&rt, folder, "tmp", "copy")?;
+    for _ in 0..1000 {
+        thread::sleep(&rt, Duration::from_millis(1));
+        let Some(entry) = fs::read_dir(&rt, part.as_str())?.next() else {
+            continue;
+        };
+        let new = path_in(&rt, folder, "new", entry?.file_name())?;
+        let time = fs::symlink_metadata(&rt, new.as_str())?.modified()?;
+        fs::write(&rt, copy.as_str(), "list\n")?;
+        let file = OpenOptions::new().write(true).open(&rt, copy.as_str())?;
+        file.set_modified(time)?;
+        return fs::rename(&rt, copy.as_str(), new.as_str());
+    }
+    Err(io::Error::from(io::ErrorKind::TimedOut))
+}
+
+#[test]
+fn a_script_that_has_another_number(rt: HostRuntime) -> Result<(), Fail> {
+    let folder = "a_script_that_has_another_number.spool";
+    let (layout, held) = made(&rt, folder)?;
+    let mut written = Vec::new(rt.alloc());
+    let mut script = b"list\n".as_slice();
+    let (end, renumbered) = thread::join(
+        &rt,
+        || {
+            submit(
+                &layout,
+                1,
+                b"",
+                &mut script,
+                &mut written,
+                &mut io::sink(),
+                Some(1),
+            )
+        },
+        || renumbers(rt, folder),
+    );
+    renumbered?;
+    // It is known as the script that was left, and taken back.
+    assert!(rt; matches!(&end?, Submission::NotTaken) && written.is_empty());
+    assert!(rt; is_empty(&rt, folder, "new")?);
     drop(layout);
     drop(held);
     fs::remove_dir_all(&rt, folder)?;
@@ -538,10 +607,23 @@ fn what_is_cleared(rt: HostRuntime) -> Result<(), Fail> {
             fs::write(&rt, path.as_str(), "text")?;
         }
     }
+    // A script that waits, one that was claimed, and what a start that was killed tried these parts with.
+    for (part, name) in [
+        ("new", "waits"),
+        ("cur", "claimed"),
+        ("new", ".try-1"),
+        ("cur", ".try-2"),
+    ] {
+        fs::write(&rt, path_in(&rt, folder, part, name)?.as_str(), "text")?;
+    }
     thread::sleep(&rt, Duration::from_millis(1100));
     assert!(rt; clear_old(&layout, 1)? == 0);
-    assert!(rt; clear_old(&layout, 0)? == 1);
+    assert!(rt; clear_old(&layout, 0)? == 3);
     assert!(rt; !is_there(&rt, folder, "tmp", "old")?);
+    assert!(rt; is_there(&rt, folder, "new", "waits")? && is_there(&rt, folder, "cur", "claimed")?);
+    assert!(rt;
+        !is_there(&rt, folder, "new", ".try-1")? && !is_there(&rt, folder, "cur", ".try-2")?
+    );
     for name in [".hidden", "notes.txt", "link"] {
         assert!(rt; is_there(&rt, folder, "tmp", name)?);
     }
@@ -571,15 +653,21 @@ fn a_folder_that_was_moved(rt: HostRuntime) -> Result<(), Fail> {
     let folder = "a_folder_that_was_moved.spool";
     let moved = "a_folder_that_was_moved.old";
     let (layout, held) = made(&rt, folder)?;
+    // One client of two does nothing else meanwhile.
+    let mut busy = FolderSpool::new(layout.again()?, 100);
     let mut spool = FolderSpool::new(layout, 100);
     fs::rename(&rt, folder, moved)?;
     let (other, also_held) = made(&rt, folder)?;
     put(&rt, folder, ROWS[0])?;
     for _ in 0..100 {
         assert!(rt; !spool.is_over() && spool.next().is_none());
+        assert!(rt; spool.has_failed() || !busy.is_over());
     }
     assert!(rt; spool.is_over() && spool.has_failed());
+    // It would be the only one to go on, and is over too.
+    assert!(rt; busy.is_over() && busy.has_failed());
     assert!(rt; is_there(&rt, folder, "new", "plain")?);
+    drop(busy);
     drop(spool);
     drop(other);
     drop(held);
@@ -603,6 +691,34 @@ fn an_answer_whose_way_is_barred(rt: HostRuntime) -> Result<(), Fail> {
     assert!(rt; done(&mut spool)? == 0);
     assert!(rt; spool.answered() == 1 && spool.kept() == 0);
     assert!(rt; answer_of(&rt, folder, "plain")?.as_str() == "ok\n");
+    drop(spool);
+    drop(held);
+    fs::remove_dir_all(&rt, folder)?;
+    Ok(())
+}
+
+#[test]
+fn an_answer_that_was_moved_unseen(rt: HostRuntime) -> Result<(), Fail> {
+    let folder = "an_answer_that_was_moved_unseen.spool";
+    let (layout, held) = made(&rt, folder)?;
+    put(&rt, folder, ROWS[0])?;
+    let mut spool = FolderSpool::new(layout, 1);
+    let taken = spool.next();
+    assert!(rt; taken.is_some());
+    if let Some((script, mut answer)) = taken {
+        answer.write_all(b"ok\n")?;
+        // As where a call is done over a network, its answer is lost, and it is made again.
+        let from = path_in(&rt, folder, "cur", "plain.answer")?;
+        fs::rename(
+            &rt,
+            from.as_str(),
+            path_in(&rt, folder, "done", "plain")?.as_str(),
+        )?;
+        spool.deliver(script, answer, None);
+    }
+    assert!(rt; spool.answered() == 1 && spool.kept() == 0);
+    assert!(rt; answer_of(&rt, folder, "plain")?.as_str() == "ok\n");
+    assert!(rt; is_empty(&rt, folder, "cur")?);
     drop(spool);
     drop(held);
     fs::remove_dir_all(&rt, folder)?;

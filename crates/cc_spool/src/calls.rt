@@ -1,0 +1,232 @@
+// The calls of the file system that the spool makes, each by the place of a file in the folder.
+//
+// Whoever makes one meets a number that is copied where it is refused, and no path.
+
+use crate::entries::Entries;
+use crate::found::Found;
+use crate::layout::Layout;
+use crate::place::Place;
+use crate::refusal::Refusal;
+use std::alloc::AllocError;
+use std::fs::{self, DirBuilder, File, OpenOptions, Permissions, TryLockError};
+use std::os::unix::fs::{DirBuilderExt, FileExt, OpenOptionsExt, PermissionsExt};
+
+/// A path, where there is memory for it.
+type Path = Result<String, AllocError>;
+
+/// Settles what was written to a file, or the names in a directory.
+pub(crate) fn settle(file: &File) -> Result<(), Refusal> {
+    file.sync_all()?;
+    Ok(())
+}
+
+/// Writes these bytes to a file from this place on.
+pub(crate) fn write_at(file: &File, bytes: &[u8], at: u64) -> Result<(), Refusal> {
+    file.write_all_at(bytes, at)?;
+    Ok(())
+}
+
+/// Reads as many bytes of a file from this place on as there is room for.
+pub(crate) fn read_at(file: &File, room: &mut [u8], at: u64) -> Result<(), Refusal> {
+    file.read_exact_at(room, at)?;
+    Ok(())
+}
+
+/// Makes a file so many bytes long.
+pub(crate) fn set_length(file: &File, bytes: u64) -> Result<(), Refusal> {
+    file.set_len(bytes)?;
+    Ok(())
+}
+
+/// Takes the lock of a file; whether nobody else has it.
+pub(crate) fn take_lock(file: &File) -> Result<bool, Refusal> {
+    match file.try_lock() {
+        Ok(()) => Ok(true),
+        Err(TryLockError::WouldBlock) => Ok(false),
+        Err(TryLockError::Error(error)) => Err(Refusal::from(error)),
+    }
+}
+
+/// Whether somebody has the lock of a file. A shared lock tells, which is let go with the file.
+pub(crate) fn is_locked(file: &File) -> Result<bool, Refusal> {
+    match file.try_lock_shared() {
+        Ok(()) => Ok(false),
+        Err(TryLockError::WouldBlock) => Ok(true),
+        Err(TryLockError::Error(error)) => Err(Refusal::from(error)),
+    }
+}
+
+// Makes a file's rights these, whatever the process takes from them.
+fn set_file_rights(file: &File, rights: u32) -> Result<(), Refusal> {
+    file.set_permissions(Permissions::from_mode(rights))?;
+    Ok(())
+}
+
+impl Layout {
+    // What is at a path, if something is; a link is not followed.
+    fn look_along(&self, path: Path) -> Result<Option<Found>, Refusal> {
+        let path = path?;
+        let told = match fs::symlink_metadata(&self.rt, path.as_str()) {
+            Ok(told) => Ok(Some(Found::of(&told))),
+            Err(error) => Err(Refusal::from(error)),
+        };
+        match told {
+            Err(refusal) if refusal.is_absent() => Ok(None),
+            told => told,
+        }
+    }
+
+    fn remove_along(&self, path: Path) -> Result<(), Refusal> {
+        let path = path?;
+        fs::remove_file(&self.rt, path.as_str())?;
+        Ok(())
+    }
+
+    fn rename_along(&self, from: Path, to: Path) -> Result<(), Refusal> {
+        let (from, to) = (from?, to?);
+        fs::rename(&self.rt, from.as_str(), to.as_str())?;
+        Ok(())
+    }
+
+    fn open_along(&self, how: &OpenOptions, path: Path) -> Result<File, Refusal> {
+        let path = path?;
+        Ok(how.open(&self.rt, path.as_str())?)
+    }
+
+    /// What is at a script's place, if something is; a link is not followed. An `Err` where that is not known.
+    pub(crate) fn look(&self, place: Place, name: &str) -> Result<Option<Found>, Refusal> {
+        self.look_along(self.path_of(place, name))
+    }
+
+    /// Whether it is known that a regular file is there, and no link to one.
+    pub(crate) fn is_file(&self, place: Place, name: &str) -> bool {
+        match self.look(place, name) {
+            Ok(Some(found)) => found.is_file(),
+            _ => false,
+        }
+    }
+
+    /// Whether it is known that nothing is there.
+    pub(crate) fn is_free(&self, place: Place, name: &str) -> bool {
+        matches!(self.look(place, name), Ok(None))
+    }
+
+    /// Opens a file that is there for reading.
+    pub(crate) fn open(&self, place: Place, name: &str) -> Result<File, Refusal> {
+        self.open_along(OpenOptions::new().read(true), self.path_of(place, name))
+    }
+
+    /// Opens a file that is there for reading and writing.
+    pub(crate) fn open_to_write(&self, place: Place, name: &str) -> Result<File, Refusal> {
+        let mut how = OpenOptions::new();
+        how.read(true).write(true);
+        self.open_along(&how, self.path_of(place, name))
+    }
+
+    /// Takes a file away.
+    pub(crate) fn remove(&self, place: Place, name: &str) -> Result<(), Refusal> {
+        self.remove_along(self.path_of(place, name))
+    }
+
+    /// Moves a script's file to another place, where it replaces what is there.
+    pub(crate) fn rename(&self, name: &str, from: Place, to: Place) -> Result<(), Refusal> {
+        self.rename_along(self.path_of(from, name), self.path_of(to, name))
+    }
+
+    /// Gives a script's file another place too, where nothing is there.
+    pub(crate) fn link(&self, name: &str, from: Place, to: Place) -> Result<(), Refusal> {
+        let (from, to) = (self.path_of(from, name)?, self.path_of(to, name)?);
+        fs::hard_link(&self.rt, from.as_str(), to.as_str())?;
+        Ok(())
+    }
+
+    /// A new file for writing, with the rights of the folder's files.
+    pub(crate) fn make(&self, place: Place, name: &str) -> Result<File, Refusal> {
+        let mut how = OpenOptions::new();
+        how.write(true).create_new(true).mode(0o600);
+        let file = self.open_along(&how, self.path_of(place, name))?;
+        match set_file_rights(&file, self.file_rights) {
+            Ok(()) => Ok(file),
+            Err(refusal) => {
+                drop(file);
+                let _ = self.remove(place, name);
+                Err(refusal)
+            }
+        }
+    }
+
+    /// What is at the path of a part, if something is; a link is not followed. An `Err` where that is not known.
+    pub(crate) fn look_at(&self, part: &str) -> Result<Option<Found>, Refusal> {
+        self.look_along(self.part(part))
+    }
+
+    /// Whether something is at the path of a part. An `Err` where that is not known.
+    pub(crate) fn has(&self, part: &str) -> Result<bool, Refusal> {
+        match self.look_at(part) {
+            Ok(found) => Ok(found.is_some()),
+            Err(refusal) => Err(refusal),
+        }
+    }
+
+    /// Opens a part for reading, a directory too.
+    pub(crate) fn open_part(&self, part: &str) -> Result<File, Refusal> {
+        self.open_along(OpenOptions::new().read(true), self.part(part))
+    }
+
+    /// Opens `lock`, and makes it where it is not there.
+    pub(crate) fn open_lock(&self) -> Result<File, Refusal> {
+        let mut how = OpenOptions::new();
+        how.read(true).write(true).create(true);
+        self.open_along(&how, self.part("lock"))
+    }
+
+    /// Takes a part away that is a file.
+    pub(crate) fn remove_part(&self, part: &str) -> Result<(), Refusal> {
+        self.remove_along(self.part(part))
+    }
+
+    /// Takes a part away that is an empty directory.
+    pub(crate) fn remove_directory(&self, part: &str) -> Result<(), Refusal> {
+        let path = self.part(part)?;
+        fs::remove_dir(&self.rt, path.as_str())?;
+        Ok(())
+    }
+
+    /// Makes a directory that the server alone may use.
+    pub(crate) fn make_directory(&self, part: &str) -> Result<(), Refusal> {
+        let path = self.part(part)?;
+        let mut how = DirBuilder::new();
+        how.mode(0o700);
+        how.create(&self.rt, path.as_str())?;
+        Ok(())
+    }
+
+    /// Makes the folder, and what is above it, with 0755 as far as the process leaves that.
+    pub(crate) fn make_folder(&self) -> Result<(), Refusal> {
+        let mut how = DirBuilder::new();
+        how.recursive(true).mode(0o755);
+        how.create(&self.rt, self.path.as_str())?;
+        Ok(())
+    }
+
+    /// Makes the rights of a part these.
+    pub(crate) fn set_rights(&self, part: &str, rights: u32) -> Result<(), Refusal> {
+        let path = self.part(part)?;
+        fs::set_permissions(&self.rt, path.as_str(), Permissions::from_mode(rights))?;
+        Ok(())
+    }
+
+    /// Gives a part another name.
+    pub(crate) fn rename_part(&self, from: &str, to: &str) -> Result<(), Refusal> {
+        self.rename_along(self.part(from), self.part(to))
+    }
+
+    /// The entries of a part.
+    pub(crate) fn entries(&self, part: &str) -> Result<Entries, Refusal> {
+        let path = self.part(part)?;
+        match fs::read_dir(&self.rt, path.as_str()) {
+            Ok(entries) => Ok(Entries::new(self.alloc, entries)),
+            Err(error) => Err(Refusal::from(error)),
+        }
+    }
+}

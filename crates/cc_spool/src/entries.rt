@@ -1,0 +1,55 @@
+// The entries of a part, one by one.
+
+use crate::refusal::Refusal;
+use std::alloc::Global;
+use std::fs::ReadDir;
+use std::io;
+
+/// The entries of a part, in no order.
+#[derive(Drop)]
+pub(crate) struct Entries {
+    alloc: Global,
+    entries: ReadDir,
+}
+
+/// What comes next of the entries of a part.
+#[derive(Drop)]
+pub(crate) enum Entry {
+    Named(String),
+    /// One whose name is no UTF-8.
+    Odd,
+    /// One that can't be told. There may be more behind it.
+    Refused(Refusal),
+    /// Nothing.
+    End,
+}
+
+fn refused(error: io::Error) -> Entry {
+    if error.kind() == io::ErrorKind::InvalidFilename {
+        Entry::Odd
+    } else {
+        Entry::Refused(Refusal::from(error))
+    }
+}
+
+impl Entries {
+    pub(crate) fn new(alloc: Global, entries: ReadDir) -> Entries {
+        Entries { alloc, entries }
+    }
+
+    fn named(&self, name: &str) -> Entry {
+        match String::from_str(self.alloc, name) {
+            Ok(name) => Entry::Named(name),
+            Err(_) => Entry::Refused(Refusal::NoMemory),
+        }
+    }
+
+    /// The next entry.
+    pub(crate) fn next(&mut self) -> Entry {
+        match self.entries.next() {
+            None => Entry::End,
+            Some(Ok(entry)) => self.named(entry.file_name()),
+            Some(Err(error)) => refused(error),
+        }
+    }
+}

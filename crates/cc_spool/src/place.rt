@@ -1,0 +1,38 @@
+// Where the files of a script stand.
+
+use crate::names::ANSWER;
+
+/// Where a file of a script stands.
+#[derive(Clone, Copy, Drop)]
+pub(crate) enum Place {
+    /// `tmp/ID`: the script, being written.
+    Written,
+    /// `new/ID`: the script, when it waits.
+    Waiting,
+    /// `cur/ID`: the script, when it was claimed.
+    Claimed,
+    /// `cur/ID.answer`: its answer, being written.
+    Answer,
+    /// `done/ID`: its answer, whole.
+    Done,
+}
+
+impl Place {
+    /// The part of the folder that has it.
+    pub(crate) fn part(self) -> &'static str {
+        match self {
+            Place::Written => "tmp",
+            Place::Waiting => "new",
+            Place::Claimed | Place::Answer => "cur",
+            Place::Done => "done",
+        }
+    }
+
+    /// What its name has behind that of the script.
+    pub(crate) fn ending(self) -> &'static str {
+        match self {
+            Place::Answer => ANSWER,
+            _ => "",
+        }
+    }
+}

@@ -1,0 +1,85 @@
+// Why a call in a folder was refused.
+//
+// An `io::Error` carries its words, and each function that hands one on is proved to move them. In here a refusal is the system's number, or
+// which of the spool's own it is; the words come back where it leaves the crate.
+
+use std::alloc::AllocError;
+use std::io;
+
+/// The system's number where nothing is at a path.
+const NOT_FOUND: i32 = 2;
+
+/// Why a call in a folder was refused.
+#[derive(Clone, Copy, Drop)]
+pub(crate) enum Refusal {
+    /// The system refused it, with this number.
+    System(i32),
+    /// There is no memory.
+    NoMemory,
+    /// It did less than it was asked for.
+    CutShort,
+    /// `lock` is no regular file.
+    NoLock,
+    /// `lock` is not the file that the server holds.
+    NotHeld,
+    /// The folder has no `cur`.
+    NoFolder,
+    /// The folder has parts, and no `lock`.
+    NoSpool,
+    /// The folder or a part of it is not the server's.
+    NotOwn,
+}
+
+impl Refusal {
+    /// Whether nothing is at the path.
+    pub(crate) fn is_absent(self) -> bool {
+        match self {
+            Refusal::System(number) => number == NOT_FOUND,
+            _ => false,
+        }
+    }
+}
+
+impl From<AllocError> for Refusal {
+    fn from(_error: AllocError) -> Refusal {
+        Refusal::NoMemory
+    }
+}
+
+impl From<io::Error> for Refusal {
+    fn from(error: io::Error) -> Refusal {
+        match error.raw_os_error() {
+            Some(number) => Refusal::System(number),
+            None if error.kind() == io::ErrorKind::OutOfMemory => Refusal::NoMemory,
+            None => Refusal::CutShort,
+        }
+    }
+}
+
+impl From<Refusal> for io::Error {
+    fn from(refusal: Refusal) -> io::Error {
+        let (kind, words) = match refusal {
+            Refusal::System(number) => return io::Error::from_raw_os_error(number),
+            Refusal::NoMemory => return io::Error::from(AllocError),
+            Refusal::CutShort => (
+                io::ErrorKind::UnexpectedEof,
+                "a call did less than it was asked for",
+            ),
+            Refusal::NoLock => (io::ErrorKind::InvalidInput, "`lock` is no regular file"),
+            Refusal::NotHeld => (
+                io::ErrorKind::NotFound,
+                "`lock` is not the file that the server holds",
+            ),
+            Refusal::NoFolder => (io::ErrorKind::NotFound, "the folder has no `cur`"),
+            Refusal::NoSpool => (
+                io::ErrorKind::AlreadyExists,
+                "it has `cur`, `tmp`, `new` or `done` but no `lock`, so it is no spool",
+            ),
+            Refusal::NotOwn => (
+                io::ErrorKind::PermissionDenied,
+                "a part is no directory, or belongs to another user or group than the server",
+            ),
+        };
+        io::Error::new(kind, words)
+    }
+}
