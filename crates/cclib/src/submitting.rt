@@ -340,7 +340,7 @@ fn finish_source<R: AllocGlobal, W: Write, E: Write>(
 }
 
 // Leaves what is sent in the folder, writes the answer, and tells a person of it; the status.
-fn leave<R, W: Write, E: Write>(
+fn leave<R, W: Write, E: Write + Drop>(
     rt: &R,
     layout: &Layout<R>,
     process: u32,
