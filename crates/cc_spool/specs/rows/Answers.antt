@@ -1,6 +1,6 @@
 -- Worked answers, each by computation.
-use Rattle.std.specs.Prelude.{◌≡◌, refl, ◌++◌, Some, None, codes}
-use Rattle.cc_spool.specs.Answer.{framed, tells}
+use Rattle.std.specs.Prelude.{◌≡◌, refl, Some, None, codes}
+use Rattle.cc_spool.specs.Answer.{tells}
 
 nothing : tells (codes "") ≡ None
 nothing = refl
@@ -13,17 +13,14 @@ the_last = refl
 
 -- ---- sources
 
-frame : framed (codes "int main(void){}") ≡ codes "source 16\nint main(void){}\n"
-frame = refl
-
 -- no line of a source counts
-in_a_source : tells (framed (codes "fault 1 x\nfault 2 y")) ≡ None
+in_a_source : tells (codes "source 19\nfault 1 x\nfault 2 y\n") ≡ None
 in_a_source = refl
 
-behind_a_source : tells (codes "fault 32 Absent\n" ++ framed (codes "fault 1 x\n") ++ codes "fault 55 Interrupted\n") ≡ Some 55
+behind_a_source : tells (codes "fault 32 Absent\nsource 10\nfault 1 x\n\nfault 55 Interrupted\n") ≡ Some 55
 behind_a_source = refl
 
-empty : tells (framed (codes "") ++ codes "fault 33 BadName\n") ≡ Some 33
+empty : tells (codes "source 0\n\nfault 33 BadName\n") ≡ Some 33
 empty = refl
 
 -- ---- answers that end within one
