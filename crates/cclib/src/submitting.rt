@@ -340,19 +340,16 @@ fn finish_source<R: AllocGlobal, W: Write, E: Write>(
 }
 
 // Leaves what is sent in the folder, writes the answer, and tells a person of it; the status.
-fn leave<R, W: Write, E: Write + Drop>(
+fn leave<R: AllocGlobal + Input, W: Write, E: Write + Drop>(
     rt: &R,
-    layout: &Layout<R>,
+    layout: &Layout,
     process: u32,
     asked: &Client,
     sent: &Sent,
     persons: Persons,
     writer: &mut W,
     told: &mut Telling<E>,
-) -> u8
-where
-    R: AllocGlobal + Files<File = File> + Clock + Input + Copy + Clone + Drop,
-{
+) -> u8 {
     let wait = asked.wait;
     // That it waits is told to who sees it, and not to a file.
     told.is_quiet = persons.is_quiet || !persons.is_watched;
