@@ -69,7 +69,7 @@ module _ {D : Type 0} (failures : D → ℕ) (before : BookView D) (old : Holder
   turned_down_where_err (Err (book.Exists receipt)) refused = record { command = command; asked = (refl, exists_is before.library.units command refused.recorded.replied); answered = refused.recorded.answered }
   turned_down_where_err (Err (book.Absent receipt)) refused = record { command = command; asked = (refl, absent_is before.library.units command refused.recorded.replied); answered = refused.recorded.answered }
   turned_down_where_err (Err (book.Estranged number found)) (_, stranger, _, same) =
-      (record { last = stranger.0; is_last = stranger.1; number_is = stranger.2; found_is = λ is. stranger.4 (sym stranger.3 ∙ is) }, same)
+      (record { last = stranger.0; is_last = stranger.1; number_is = stranger.2.0; found_is = λ is. stranger.2.2 (sym stranger.2.1 ∙ is) }, same)
   turned_down_where_err (Err book.Full) (_, _, _, same) = same
   turned_down_where_err (Err book.DiskFault) (_, _, _, _, same) = same
   turned_down_where_err (Err book.Closed) (_, _, same) = same
