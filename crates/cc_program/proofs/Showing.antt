@@ -1,5 +1,5 @@
 -- Why stages are not shown: what `program` says of a text and `stages` of its unit, said of what is shown of the text.
-use Rattle.std.proofs.Common.{◌≡◌, ℕ, ⊥, List, absurd, refl, tt}
+use Rattle.std.proofs.Common.{◌≡◌, ℕ, List, refl}
 use Rattle.cc_stages.specs.declared.fault.StagesFault.{StagesFault}
 use Rattle.cc_stages.specs.declared.fault.StagesFault.TheVariants as stages
 use Rattle.cc_program.specs.Answer.{IsRefused}

@@ -1,6 +1,6 @@
 // Showing what the compiler makes of a text's functions, over any reader and writer.
 
-ghost use Rattle.std.specs.Prelude.{◌≡◌, ◌≤◌, ⊥, IsErrOf, IfErr, MatchOption};
+ghost use Rattle.std.specs.Prelude.{◌≡◌, ◌≤◌, IsErrOf, IfErr, MatchOption};
 ghost use Rattle.cc_program.specs.internal.Shown.{IsUnknown, IsTextRefused};
 ghost use Rattle.cc_program.specs.internal.Stages.{fault_of_stages};
 ghost use Rattle.cc_program.specs.declared.fault.Fault.TheVariants.{UnknownFunction};
