@@ -95,7 +95,7 @@ fn servers(rt: HostRuntime) {
 }
 
 // Command lines of clients of the folder `spool`, with the line of a script that each asks for, and for how many seconds it waits.
-static CLIENTS: [(&[&str], Option<&str>, Option<u32>); 5] = [
+static CLIENTS: [(&[&str], Option<&str>, Option<u32>); 7] = [
     (&["cclib", "submit", "spool"], None, None),
     (
         &["cclib", "submit", "spool", "add", "quotient"],
@@ -113,6 +113,23 @@ static CLIENTS: [(&[&str], Option<&str>, Option<u32>); 5] = [
         &["cclib", "submit", "spool", "--wait=1", "list"],
         Some("list"),
         Some(1),
+    ),
+    (
+        &["cclib", "submit", "spool", "image", "quotient"],
+        Some("image quotient"),
+        None,
+    ),
+    (
+        &[
+            "cclib",
+            "submit",
+            "--wait=60",
+            "spool",
+            "source",
+            "quotient",
+        ],
+        Some("source quotient"),
+        Some(60),
     ),
     (
         &["cclib", "submit", "spool", "hello", "world"],
