@@ -1,0 +1,329 @@
+#!/usr/bin/env python3
+"""What a server's clients wait for, and what it takes: times and memory of `serve` and `submit`, as processes.
+
+submits.py memory [SECONDS [SUBMITTERS]]   for so long (600), so many submitters (24) replace, run and list units, small and large: the server's
+                                           resident memory each second; the most of the second half has to be 1.1 times that of the first at
+                                           most, and below 512 MiB
+submits.py waiting [COUNT]                 COUNT scripts (10,000) wait when the server begins: how long it takes until all are answered
+submits.py rates [COUNT]                   scripts of one `add` a second, COUNT (480) by 1, 4 and 16 submitters, by those of `library` that is fed
+                                           the same commands, and by the commits of sqlite (sqlite.c: WAL, synchronous FULL) with as many clients
+                                           and bytes; three rounds in turn, the best of each. Needs libsqlite3-dev
+submits.py latency [COUNT]                 what one `submit add` takes, COUNT times (100), when the server is idle, and when four other submitters
+                                           keep it busy; by one `add` of `library`, and by a process that does nothing
+submits.py ends [SECONDS]                  for so long (120), 16 submitters with units so large that generations end; the longest that one of them
+                                           waits for `list`, when a generation ends and when not; then the same while one script runs a unit of
+                                           10^9 steps again and again: how long the others wait for its end
+
+--program PROGRAM takes another program than crates/cclib/out/cclib, --folder FOLDER another place than the system's for temporary files. All
+print the load of the machine."""
+
+import os
+import random
+import re
+import shutil
+import statistics
+import subprocess
+import sys
+import threading
+import time
+
+import serve
+import session
+
+UNIT = session.UNIT
+LARGE = session.large()
+LOOP = "int main(void){int i;for(i=0;i>=0;i++)if(i==2000000000)i=0;return 0;}"
+
+
+def told_load():
+    print(f"load {', '.join(f'{it:.1f}' for it in os.getloadavg())} on {os.cpu_count()} processors", flush=True)
+
+
+def begun(area=1 << 24, *options):
+    place = serve.Place()
+    server = place.start("--format", str(area), *options)
+    place.wait_ready()
+    return place, server
+
+
+def ended(place, server):
+    place.stop(server)
+    shutil.rmtree(place.work)
+
+
+def at_once(count, work):
+    """So many threads, each of which does that with its number."""
+    faults = []
+
+    def done(number):
+        try:
+            work(number)
+        except (serve.Wrong, subprocess.TimeoutExpired, OSError) as fault:
+            faults.append(fault)
+
+    threads = [threading.Thread(target=done, args=(it,)) for it in range(count)]
+    for it in threads:
+        it.start()
+    for it in threads:
+        it.join()
+    if faults:
+        raise serve.Wrong(faults[0])
+
+
+def put_unit(place, name, text):
+    """Puts a unit under a name; where there is no room, a compaction comes before."""
+    for _ in range(10):
+        done = place.submit("replace", name, script=text)
+        if done.stdout == "fault 32 Absent\n":
+            done = place.submit("add", name, script=text)
+        if done.stdout != "fault 34 Full\n":
+            break
+        place.submit("compact")
+    serve.must(re.fullmatch(r"ok \d+\n", done.stdout), f"a unit was not put: {done}")
+
+
+# ---- memory
+
+
+def resident(process):
+    with open(f"/proc/{process.pid}/status") as file:
+        return next(int(it.split()[1]) for it in file if it.startswith("VmRSS:")) / 1024
+
+
+def memory(seconds=600, submitters=24):
+    place, server = begun(1 << 26, "--clients", "16")
+    end, count = time.time() + seconds, [0] * submitters
+
+    def work(number):
+        chance = random.Random(number)
+        while time.time() < end:
+            put_unit(place, f"s{number}", LARGE if chance.random() < 0.5 else UNIT)
+            place.submit(script=f"list\nrun s{number} 100000\n" * 4)
+            count[number] += 2
+
+    samples = []
+    worker = threading.Thread(target=at_once, args=(submitters, work))
+    worker.start()
+    while worker.is_alive():
+        samples.append(resident(server))
+        time.sleep(1)
+    worker.join()
+    place.stop(server)
+    half = len(samples) // 2
+    first, last = max(samples[:half]), max(samples[half:])
+    with open(f"{place.work}/told") as file:
+        generations = sum("bytes of history" in it for it in file)
+    print(f"{submitters} submitters, {len(samples)} s, {sum(count)} scripts, {generations} generations: resident at most {first:.1f} MiB in the "
+          f"first half, {last:.1f} in the second, ratio {last / first:.3f}")
+    told_load()
+    serve.must(last <= 1.1 * first and last < 512, "too much memory")
+    shutil.rmtree(place.work)
+
+
+# ---- many that wait
+
+
+def waiting(count=10_000):
+    place, server = begun(1 << 24, "--clients", "16")
+    place.stop(server)
+    for number in range(count):
+        serve.put(place, f"w{number:06}", f"add u{number} {len(UNIT)}\n{UNIT}\n" if number % 10 == 0 else "list\n" if number % 100 == 5 else f"run u0 {number}\n")
+    begin = time.perf_counter()
+    server = place.start("--clients", "16")
+    while os.listdir(place.file("new")) or len(os.listdir(place.file("done"))) < count:
+        serve.must(server.poll() is None, "the server ended")
+        time.sleep(0.02)
+    took = time.perf_counter() - begin
+    for number in range(0, count, 10):
+        with open(place.file("done", f"w{number:06}")) as file:
+            said = file.read()
+        serve.must(re.fullmatch(r"ok \d+\n", said), f"the answer of {number}: {said!r}")
+    place.stop(server)
+    print(f"{count} scripts that waited, every tenth an `add`: answered in {took:.1f} s, {count / took:.0f} a second")
+    told_load()
+    shutil.rmtree(place.work)
+
+
+# ---- rates
+
+
+def submit_rate(count, submitters):
+    """Scripts of one `add` a second. A shell sends them, since a process of Python's takes longer to begin than a script to be done."""
+    place, server = begun(1000 * count, "--clients", "16")
+    each = count // submitters
+    source = f"{place.work}/unit.c"
+    with open(source, "w") as file:
+        file.write(UNIT)
+    loop = 'i=0; while [ $i -lt "$3" ]; do "$0" submit "$1" add "s$2_$i" < "$4" || exit 1; i=$((i+1)); done'
+    begin = time.perf_counter()
+    shells = [subprocess.Popen(["sh", "-c", loop, place.program, place.spool, str(it), str(each), source], stdout=subprocess.DEVNULL) for it in range(submitters)]
+    statuses = [it.wait() for it in shells]
+    took = time.perf_counter() - begin
+    serve.must(not any(statuses), f"a submit ended with {statuses}")
+    ended(place, server)
+    return each * submitters / took
+
+
+def library_rate(count):
+    place = serve.Place()
+    place.library("", "--format", str(1000 * count))
+    script = "".join(f"add u{it} {len(UNIT)}\n{UNIT}\n" for it in range(count))
+    begin = time.perf_counter()
+    lines = place.library(script)
+    took = time.perf_counter() - begin
+    serve.must(lines == [f"ok {it + 1}" for it in range(count)], f"{lines[-1:]}")
+    with open(place.disk, "rb") as file:
+        length = int.from_bytes(file.read()[17:21], "little")
+    shutil.rmtree(place.work)
+    return count / took, length
+
+
+def sqlite_rate(program, count, clients, length):
+    place = serve.Place()
+    said = subprocess.run([program, "put", f"{place.work}/base", str(clients), str(count // clients), str(length)], capture_output=True, text=True, check=True).stdout.split()
+    shutil.rmtree(place.work)
+    serve.must(int(said[0]) == count // clients * clients, f"sqlite acknowledged {said[0]}")
+    return int(said[0]) / int(said[1]) * 1e9
+
+
+def rates(count=480):
+    work = serve.Place()
+    program = f"{work.work}/sqlite"
+    subprocess.run(["gcc", "-O2", "-pthread", "-o", program, os.path.join(serve.HERE, "sqlite.c"), "-lsqlite3"], check=True)
+    best = {}
+    for _ in range(3):
+        fed, length = library_rate(count)
+        best["library"] = max(fed, best.get("library", 0))
+        for clients in (1, 4, 16):
+            best["submit", clients] = max(submit_rate(count, clients), best.get(("submit", clients), 0))
+            best["sqlite", clients] = max(sqlite_rate(program, count, clients, length), best.get(("sqlite", clients), 0))
+    print(f"`library` fed {count} `add`s of {len(UNIT)} bytes: {best['library']:.0f} a second")
+    for clients in (1, 4, 16):
+        ours, theirs = best["submit", clients], best["sqlite", clients]
+        print(f"{clients} submitters, scripts of one `add`: {ours:.0f} a second, by `library` {ours / best['library']:.3f}, by sqlite's {theirs:.0f} {ours / theirs:.3f}")
+    told_load()
+    shutil.rmtree(work.work)
+
+
+# ---- latency
+
+
+def timed(work, count, pause=0.0):
+    times = []
+    for number in range(count):
+        time.sleep(pause)
+        begin = time.perf_counter()
+        work(number)
+        times.append((time.perf_counter() - begin) * 1000)
+    return times
+
+
+def told_times(what, times):
+    ordered = sorted(times)
+    print(f"{what}: median {statistics.median(ordered):.1f} ms, least {ordered[0]:.1f}, nine of ten below {ordered[len(ordered) * 9 // 10]:.1f}, most {ordered[-1]:.1f}")
+
+
+def latency(count=100):
+    place, server = begun(1 << 24, "--clients", "8")
+    add = lambda kind: lambda it: serve.must(place.submit("add", f"{kind}{it}", script=UNIT).returncode == 0, "an add")
+    told_times("a process that does nothing (`--version`)", timed(lambda _: subprocess.run([place.program, "--version"], capture_output=True, check=True), count))
+    told_times("`submit add`, idle for 300 ms before", timed(add("a"), count, 0.3))
+    stop = threading.Event()
+
+    def keep_busy(number):
+        for it in range(10**6):
+            if stop.is_set():
+                break
+            place.submit("run", f"a{(number + it) % count}", "1000")
+
+    worker = threading.Thread(target=at_once, args=(4, keep_busy))
+    worker.start()
+    time.sleep(0.5)
+    told_times("`submit add`, four others busy", timed(add("b"), count))
+    stop.set()
+    worker.join()
+    place.stop(server)
+    lines = f"add c {len(UNIT)}\n{UNIT}\n"
+    told_times("`library` opened for one `add`, and ended", timed(lambda it: place.library(lines.replace("add c", f"add c{it}")), min(count, 20)))
+    script = "".join(f"add d{it} {len(UNIT)}\n{UNIT}\n" for it in range(count))
+    begin = time.perf_counter()
+    place.library(script)
+    whole = (time.perf_counter() - begin) * 1000
+    begin = time.perf_counter()
+    place.library("")
+    print(f"one `add` of {count} in one `library`: {(whole - (time.perf_counter() - begin) * 1000) / count:.2f} ms")
+    told_load()
+    shutil.rmtree(place.work)
+
+
+# ---- the ends of generations
+
+
+def watched(place, seconds, others):
+    """How long `list` takes again and again while the others work, and when: pairs of the moment and the time."""
+    end, found = time.time() + seconds, []
+    worker = threading.Thread(target=at_once, args=(16, lambda number: others(number, end)))
+    worker.start()
+    while worker.is_alive():
+        begin = time.time()
+        serve.must(place.submit("run", "small", "10").returncode == 0, "a run")
+        found.append((begin, time.time() - begin))
+    worker.join()
+    return found
+
+
+def fill(place):
+    def work(number, end):
+        while time.time() < end:
+            put_unit(place, f"s{number}", LARGE)
+    return work
+
+
+def ends(seconds=120):
+    place, server = begun(1 << 27, "--clients", "16")
+    place.submit("add", "small", script="int main(void){return 0;}")
+    place.submit("add", "loop", script=LOOP)
+    begin = time.perf_counter()
+    done = place.submit("run", "loop", "1000000000")
+    once = time.perf_counter() - begin
+    serve.must(done.stdout == "going\n", f"a run of 10^9 steps: {done}")
+    print(f"a `run` of 10^9 steps: {once:.1f} s; a script may have 65,536 of them")
+    found = watched(place, seconds, fill(place))
+    with open(f"{place.work}/told") as file:
+        generations = sum("bytes of history" in it for it in file)
+    waits = sorted((it for _, it in found), reverse=True)
+    print(f"{generations} generations ended in {seconds} s under 16 submitters: one `run` of 10 steps waited {waits[0]:.2f} s at most, then "
+          + ", ".join(f"{it:.2f}" for it in waits[1:6]) + f"; median {statistics.median(waits):.3f}")
+    long = subprocess.Popen([place.program, "submit", place.spool], stdin=subprocess.PIPE, stdout=subprocess.DEVNULL, text=True)
+    runs = max(2, int(seconds / 2 / once))
+    began = time.time()
+    long.stdin.write("run loop 1000000000\n" * runs)
+    long.stdin.close()
+    found = watched(place, seconds / 2, fill(place))
+    long.wait()
+    print(f"while one script of {runs} such runs took {time.time() - began:.1f} s: the longest wait of another {max(it for _, it in found):.1f} s")
+    told_load()
+    ended(place, server)
+
+
+def main():
+    words = sys.argv[1:]
+    for option in ("--program", "--folder"):
+        if option in words:
+            at = words.index(option)
+            if option == "--program":
+                serve.PROGRAM = words[at + 1]
+            else:
+                serve.tempfile.tempdir = words[at + 1]
+            del words[at : at + 2]
+    work = {"memory": memory, "waiting": waiting, "rates": rates, "latency": latency, "ends": ends}.get(words[0] if words else "")
+    if not work:
+        sys.exit(__doc__)
+    try:
+        work(*[int(it) for it in words[1:]])
+    except serve.Wrong as wrong:
+        sys.exit(f"submits.py: {wrong}")
+
+
+if __name__ == "__main__":
+    main()
