@@ -10,6 +10,7 @@ of which nothing is done (56 without a name, 58); each status and each fault has
 stand in `new` and `cur`. The status is 1 where that is not so."""
 
 import collections
+import concurrent.futures
 import errno
 import os
 import re
@@ -116,7 +117,8 @@ def try_server(place, way):
     """A server one of whose calls is refused; what came of it."""
     with way:
         server = place.start("--quiet")
-    done = [place.submit("--wait", "2", "add", name, script=serve.UNIT) for name in ("one", "two")]
+    with concurrent.futures.ThreadPoolExecutor() as pool:
+        done = list(pool.map(lambda name: place.submit("--wait", "2", "add", name, script=serve.UNIT), ("one", "two")))
     end = finish(place, server, way.met)
     units = clean_up(place)
     return [f"server: {end}"] + [f"submit: {look_at_submit(it, name, units)}" for name, it in zip(("one", "two"), done)]

@@ -95,11 +95,17 @@ def memory(seconds=600, submitters=24):
     end, count = time.time() + seconds, [0] * submitters
 
     def work(number):
-        chance = random.Random(number)
+        name, chance = f"s{number}", random.Random(number)
+        put_unit(place, name, UNIT)
         while time.time() < end:
-            put_unit(place, f"s{number}", LARGE if chance.random() < 0.5 else UNIT)
-            place.submit(script=f"list\nrun s{number} 100000\n" * 4)
-            count[number] += 2
+            texts = [LARGE if chance.random() < 0.5 else UNIT for _ in range(4)]
+            script = "".join(f"replace {name} {len(it)}\n{it}\nrun {name} 100000\nlist\n" for it in texts)
+            said = place.submit(script=script).stdout.split("\n")[:-1]
+            others = [it for it in said if not re.fullmatch(r"ok \d+|unit \w+|-?\d+|exited -?\d+|going|trapped|fault 34 Full", it)]
+            serve.must(said and not others, f"an answer has {others}")
+            if "fault 34 Full" in said:
+                place.submit("compact")
+            count[number] += 1
 
     samples = []
     worker = threading.Thread(target=at_once, args=(submitters, work))
