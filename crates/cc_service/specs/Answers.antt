@@ -40,10 +40,6 @@ IsNotClosed history made clients fault =
     × ((j : ℕ) (earlier : Holder) → j < i → slice_get clients j ≡ Some earlier → AllStand history earlier.receipts) × IsFirstAstray history client.receipts why)
     ⊎ ((fault ≡ Estranged (length history) None) × ((length clients ≢ made) ⊎ (¬ AreApart clients))))
 
--- a call is refused before the library is asked for more than its map: 39 where the client's last receipt does not stand, or 40
-abbrev pub IsRefusedEarly : (history : List Entry) → Holder → BookFault → Type 0
-IsRefusedEarly history client fault = (fault ≡ OutOfMemory) ⊎ ((why : StandingFault) × (fault ≡ fault_of why) × IsStranger history client.receipts why)
-
 module _ {D : Type 0} where
   -- no call has been made: the base is the map, and the library is usable
   pub record IsBegun (book : BookView D) : Type 0 where

@@ -5,3 +5,5 @@ pub mod Decide
 pub mod Under
 -- what is looked for in clients
 pub mod Apart
+-- what is refused before a change looks for room
+pub mod Early

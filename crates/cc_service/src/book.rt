@@ -12,13 +12,14 @@ ghost use Rattle.cc_history.specs.Calls.{change_of};
 ghost use Rattle.cc_history.specs.History.{LastStands};
 ghost use Rattle.cc_history.specs.declared.reply.Reply.TheVariants as reply;
 ghost use Rattle.cc_service.specs.Book.{BookView, RecoversTo};
-ghost use Rattle.cc_service.specs.Answers.{CommitAnswers, CompactAnswers, IsBegun, IsLook, IsRefusedEarly, LookAnswers};
+ghost use Rattle.cc_service.specs.Answers.{CommitAnswers, CompactAnswers, IsBegun, IsLook, LookAnswers};
 ghost use Rattle.cc_service.specs.Compacting.{CompactingAnswers};
 ghost use Rattle.cc_service.specs.Disk.{ChangesDisk, CompactsDisk};
 ghost use Rattle.cc_service.specs.Promise.{IsSound};
 ghost use Rattle.cc_service.specs.Serving.{IsEntered, IsTurnedDown};
 ghost use Rattle.cc_service.specs.Since.{HoldsFrom, IsPast};
 ghost use Rattle.cc_service.specs.Tie.{IsTied};
+ghost use Rattle.cc_service.specs.internal.Early.{IsRefusedEarly};
 
 use crate::client::Client;
 use crate::fault::BookFault;

@@ -7,9 +7,10 @@ ghost use Rattle.cc_library.specs.Recovered.{RecoversAlone, RecoversOneOf};
 ghost use Rattle.cc_history.specs.Calls.{change_of, reply_of, reply_of_change};
 ghost use Rattle.cc_history.specs.History.{HaveAgreed, LastStands, Replays};
 ghost use Rattle.cc_service.specs.Book.{AllAgreed, RecoversTo, chronicle_of};
-ghost use Rattle.cc_service.specs.Answers.{CommitAnswers, CompactAnswers, IsLook, IsRefusedEarly, LookAnswers};
+ghost use Rattle.cc_service.specs.Answers.{CommitAnswers, CompactAnswers, IsLook, LookAnswers};
 ghost use Rattle.cc_service.specs.Disk.{ChangesDisk, CompactsDisk};
 ghost use Rattle.cc_service.specs.internal.Decide.{answer_reply};
+ghost use Rattle.cc_service.specs.internal.Early.{IsRefusedEarly};
 
 use crate::client::Member;
 use crate::entering::{enter, prepare};

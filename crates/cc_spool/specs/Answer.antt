@@ -1,5 +1,5 @@
 -- How an answer is read: lines, and the sources that stand between them.
-use Rattle.std.specs.Prelude.{ℕ, Bool, true, false, ◌+◌, ◌-◌, ◌*◌, ◌&&◌, ◌==◌, min, nat_lt, if◌then◌else◌, List, [], ◌∷◌, ◌++◌, length, slice_index, Option, Some, None, codes}
+use Rattle.std.specs.Prelude.{ℕ, ◌+◌, ◌-◌, ◌*◌, ◌&&◌, ◌==◌, min, nat_lt, if◌then◌else◌, List, [], ◌∷◌, ◌++◌, length, slice_index, Option, Some, codes}
 use Rattle.std.specs.Char.{is_ascii_digit}
 use Rattle.std.specs.Fmt.{decimal}
 use Rattle.cc_spool.specs.declared.lines.Place.{Place}
@@ -60,18 +60,3 @@ read_bytes lines (byte ∷ bytes) = read_bytes (read_byte lines byte) bytes
 -- nothing was read, or all so far is whole, and this fault was told last
 abbrev pub between : (last : Option ℕ) → Lines
 between last = record { place = Fault 0; last = last }
-
--- the next byte stands within a source, or behind one that no newline ended
-abbrev pub is_within : Place → Bool
-is_within (Within left) = true
-is_within Behind = true
-is_within Broken = true
-is_within place = false
-
--- which fault is told last, where an answer ends here: 55 where that is within a source
-abbrev pub last_told : Lines → Option ℕ
-last_told lines = if is_within lines.place then Some 55 else lines.last
-
--- which fault an answer tells last, if it tells one
-abbrev pub tells : (answer : List ℕ) → Option ℕ
-tells answer = last_told (read_bytes (between None) answer)

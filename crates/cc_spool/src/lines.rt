@@ -4,7 +4,8 @@
 // these counts for what is told; where the answer ends within them it was interrupted.
 
 ghost use Rattle.std.specs.Prelude.{◌≡◌, ◌↔◌, ◌<◌, ◌≤◌, None, IsTrue};
-ghost use Rattle.cc_spool.specs.Answer.{between, in_fault, in_source, is_within, last_told, place_behind, read_byte, with_digit};
+ghost use Rattle.cc_spool.specs.Answer.{between, in_fault, in_source, place_behind, read_byte, with_digit};
+ghost use Rattle.cc_spool.specs.internal.Telling.{is_within, last_told};
 ghost use Rattle.cc_spool.specs.declared.lines.Place.TheVariants as place;
 
 /// How the line of a fault begins.

@@ -1,6 +1,6 @@
 -- Worked answers, each by computation.
 use Rattle.std.specs.Prelude.{◌≡◌, refl, Some, None, codes}
-use Rattle.cc_spool.specs.Answer.{tells}
+use Rattle.cc_spool.specs.internal.Telling.{tells}
 
 nothing : tells (codes "") ≡ None
 nothing = refl

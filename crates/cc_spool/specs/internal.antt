@@ -1,0 +1,2 @@
+-- Which fault an answer tells last.
+pub mod Telling
