@@ -11,7 +11,7 @@ void begin(void) { length = 0; left = 0; full = 1; broken = 0; }
 void put(int byte)
 {
     if (length == 64) { broken = 1; return; }
-    frame[length] = (unsigned char) byte;
+    frame[length] = byte;
     length++;
 }
 
