@@ -104,7 +104,7 @@ class Counts:
 
 
 def together(seeds, path, chance, counts):
-    texts = {f"u{seed}": compare.Writer(seed).program() for seed in seeds}
+    texts = {f"u{seed}": compare.Writer(seed).program(seed) for seed in seeds}
     script = "".join(f"add {name} {len(text)}\n{text}\n" for name, text in texts.items())
     said = session(path, script, "--format", str(AREA))
     if said != [f"ok {it + 1}" for it in range(len(texts))]:

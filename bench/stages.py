@@ -113,7 +113,7 @@ def main():
     count, first = (int(it) for it in (*sys.argv[1:3], *(100, 1)[len(sys.argv[1:3]) :]))
     files = [it for folder in ("../examples", "programs", "programs/*") for it in glob.glob(f"{HERE}/{folder}/*.c")]
     texts = [(it, open(it, encoding="utf-8").read()) for it in sorted(files)]
-    texts += [(f"seed {it}", compare.Writer(it).program()) for it in range(first, first + count)]
+    texts += [(f"seed {it}", compare.Writer(it).program(it)) for it in range(first, first + count)]
     programs, functions, spilled, other = 0, 0, 0, 0
     with tempfile.TemporaryDirectory() as room:
         for name, text in texts:
