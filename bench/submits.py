@@ -10,9 +10,9 @@ submits.py rates [COUNT]                   scripts of one `add` a second, COUNT 
                                            and bytes; three rounds in turn, the best of each. Needs libsqlite3-dev
 submits.py latency [COUNT]                 what one `submit add` takes, COUNT times (100), when the server is idle, and when four other submitters
                                            keep it busy; by one `add` of `library`, and by a process that does nothing
-submits.py ends [SECONDS]                  for so long (120), 16 submitters with units so large that generations end; the longest that one of them
-                                           waits for `list`, when a generation ends and when not; then the same while one script runs a unit of
-                                           10^9 steps again and again: how long the others wait for its end
+submits.py ends [COUNT [UNITS]]            a library of UNITS units (1,000) and 16 submitters of small scripts, until COUNT generations (3) ended, each
+                                           behind 4,096 scripts: the longest that one waits. Then the same while a script is done that runs a unit
+                                           three times for 10^9 steps: the others wait for its end where a generation is over
 
 --program PROGRAM takes another program than crates/cclib/out/cclib, --folder FOLDER another place than the system's for temporary files. All
 print the load of the machine."""
@@ -115,7 +115,8 @@ def memory(seconds=600, submitters=24):
         time.sleep(1)
     worker.join()
     place.stop(server)
-    half = len(samples) // 2
+    half, tenth = len(samples) // 2, max(1, len(samples) // 10)
+    print("most MiB in each tenth: " + ", ".join(f"{max(samples[it : it + tenth]):.0f}" for it in range(0, len(samples), tenth)))
     first, last = max(samples[:half]), max(samples[half:])
     with open(f"{place.work}/told") as file:
         generations = sum("bytes of history" in it for it in file)
@@ -265,49 +266,63 @@ def latency(count=100):
 # ---- the ends of generations
 
 
-def watched(place, seconds, others):
-    """How long `list` takes again and again while the others work, and when: pairs of the moment and the time."""
-    end, found = time.time() + seconds, []
-    worker = threading.Thread(target=at_once, args=(16, lambda number: others(number, end)))
+def ask(place, name, text):
+    """What who has no `cclib` does: leaves a script, waits for its answer and takes it away."""
+    serve.put(place, name, text)
+    path = place.file("done", name)
+    while not os.path.exists(path):
+        time.sleep(0.002)
+    with open(path) as file:
+        said = file.read()
+    os.remove(path)
+    return said
+
+
+def watched(place, until, submitters):
+    """How long a small script takes while others send such scripts too, until that is so: how many there were, and the longest waits."""
+    times, ended = [[] for _ in range(submitters)], threading.Event()
+
+    def work(number):
+        for it in range(10**9):
+            if ended.is_set():
+                break
+            begin = time.perf_counter()
+            said = ask(place, f"w{number}-{it}", "run u0 10\n")
+            times[number].append(time.perf_counter() - begin)
+            serve.must(said.endswith("\n") and not said.startswith("fault"), f"an answer {said!r}")
+
+    worker = threading.Thread(target=at_once, args=(submitters, work))
     worker.start()
-    while worker.is_alive():
-        begin = time.time()
-        serve.must(place.submit("run", "small", "10").returncode == 0, "a run")
-        found.append((begin, time.time() - begin))
+    while worker.is_alive() and not until():
+        time.sleep(0.2)
+    ended.set()
     worker.join()
-    return found
+    return sorted((it for own in times for it in own), reverse=True)
 
 
-def fill(place):
-    def work(number, end):
-        while time.time() < end:
-            put_unit(place, f"s{number}", LARGE)
-    return work
-
-
-def ends(seconds=120):
-    place, server = begun(1 << 27, "--clients", "16")
-    place.submit("add", "small", script="int main(void){return 0;}")
-    place.submit("add", "loop", script=LOOP)
-    begin = time.perf_counter()
-    done = place.submit("run", "loop", "1000000000")
-    once = time.perf_counter() - begin
-    serve.must(done.stdout == "going\n", f"a run of 10^9 steps: {done}")
-    print(f"a `run` of 10^9 steps: {once:.1f} s; a script may have 65,536 of them")
-    found = watched(place, seconds, fill(place))
+def generations(place):
     with open(f"{place.work}/told") as file:
-        generations = sum("bytes of history" in it for it in file)
-    waits = sorted((it for _, it in found), reverse=True)
-    print(f"{generations} generations ended in {seconds} s under 16 submitters: one `run` of 10 steps waited {waits[0]:.2f} s at most, then "
-          + ", ".join(f"{it:.2f}" for it in waits[1:6]) + f"; median {statistics.median(waits):.3f}")
-    long = subprocess.Popen([place.program, "submit", place.spool], stdin=subprocess.PIPE, stdout=subprocess.DEVNULL, text=True)
-    runs = max(2, int(seconds / 2 / once))
-    began = time.time()
-    long.stdin.write("run loop 1000000000\n" * runs)
-    long.stdin.close()
-    found = watched(place, seconds / 2, fill(place))
-    long.wait()
-    print(f"while one script of {runs} such runs took {time.time() - began:.1f} s: the longest wait of another {max(it for _, it in found):.1f} s")
+        return sum("bytes of history" in it for it in file)
+
+
+def ends(count=3, units=1000):
+    place = serve.Place()
+    place.library("".join(f"add u{it} {len(UNIT)}\n{UNIT}\n" for it in range(units)) + f"add loop {len(LOOP)}\n{LOOP}\n", "--format", str(1 << 24))
+    begin = time.perf_counter()
+    place.library("")
+    print(f"a library of {units} units: opened and ended in {time.perf_counter() - begin:.2f} s")
+    server = place.start("--clients", "16")
+    place.wait_ready()
+    waits = watched(place, lambda: generations(place) >= count, 16)
+    print(f"{count} generations ended under 16 submitters, {len(waits)} scripts: the longest waits {', '.join(f'{it:.2f}' for it in waits[:5])} s, median {statistics.median(waits):.3f}")
+    begin = time.perf_counter()
+    ask(place, "once", "run loop 1000000000\n")
+    once = time.perf_counter() - begin
+    serve.put(place, "long", "run loop 1000000000\n" * 3)
+    before, began = generations(place), time.perf_counter()
+    waits = watched(place, lambda: generations(place) > before and os.path.exists(place.file("done", "long")), 16)
+    print(f"a `run` of 10^9 steps: {once:.1f} s; while a script of three of them was done, in {time.perf_counter() - began:.1f} s, a generation had to end: the longest "
+          f"waits of others {', '.join(f'{it:.1f}' for it in waits[:5])} s, median {statistics.median(waits):.3f}")
     told_load()
     ended(place, server)
 
