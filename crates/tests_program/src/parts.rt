@@ -70,7 +70,7 @@ struct Taken {
     told: Vec<u8>,
 }
 
-fn taken<D: Disk + Drop>(alloc: Global, disk: D, name: &[u8], part: Part) -> Taken {
+fn take_part<D: Disk + Drop>(alloc: Global, disk: D, name: &[u8], part: Part) -> Taken {
     let mut told = Vec::new(alloc);
     let (found, disk) = take_out(alloc, disk, name, part, &mut told);
     drop(disk);
@@ -104,9 +104,9 @@ fn refuses(taken: Taken, number: u32, told: &[u8]) -> bool {
 fn an_image_and_a_source(rt: HostRuntime) -> Result<(), Fail> {
     let alloc = rt.alloc();
     let disk = with_units(alloc, &[b"a", b"quotient"])?;
-    assert!(rt; gives(taken(alloc, disk, b"quotient", Part::Image), HEX));
+    assert!(rt; gives(take_part(alloc, disk, b"quotient", Part::Image), HEX));
     let disk = with_units(alloc, &[b"quotient"])?;
-    assert!(rt; gives(taken(alloc, disk, b"quotient", Part::Source), SOURCE));
+    assert!(rt; gives(take_part(alloc, disk, b"quotient", Part::Source), SOURCE));
     Ok(())
 }
 
@@ -122,7 +122,7 @@ fn a_disk_that_stays(rt: HostRuntime) -> Result<(), Fail> {
         drop(found);
         disk = left;
     }
-    assert!(rt; gives(taken(alloc, disk, b"a", Part::Image), HEX));
+    assert!(rt; gives(take_part(alloc, disk, b"a", Part::Image), HEX));
     Ok(())
 }
 
@@ -140,12 +140,12 @@ fn names_without_a_unit(rt: HostRuntime) -> Result<(), Fail> {
         ),
     ] {
         let disk = with_units(alloc, &[b"a", b"quotient"])?;
-        assert!(rt; refuses(taken(alloc, disk, name, Part::Image), 32, told));
+        assert!(rt; refuses(take_part(alloc, disk, name, Part::Image), 32, told));
     }
     let told = b"cclib: no unit is named 'a'\n";
     assert!(rt;
         refuses(
-            taken(alloc, formatted(alloc)?, b"a", Part::Source),
+            take_part(alloc, formatted(alloc)?, b"a", Part::Source),
             32,
             told
         )
@@ -158,7 +158,7 @@ fn names_that_are_none(rt: HostRuntime) -> Result<(), Fail> {
     let alloc = rt.alloc();
     for name in [b"".as_slice(), b"A", b"0", b"a b", &[b'a'; 33]] {
         let disk = with_units(alloc, &[b"a"])?;
-        assert!(rt; refuses(taken(alloc, disk, name, Part::Image), 33, b""));
+        assert!(rt; refuses(take_part(alloc, disk, name, Part::Image), 33, b""));
     }
     Ok(())
 }
@@ -168,27 +168,27 @@ fn names_that_are_none(rt: HostRuntime) -> Result<(), Fail> {
 fn disks_that_are_refused(rt: HostRuntime) -> Result<(), Fail> {
     let alloc = rt.alloc();
     let disk = MemoryDisk::new(alloc, 1024)?;
-    assert!(rt; refuses(taken(alloc, disk, b"A", Part::Image), 38, b""));
+    assert!(rt; refuses(take_part(alloc, disk, b"A", Part::Image), 38, b""));
     let Ok(mut journal) = Journal::open(alloc, formatted(alloc)?) else {
         return Err(Fail::from("not opened"));
     };
     journal.append(alloc, b"no command")?;
     assert!(rt;
         refuses(
-            taken(alloc, journal.into_disk(), b"A", Part::Source),
+            take_part(alloc, journal.into_disk(), b"A", Part::Source),
             37,
             b""
         )
     );
     let disk = FuseDisk::new(with_units(alloc, &[b"a"])?, 0, FuseMode::Once);
-    assert!(rt; refuses(taken(alloc, disk, b"A", Part::Image), 35, b""));
+    assert!(rt; refuses(take_part(alloc, disk, b"A", Part::Image), 35, b""));
     Ok(())
 }
 
 /// Refuses every write.
-struct Refuses;
+struct NoWriter;
 
-impl Write for Refuses {
+impl Write for NoWriter {
     fn write(&mut self, _buf: &[u8]) -> io::Result<usize> {
         Err(io::Error::from(ErrorKind::BrokenPipe))
     }
@@ -202,10 +202,10 @@ impl Write for Refuses {
 fn what_cannot_be_told(rt: HostRuntime) -> Result<(), Fail> {
     let alloc = rt.alloc();
     let disk = with_units(alloc, &[b"a"])?;
-    let mut told = Refuses;
+    let mut told = NoWriter;
     let (found, disk) = take_out(alloc, disk, b"b", Part::Image, &mut told);
     drop(disk);
-    let Refuses = told;
+    let NoWriter = told;
     match found {
         Ok(bytes) => {
             drop(bytes);

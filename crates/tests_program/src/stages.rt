@@ -49,7 +49,7 @@ struct Shown {
     told: Vec<u8>,
 }
 
-fn shown<H: AllocGlobal>(rt: &H, text: &[u8], function: Option<&[u8]>) -> Shown {
+fn show_stages<H: AllocGlobal>(rt: &H, text: &[u8], function: Option<&[u8]>) -> Shown {
     let mut reader = text;
     let mut written = Vec::new(rt.alloc());
     let mut told = Vec::new(rt.alloc());
@@ -81,13 +81,13 @@ fn is_refusal(shown: Shown, end: &str, told: &str) -> bool {
 
 #[test]
 fn one_function(rt: HostRuntime) {
-    assert!(rt; is_answer(shown(&rt, TWO.as_bytes(), Some(b"f")), OF_F));
+    assert!(rt; is_answer(show_stages(&rt, TWO.as_bytes(), Some(b"f")), OF_F));
 }
 
 // All functions: those of `f` first, then those of `main`.
 fn shows_both<H: AllocGlobal>(rt: &H) -> bool {
-    let both = shown(rt, TWO.as_bytes(), None);
-    let last = shown(rt, TWO.as_bytes(), Some(b"main"));
+    let both = show_stages(rt, TWO.as_bytes(), None);
+    let last = show_stages(rt, TWO.as_bytes(), Some(b"main"));
     let is_right = both.status == 0
         && last.status == 0
         && both.written.as_slice().starts_with(OF_F.as_bytes())
@@ -118,7 +118,7 @@ static UNKNOWN: [(&str, &str); 3] = [
 #[test]
 fn unknown_functions(rt: HostRuntime) {
     for (name, told) in UNKNOWN.iter() {
-        let found = shown(&rt, TWO.as_bytes(), Some(name.as_bytes()));
+        let found = show_stages(&rt, TWO.as_bytes(), Some(name.as_bytes()));
         assert!(rt; found.written.as_slice() == b"fault 59 UnknownFunction\n".as_slice());
         assert!(rt; is_refusal(found, "", told));
     }
@@ -127,7 +127,7 @@ fn unknown_functions(rt: HostRuntime) {
 // A declaration is no function.
 #[test]
 fn a_function_that_is_only_declared(rt: HostRuntime) {
-    let found = shown(&rt, b"int f(void);int main(void){}", Some(b"f"));
+    let found = show_stages(&rt, b"int f(void);int main(void){}", Some(b"f"));
     assert!(rt;
         is_refusal(
             found,
@@ -141,13 +141,13 @@ fn a_function_that_is_only_declared(rt: HostRuntime) {
 fn texts_that_are_refused(rt: HostRuntime) {
     let told =
         "-:1:16: 'x' is not declared\n    1 | int main(void){x;}\n      |                ^\n";
-    let found = shown(&rt, b"int main(void){x;}", Some(b"f"));
+    let found = show_stages(&rt, b"int main(void){x;}", Some(b"f"));
     assert!(rt; is_refusal(found, "fault 11 Unknown at 1:16\n", told));
 }
 
 #[test]
 fn a_warning(rt: HostRuntime) {
-    let found = shown(&rt, b"int a[4];\nint main(void){return a[4];}", None);
+    let found = show_stages(&rt, b"int a[4];\nint main(void){return a[4];}", None);
     assert!(rt;
         found.status == 0
             && found
@@ -165,7 +165,7 @@ fn a_function_that_is_too_large(rt: HostRuntime) {
     let Ok(text) = text_of(rt.alloc(), parts) else {
         panic!(rt; "no text");
     };
-    let found = shown(&rt, text.as_slice(), None);
+    let found = show_stages(&rt, text.as_slice(), None);
     drop(text);
     let end = "== main: RTL\nrefused: more than 4096 nodes\nfault 22 FunctionTooLarge in main\n";
     assert!(rt; found.status == 1 && found.written.as_slice().ends_with(end.as_bytes()));
