@@ -88,8 +88,9 @@ class Place:
         return subprocess.run(words, input=script, capture_output=True, text=True, timeout=300, **other)
 
     def left(self):
-        """What stands in the folder: nothing, where all was answered and taken away."""
-        return [f"{part}/{name}" for part in ("tmp", "new", "cur", "done") for name in sorted(os.listdir(self.file(part)))]
+        """What stands in the folder: nothing, where all was answered and taken away, but what a server tried it with that was killed in its start."""
+        names = [f"{part}/{name}" for part in ("tmp", "new", "cur", "done") for name in sorted(os.listdir(self.file(part)))]
+        return [it for it in names if "/.try-" not in it]
 
 
 # ---- kills
