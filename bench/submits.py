@@ -1,9 +1,9 @@
 #!/usr/bin/env python3
 """What a server's clients wait for, and what it takes: times and memory of `serve` and `submit`, as processes.
 
-submits.py memory [SECONDS [SUBMITTERS]]   for so long (600), so many submitters (24) replace, run and list units, small and large: the server's
-                                           resident memory each second; the most of the second half has to be 1.1 times that of the first at
-                                           most, and below 512 MiB
+submits.py memory [SECONDS [SUBMITTERS [UNITS]]]  for so long (600), so many submitters (24) replace, run and list units, small and large, in a
+                                           library of UNITS others (1,000): the server's resident memory each second; the most of the second half
+                                           has to be 1.1 times that of the first at most, and below 512 MiB
 submits.py waiting [COUNT]                 COUNT scripts (10,000) wait when the server begins: how long it takes until all are answered
 submits.py rates [COUNT]                   scripts of one `add` a second, COUNT (480) by 1, 4 and 16 submitters, by those of `library` that is fed
                                            the same commands, and by the commits of sqlite (sqlite.c: WAL, synchronous FULL) with as many clients
@@ -90,16 +90,20 @@ def resident(process):
         return next(int(it.split()[1]) for it in file if it.startswith("VmRSS:")) / 1024
 
 
-def memory(seconds=600, submitters=24):
-    place, server = begun(1 << 26, "--clients", "16")
+def memory(seconds=600, submitters=24, units=1000):
+    place = serve.Place()
+    place.library("".join(f"add u{it} {len(UNIT)}\n{UNIT}\n" for it in range(units)), "--format", str(1 << 26))
+    server = place.start("--clients", "16")
+    place.wait_ready()
     end, count = time.time() + seconds, [0] * submitters
 
     def work(number):
         name, chance = f"s{number}", random.Random(number)
         put_unit(place, name, UNIT)
         while time.time() < end:
-            texts = [LARGE if chance.random() < 0.5 else UNIT for _ in range(4)]
-            script = "".join(f"replace {name} {len(it)}\n{it}\nrun {name} 100000\nlist\n" for it in texts)
+            texts = [LARGE if chance.random() < 0.5 else UNIT for _ in range(2)]
+            # In the history a list has its names, so it fills a generation soonest.
+            script = "list\n" * 10 + "".join(f"replace {name} {len(it)}\n{it}\nrun {name} 100000\n" for it in texts)
             said = place.submit(script=script).stdout.split("\n")[:-1]
             others = [it for it in said if not re.fullmatch(r"ok \d+|unit \w+|-?\d+|exited -?\d+|going|trapped|fault 34 Full", it)]
             serve.must(said and not others, f"an answer has {others}")
@@ -118,9 +122,7 @@ def memory(seconds=600, submitters=24):
     half, tenth = len(samples) // 2, max(1, len(samples) // 10)
     print("most MiB in each tenth: " + ", ".join(f"{max(samples[it : it + tenth]):.0f}" for it in range(0, len(samples), tenth)))
     first, last = max(samples[:half]), max(samples[half:])
-    with open(f"{place.work}/told") as file:
-        generations = sum("bytes of history" in it for it in file)
-    print(f"{submitters} submitters, {len(samples)} s, {sum(count)} scripts, {generations} generations: resident at most {first:.1f} MiB in the "
+    print(f"{submitters} submitters, {len(samples)} s, {sum(count)} scripts, {generations(place)} generations: resident at most {first:.1f} MiB in the "
           f"first half, {last:.1f} in the second, ratio {last / first:.3f}")
     told_load()
     serve.must(last <= 1.1 * first and last < 512, "too much memory")
