@@ -9,16 +9,15 @@ certificate, and each has to run as before. The program has to be built (./cclib
 
 import os
 import random
-import struct
 import subprocess
 import sys
 import tempfile
 
 import compare
+import records
 
 PROGRAM = os.environ.get("CCLIB") or os.path.join(os.path.dirname(os.path.abspath(__file__)), "../crates/cclib/out/cclib")
 AREA = 1 << 22
-HEAD = 16
 TOGETHER = 20
 STEPS = 1_000_000
 
@@ -47,34 +46,6 @@ def runs(path, names):
     return found
 
 
-class Record:
-    """A record of a unit with a certificate, and where its parts lie in the file."""
-
-    def __init__(self, data, at):
-        (length,) = struct.unpack_from("<I", data, at + 1)
-        self.body, self.end = at + 5, at + 5 + length
-        kind, size = data[self.body + 1], data[self.body + 2]
-        if data[self.body] != 2 or kind != 1:
-            sys.exit("audit.py: a record is no unit with a certificate")
-        self.name = data[self.body + 3 : self.body + 3 + size].decode()
-        at = self.body + 3 + size
-        at += 4 + struct.unpack_from("<I", data, at)[0]
-        code = at + 4
-        at = code + 4 * struct.unpack_from("<I", data, at)[0]
-        globals_ = at + 4
-        self.behind_image = globals_ + 4 * struct.unpack_from("<I", data, at)[0]
-        self.image = [*range(code, at), *range(globals_, self.behind_image)]
-        self.certificate = range(self.behind_image + 4, self.end)
-
-
-def records(data):
-    found, at = [], HEAD
-    while data[at] == 0xA5:
-        found.append(Record(data, at))
-        at = found[-1].end
-    return found
-
-
 def changed(data, places, chance):
     """A copy with one random byte changed in each of these ranges."""
     new = bytearray(data)
@@ -86,10 +57,7 @@ def changed(data, places, chance):
 
 def earlier(data, found):
     """The same records as they were written before there were certificates."""
-    new = bytearray(data[:HEAD])
-    for it in found:
-        body = b"\x01" + data[it.body + 1 : it.behind_image]
-        new += b"\xa5" + struct.pack("<I", len(body)) + body
+    new = data[: records.HEAD] + b"".join(records.record(b"\x01" + data[it.body + 1 : it.behind_image]) for it in found)
     return new + bytes(len(data) - len(new))
 
 
@@ -111,7 +79,7 @@ def together(seeds, path, chance, counts):
         sys.exit(f"audit.py: the session printed {said[:3]}..")
     with open(path, "rb") as file:
         data = file.read()
-    found = records(data)
+    found = [*records.records(data)]
     if [it.name for it in found] != [*texts]:
         sys.exit("audit.py: the file has other units than were added")
     usual = runs(path, texts)

@@ -10,39 +10,21 @@ import os
 import subprocess
 import sys
 
+import records
+
 PROGRAM = os.path.join(os.path.dirname(os.path.abspath(__file__)), "../crates/cclib/out/cclib")
-HEADER = 16
-
-
-def number(bytes_, at):
-    return int.from_bytes(bytes_[at : at + 4], "little")
-
-
-def bodies(disk):
-    """The bodies of the records in use, the oldest first."""
-    if disk[1:8] != b"CCLIB01":
-        sys.exit("replace.py: this is no library")
-    area = number(disk, 8)
-    at = HEADER + (disk[0] % 2) * area
-    while disk[at] == 0xA5:
-        length = number(disk, at + 1)
-        yield disk[at + 5 : at + 5 + length]
-        at += 5 + length
 
 
 def sources(path):
     """The source of each unit, by name."""
     with open(path, "rb") as file:
-        disk = file.read()
+        data = file.read()
     found = {}
-    for body in bodies(disk):
-        kind, length = body[1], body[2]
-        name = body[3 : 3 + length].decode()
-        if kind == 3:
-            del found[name]
+    for it in records.records(data):
+        if it.kind == 3:
+            del found[it.name]
         else:
-            at = 3 + length
-            found[name] = body[at + 4 : at + 4 + number(body, at)]
+            found[it.name] = data[it.source.start : it.source.stop]
     return found
 
 
