@@ -2,13 +2,13 @@
 # How fast texts are compiled: lines a second of processor time, for the programs of bench/programs and for texts of 8 to 60 KiB, and how that grows.
 # bench/compile.sh [COMPILER..]: where the command of a C compiler is given, it compiles the same texts to objects, unoptimised, and the
 # ratio is our lines a second by its, net of the start of both on an empty main: more than 1 is faster. So bench/compile.sh gcc.
-# Each is done ROUNDS times (3), in turn, and the best counts. The program has to be built (rt run in crates/bench).
+# Each is done ROUNDS times (3), in turn, and the best counts. The program of crates/bench has to be built (rt run there), or BENCH names one
+# that is.
 set -eu
-top=$(cd "$(dirname "$0")/.." && pwd)
-program=$top/crates/bench/out/bench
-[ -x "$program" ] || { echo "compile.sh: build the program first: (cd crates/bench && rt run)" >&2; exit 1; }
-work=$(mktemp -d)
-trap 'rm -rf "$work"' EXIT
+# shellcheck source=bench/words.sh
+. "$(dirname "$0")/words.sh"
+bench
+room
 echo 'int main(void){}' > "$work/empty.c"
 echo 'void write_word(int); int read_word(void);' > "$work/services.h"
 
@@ -25,33 +25,24 @@ sys.stdout.write(body + "int main(void)\n{\n    return f0(1, 2);\n}\n")
 P
 }
 
-# seconds COMMAND..: the least processor seconds of some runs
-seconds() {
-    local TIMEFORMAT='%U %S' least= now
+# net COMMAND..: the least seconds of some runs of the command over $text, without those over an empty main
+net() {
+    rm -f "$work"/time.*
     for _ in $(seq "${ROUNDS:-3}"); do
-        now=$({ time "$@" > /dev/null 2>&1; } 2>&1 | awk '{ print $1 + $2 }')
-        least=$(awk -v a="$now" -v b="${least:-$now}" 'BEGIN { print a < b ? a : b }')
+        timed all "$@" "$text"
+        timed empty "$@" "$work/empty.c"
     done
-    echo "$least"
+    less "$(best all)" "$(best empty)"
 }
-
-# theirs TIMES TEXT COMPILER..: compiles it so often
-theirs() {
-    local times=$1 text=$2
-    shift 2
-    for _ in $(seq "$times"); do
-        "$@" -O0 -c -include "$work/services.h" -o "$work/object" "$text"
-    done
-}
+ours() { "$bench" compile "$1" $([ "$1" = "$text" ] && echo $count || echo 1); }
+theirs() { for _ in $(seq 10); do "${compiler[@]}" -O0 -c -include "$work/services.h" -o "$work/object" "$1"; done; }
+compiler=("$@")
 
 for kib in 8 16 32 60; do text $kib > "$work/$kib.c"; done
 for text in "$top"/bench/programs/*.c "$work"/8.c "$work"/16.c "$work"/32.c "$work"/60.c; do
-    name=$(basename "$text" .c)
-    lines=$(wc -l < "$text")
     bytes=$(wc -c < "$text")
-    times=$((1 + 400000 / bytes))
-    ours=$(awk -v a="$(seconds "$program" compile "$text" $times)" -v b="$(seconds "$program" compile "$work/empty.c" 1)" -v n=$times 'BEGIN { printf "%.9f", (a - b) / n }')
-    echo "$name $lines $bytes $ours $([ $# -eq 0 ] || awk -v a="$(seconds theirs 10 "$text" "$@")" -v b="$(seconds theirs 10 "$work/empty.c" "$@")" 'BEGIN { printf "%.9f", (a - b) / 10 }')"
+    count=$((1 + ${WORK:-400000} / bytes))
+    echo "$(basename "$text" .c) $(wc -l < "$text") $bytes $(part_of "$(net ours)" $count) $([ $# -eq 0 ] || part_of "$(net theirs)" 10)"
 done | awk '
     { line = sprintf("%s: %d lines, %d bytes, %.0f lines a second", $1, $2, $3, $2 / $4) }
     NF == 5 && $5 > 0 { sum += log($5 / $4); n++; line = line sprintf("; peer %.0f, ratio %.2f", $2 / $5, $5 / $4) }

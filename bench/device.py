@@ -1,11 +1,11 @@
 #!/usr/bin/env python3
 """A library on a block device: what --format refuses, and 100 kills. It takes root and losetup.
 
-device.py [--store] [KILLS] [FOLDER] [SEED]: a loop device over a file in that folder (this one). Seen is each refusal of --format: of a
+device.py [KILLS] [FOLDER] [SEED]: a loop device over a file in that folder (this one). Seen is each refusal of --format: of a
 device with something else on it, with a file system, mounted, swapped on, too small, open in another process; each time the device is
 looked at afterwards, and has to be as before. Then the library is made, filled by 1,000 adds, the process that adds is killed KILLS
-(100) times, as kills.py does, the library is compacted, and opened again. The program is `cclib library`; with --store that of
-crates/bench, which has neither refusals nor a compaction. PROGRAM names one that is built elsewhere."""
+(100) times, as kills.py does, the library is compacted, and opened again. The program is `cclib library`; CCLIB names one that is built
+elsewhere."""
 
 import hashlib
 import os
@@ -100,24 +100,20 @@ def in_use(store, device):
 
 
 def main():
-    words = [it for it in sys.argv[1:] if it != "--store"]
-    store = kills.Store() if "--store" in sys.argv else kills.Session()
-    store.PROGRAM = os.environ.get("PROGRAM", store.PROGRAM)
+    words, store = sys.argv[1:], kills.Session()
     many, folder = int(words[0]) if words else 100, words[1] if len(words) > 1 else "."
     chance = random.Random(int(words[2]) if len(words) > 2 else 1)
     kills.AREA = AREA
     with tempfile.TemporaryDirectory(dir=folder) as work:
         device = Device(work, 16 + 2 * AREA + 496)
         try:
-            if isinstance(store, kills.Session):
-                refusals(store, device, work)
+            refusals(store, device, work)
             store.make(device.path)
             before = lost = more = acknowledged = 0
             while before < ADDS:
                 said, is_full = store.add(device.path, before, 0.5)
                 before = store.count(device.path)
-            if isinstance(store, kills.Session):
-                in_use(store, device)
+            in_use(store, device)
             for _ in range(many):
                 said, is_full = store.add(device.path, before, chance.uniform(0, 0.2))
                 if is_full:
@@ -129,8 +125,7 @@ def main():
                 if count > before + said + 1:
                     sys.exit(f"device.py: {count} units, {before + said} acknowledged")
                 before = count
-            if isinstance(store, kills.Session):
-                store.run(device.path, "compact\n")
+            store.run(device.path, "compact\n")
             lost += before - store.count(device.path)
         finally:
             device.end()

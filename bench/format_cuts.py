@@ -1,15 +1,15 @@
 #!/usr/bin/env python3
 """Cuts the power in the middle of a --format over a library that is filled, by images, and opens what is left.
 
-format_cuts.py [--session] [--device] [FOLDER] [SEED]: in that folder (this one), with random images from a seed (1). A library of AREA
+format_cuts.py [--device] [FOLDER] [SEED]: in that folder (this one), with random images from a seed (1). A library of AREA
 bytes is filled, and formatted anew while calls.c records each call that changes or settles the file. For each cut between two calls the
 images are made that the cut may leave: of what was not synced each sector is as before, as a call made it, or all zeros, and the length
 is one that the file had since the sync. Most are not tried: all of one kind from and up to each sector, one sector of another kind, and
-random mixtures; and of a call that changes a few bytes each mixture of these. Then the program opens each. Told is how often it is no library (38), damaged (37), empty, the old library in each
-byte, or has a unit otherwise, which is never to be: the status is 1 then.
+random mixtures; and of a call that changes a few bytes each mixture of these. Then the program opens each. Told is how often it is no
+library (38), damaged (37), empty, the old library in each byte, or has a unit otherwise, which is never to be: the status is 1 then.
 
-The program is that of crates/bench, and with --session `cclib library`. Each has to be built (rt run in crates/bench, ./cclib), or the
-variable PROGRAM names one that is. With --device the library is on a loop device over the file, which takes root."""
+The program is `cclib library`, which has to be built (./cclib), or CCLIB names one that is. With --device the library is on a loop device
+over the file, which takes root."""
 
 import collections
 import os
@@ -27,31 +27,10 @@ MIXTURES = 40
 SOURCES = [f"int main(void){{write_word({it});return {it};}}" for it in range(1000)]
 
 
-class Store:
-    """The library alone, by the program of crates/bench."""
-
-    PROGRAM = os.environ.get("PROGRAM", kills.Store.PROGRAM)
-    UNIT = ["200", "100"]
-
-    def make(self, path, **how):
-        return subprocess.run([self.PROGRAM, "store", "make", path, str(AREA)], **how)
-
-    def fill(self, path):
-        subprocess.run([self.PROGRAM, "store", "add", path, "1000", *self.UNIT], check=True, capture_output=True)
-
-    def look(self, path):
-        """What the program finds: a fault's number, or how many units; more than all where one is not as it was added."""
-        done = subprocess.run([self.PROGRAM, "store", "count", path, *self.UNIT], capture_output=True, text=True)
-        for fault, name in ((38, "NotALibrary"), (37, "Damaged")):
-            if name in done.stderr:
-                return fault, 0
-        return 0, int(done.stdout) if done.returncode == 0 else 1000
-
-
 class Session:
     """A session of the program; the library has been compacted once, so that both areas hold records."""
 
-    PROGRAM = os.environ.get("PROGRAM", kills.Session.PROGRAM)
+    PROGRAM = kills.Session.PROGRAM
 
     def run(self, path, script, *options, **how):
         return subprocess.run([self.PROGRAM, "library", path, *options, "--quiet"], input=script, capture_output=True, text=True, **how)
@@ -137,7 +116,7 @@ def torn(old, new):
 
 def main():
     words = [it for it in sys.argv[1:] if not it.startswith("--")]
-    store = Session() if "--session" in sys.argv else Store()
+    store = Session()
     chance = random.Random(int(words[1]) if len(words) > 1 else 1)
     with tempfile.TemporaryDirectory(dir=words[0] if words else ".") as work:
         path = os.path.join(work, "disk")

@@ -2,21 +2,17 @@
 # The interpreter's speed on programs of different kinds of work: the processor seconds of each. Where the commands of a
 # plain simulator of the machine and of a C compiler for it are given, the compiler's words run there too, unoptimised, and the
 # ratio is our time by the simulator's: bench/interpret.sh './rv32sim -d' clang --target=riscv32, or with riscv64-unknown-elf-gcc
-# The two run in turn, and the best of ROUNDS runs (5) counts. PROGRAM is what runs `interpret STEPS` on its standard input; if
-# not set the built program, which has to be there (./cclib --help).
+# The two run in turn, and the best of ROUNDS runs (5) counts. The program has to be built (./cclib), or CCLIB names one that is.
 set -eu
-top=$(cd "$(dirname "$0")/.." && pwd)
-program=${PROGRAM:-$top/crates/cclib/out/cclib}
-[ -x "$program" ] || { echo "interpret.sh: build the program first: ./cclib --help" >&2; exit 1; }
-work=$(mktemp -d)
-trap 'rm -rf "$work"' EXIT
+# shellcheck source=bench/words.sh
+. "$(dirname "$0")/words.sh"
+cclib
+room
 simulator=${1:-}
 [ $# -eq 0 ] || shift
 compiler=("$@")
-# shellcheck source=bench/words.sh
-. "$top/bench/words.sh"
 
-ours() { "$program" interpret 1000000000 < "$1"; }
+ours() { "$cclib" interpret 1000000000 < "$1"; }
 # shellcheck disable=SC2086
 theirs() { $simulator "$work/$1.code" "$work/$1.globals" 10000000000; }
 product=1

@@ -1,12 +1,10 @@
 #!/usr/bin/env python3
 """Kills a process that adds units to a file, again and again, and looks whether the file has every unit that was acknowledged.
 
-kills.py [--session] [COUNT] [FOLDER] [SEED]: COUNT kills (1000), on a file in that folder (this one), from a seed (1). The process
-says of each unit that its add has answered Ok. It is killed (SIGKILL) at a random moment of its first 50 milliseconds; then the
-library has to open, with all that was said and at most one unit more. The file is made anew once it is full.
-
-The process is the program of crates/bench, and with --session it is `cclib library` with a script of adds, and a script of one `list`
-to look. Each has to be built (rt run in crates/bench, ./cclib)."""
+kills.py [COUNT] [FOLDER] [SEED]: COUNT kills (1000), on a file in that folder (this one), from a seed (1). The process is `cclib library`
+with a script of adds, and says of each unit that its add has answered Ok. It is killed (SIGKILL) at a random moment of its first 50
+milliseconds; then the library has to open, and a script of one `list` to find all that was said and at most one unit more. The file is made
+anew once it is full. The program has to be built (./cclib), or CCLIB names one that is."""
 
 import os
 import random
@@ -19,36 +17,10 @@ HERE = os.path.dirname(os.path.abspath(__file__))
 AREA = 1 << 20
 
 
-class Store:
-    """The library alone, by the program of crates/bench."""
-
-    PROGRAM = os.path.join(HERE, "../crates/bench/out/bench")
-    UNIT = ["200", "100"]
-
-    def make(self, path):
-        subprocess.run([self.PROGRAM, "store", "make", path, str(AREA)], check=True)
-
-    def add(self, path, before, moment):
-        """Adds units behind `before` of them until the moment comes: how many it has said, and whether the file is full."""
-        process = subprocess.Popen([self.PROGRAM, "store", "add", path, "1000000", *self.UNIT], stdout=subprocess.PIPE)
-        printed = until(process, moment)
-        # The last line may have been cut: it counts for nothing then.
-        numbers = [int(it) for it in printed.split("\n")[:-1]]
-        if numbers != list(range(before, before + len(numbers))):
-            sys.exit(f"kills.py: after {before} units the process printed {numbers[:3]}..")
-        return len(numbers), process.returncode == 0
-
-    def count(self, path):
-        found = subprocess.run([self.PROGRAM, "store", "count", path, *self.UNIT], capture_output=True, text=True)
-        if found.returncode:
-            sys.exit(f"kills.py: {found.stderr}")
-        return int(found.stdout)
-
-
 class Session:
     """A session of the program over the running service, by a script on standard input."""
 
-    PROGRAM = os.path.join(HERE, "../crates/cclib/out/cclib")
+    PROGRAM = os.environ.get("CCLIB") or os.path.join(HERE, "../crates/cclib/out/cclib")
     UNIT = "int f(int x){return x*3;}int main(void){int i;int s=0;for(i=0;i<9;i++)s+=f(i);write_word(s);return s;}"
 
     def run(self, path, script, *options):
@@ -89,8 +61,7 @@ def until(process, moment):
 
 
 def main():
-    words = [it for it in sys.argv[1:] if it != "--session"]
-    store = Session() if "--session" in sys.argv else Store()
+    words, store = sys.argv[1:], Session()
     kills = int(words[0]) if words else 1000
     folder = words[1] if len(words) > 1 else "."
     chance = random.Random(int(words[2]) if len(words) > 2 else 1)

@@ -5,22 +5,18 @@
 # `SIMULATOR CODE GLOBALS STEPS`, and the ratio is our speed by its speed, so 1.0 or more is as fast. Where the command of a C
 # compiler is given too, its words of the programs of bench/programs, unoptimised, run on both:
 # bench/machine.sh './rv32sim -d' clang --target=riscv32, or with riscv64-unknown-elf-gcc
-# The two run in turn, and the best of ROUNDS runs (5) counts. The program is built by `rt run` where it is missing.
+# The two run in turn, and the best of ROUNDS runs (5) counts. Ours is `run` in a session over a library with a unit of these words, which
+# bench/records.py writes; its time is that without a run. The program has to be built (./cclib), or CCLIB names one that is.
 set -eu
-top=$(cd "$(dirname "$0")/.." && pwd)
-program=${PROGRAM:-$top/crates/bench/out/bench}
-steps=300000000
-work=$(mktemp -d)
-trap 'rm -rf "$work"' EXIT
+# shellcheck source=bench/words.sh
+. "$(dirname "$0")/words.sh"
+cclib
+room
+steps=300000000 most=1000000000
 simulator=${1:-}
 [ $# -eq 0 ] || shift
 compiler=("$@")
-# shellcheck source=bench/words.sh
-. "$top/bench/words.sh"
-
-if [ ! -x "$program" ]; then
-    (cd "$top/crates/bench" && rt run -- machine data/sum.bin data/none.bin 100 > /dev/null)
-fi
+: > "$work/nothing"
 
 # The words, in hexadecimal, as little-endian bytes.
 hexadecimal() {
@@ -40,16 +36,22 @@ hexadecimal 00200437 01042303 00530333 00642823 ff812383 fe612c23 00544e03 00640
 # lw x8,8(x2); lw x1,12(x2); addi x2,x2,16; jalr x0,0(x1); addi x10,x10,3; jalr x0,0(x1)
 hexadecimal 008000ef ffdff06f ff010113 00112623 00812423 00150413 018000ef 00850533 00812403 00c12083 01010113 00008067 00350513 00008067 > "$work/calls"
 
-# timed CODE GLOBALS STEPS: our least processor seconds in $mine, the simulator's in $peer
-timed() {
-    mine=
+ours() { "$cclib" library "$work/disk" --quiet --workers 1 < "$work/$1"; }
+
+# both CODE GLOBALS STEPS: our least processor seconds in $mine, the simulator's in $peer
+both() {
+    rm -f "$work"/time.*
     peer=
+    python3 "$top/bench/records.py" image "$work/disk" "$1" "$2"
+    echo "run image $3" > "$work/run"
     for _ in $(seq "${ROUNDS:-5}"); do
-        mine=$(least "$(seconds "$work/ours" "$program" machine "$@")" "$mine")
+        timed start ours nothing
+        timed run ours run
         # shellcheck disable=SC2086
         [ -z "$simulator" ] || peer=$(least "$(seconds "$work/theirs" $simulator "$@")" "$peer")
     done
-    [ -z "$simulator" ] || cmp -s "$work/ours" "$work/theirs" || { echo "$1: other words" >&2; exit 1; }
+    mine=$(less "$(best run)" "$(best start)")
+    [ -z "$simulator" ] || cmp -s "$work/said.run" "$work/theirs" || fail "$1: other words"
 }
 
 # speed SECONDS: in millions of instructions a second
@@ -58,7 +60,7 @@ speed() {
 }
 
 for loop in arithmetic memory calls; do
-    timed "$work/$loop" "$work/none" $steps
+    both "$work/$loop" "$work/none" $steps
     line="$loop: $(speed "$mine") million instructions a second"
     [ -z "$simulator" ] || line="$line; peer $(speed "$peer"); ratio $(ratio "$peer" "$mine")"
     echo "$line"
@@ -70,7 +72,7 @@ count=0
 for file in "$top"/bench/programs/*.c; do
     name=$(basename "$file" .c)
     words "$file" "$name"
-    timed "$work/$name.code" "$work/$name.globals" 10000000000
+    both "$work/$name.code" "$work/$name.globals" $most
     product=$(awk -v p="$product" -v a="$peer" -v b="$mine" 'BEGIN { print p * a / b }')
     count=$((count + 1))
     echo "$name: $mine s; peer $peer s; ratio $(ratio "$peer" "$mine")"

@@ -3,16 +3,16 @@
 
 refused.py [COUNT] [SEED]: COUNT programs (400), from a seed (1), each with ten functions beside those of bench/compare.py's programs. A
 function has up to eight parameters, up to 40 locals that may all be alive at once, loops, and calls of the functions before it. The text of a
-program with a refusal is printed. The program has to be built (rt run in crates/bench), or BENCH names one that is."""
+program with a refusal is printed. `cclib stages` says of each function whether its colouring is refused. The program has to be built
+(./cclib), or CCLIB names one that is."""
 
 import os
 import subprocess
 import sys
-import tempfile
 
 import compare
 
-PROGRAM = os.environ.get("BENCH") or os.path.join(os.path.dirname(os.path.abspath(__file__)), "../crates/bench/out/bench")
+PROGRAM = os.environ.get("CCLIB") or os.path.join(os.path.dirname(os.path.abspath(__file__)), "../crates/cclib/out/cclib")
 FUNCTIONS = 10
 BEFORE, MAIN = compare.BEGIN.split("int main(void)")
 
@@ -56,29 +56,26 @@ class Writer(compare.Writer):
         return BEFORE + functions + "int main(void)" + MAIN + "return a;\n}\n"
 
 
-def refusals(text, room):
+def refusals(text):
     """In how many functions of a text the registers are refused; all of them where it isn't compiled."""
-    path = f"{room}/program.c"
-    with open(path, "w", encoding="utf-8") as it:
-        it.write(text)
-    ran = subprocess.run([PROGRAM, "passes", "refused", path, "1"], capture_output=True, check=False)
-    return int(ran.stdout) if ran.returncode == 0 else FUNCTIONS
+    lines = subprocess.run([PROGRAM, "stages"], input=text, capture_output=True, text=True, check=False).stdout.split("\n")
+    how = [line for head, line in zip(lines, lines[1:]) if head.endswith(": LTL")]
+    return sum(it != "coloured" for it in how) if how else FUNCTIONS
 
 
 def main():
     count = int(sys.argv[1]) if len(sys.argv) > 1 else 400
     seed = int(sys.argv[2]) if len(sys.argv) > 2 else 1
     functions = refused = 0
-    with tempfile.TemporaryDirectory() as room:
-        for number in range(count):
-            text = Writer(seed + number).program()
-            if len(text) > 65536:
-                continue
-            functions += FUNCTIONS + 5
-            found = refusals(text, room)
-            refused += found
-            if found:
-                print(text)
+    for number in range(count):
+        text = Writer(seed + number).program()
+        if len(text) > 65536:
+            continue
+        functions += FUNCTIONS + 5
+        found = refusals(text)
+        refused += found
+        if found:
+            print(text)
     print(f"{functions} functions, {refused} refused")
     return 1 if refused else 0
 

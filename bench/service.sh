@@ -1,54 +1,92 @@
 #!/usr/bin/env bash
-# How many commits a second a service makes for clients in threads of their own, by how many sqlite makes for as many: service.sh [FOLDER]
-# (this one). For 1, 4 and 16 clients, CALLS calls (960) in all. By `withdraw` each call withdraws a unit of a text of 70 bytes, and sqlite
-# deletes a row of as many bytes as that unit has on the disk: a commit and nothing else. By `put` each call puts that text under the client's
-# own name, which compiles it first (4 workers), and sqlite puts as many bytes as the unit has. Our commit writes twice and syncs twice;
-# sqlite's (sqlite.c: WAL, synchronous FULL, a connection a thread) writes its log and syncs once. Both lie in FOLDER and are asked in turn,
-# ROUNDS times (5); the best of each counts, by the wall clock, since the device is what both wait for. The ratio is ours by sqlite's, more is
-# better.
-# The program has to be built (rt run in crates/bench), and libsqlite3-dev has to be there.
+# How many commits a second a service makes for clients at the same time, by how many sqlite makes for as many: service.sh [FOLDER] (this one).
+# For 1, 4 and 16 clients, CALLS calls (4,800) in all. By `withdraw` each call withdraws a unit of a text of 70 bytes, and sqlite deletes a row of
+# as many bytes as that unit has on the disk: a commit and nothing else. By `put` each call puts that text under the client's own name, which
+# compiles it first (4 workers), and sqlite puts as many bytes as the unit has. Our commit writes twice and syncs twice; sqlite's (sqlite.c: WAL,
+# synchronous FULL, a connection a thread) writes its log and syncs once.
+# The service is that of `cclib serve`: each client is one script of all its calls, which waits in the folder when the server starts; its time is
+# from the server's start to the last answer, without that for scripts of one `list`. So what it takes to read a line and write an answer
+# is in it. Both lie in FOLDER and are asked in turn, ROUNDS times (5); the best of each counts, by the wall clock, since the device is
+# what both wait for. The ratio is ours by sqlite's, more is better.
+# The program has to be built (./cclib), or CCLIB names one that is, and libsqlite3-dev has to be there.
 set -eu
-top=$(cd "$(dirname "$0")/.." && pwd)
-program=$top/crates/bench/out/bench
-[ -x "$program" ] || { echo "service.sh: build the program first: (cd crates/bench && rt run)" >&2; exit 1; }
-folder=$(mktemp -d "${1:-.}/service.XXXXXX")
-trap 'rm -rf "$folder"' EXIT
-rounds=${ROUNDS:-5} calls=${CALLS:-960}
-gcc -O2 -pthread -o "$folder/sqlite" "$top/bench/sqlite.c" -lsqlite3
-printf 'int f(int x){return x*3;}int main(void){write_word(f(5));return f(2);}' > "$folder/text.c"
+# shellcheck source=bench/words.sh
+. "$(dirname "$0")/words.sh"
+cclib
+room "${1:-.}"
+shopt -s nullglob
+rounds=${ROUNDS:-5} calls=${CALLS:-4800}
+gcc -O2 -pthread -o "$work/sqlite" "$top/bench/sqlite.c" -lsqlite3
+text='int f(int x){return x*3;}int main(void){write_word(f(5));return f(2);}'
 
-# How many bytes the unit of that text has on the disk: the length in front of the first record's body.
-"$program" store make "$folder/disk" 1000
-"$program" service put "$folder/disk" 1 1 1 "$folder/text.c" > /dev/null
-unit=$(($(od -An -tu4 -j17 -N4 "$folder/disk")))
-rm -f "$folder/disk"
+# put NAME COUNT, withdraw NAME COUNT, nothing NAME: what a client does
+put() {
+    printf 'add %s %d\n%s\n' "$1" ${#text} "$text"
+    for ((n = 1; n < $2; n++)); do printf 'replace %s %d\n%s\n' "$1" ${#text} "$text"; done
+}
+withdraw() { for ((n = 0; n < $2; n++)); do echo "withdraw $1$n"; done; }
+nothing() { echo list; }
+add() { for ((n = 0; n < $2; n++)); do printf 'add %s %d\n%s\n' "$1$n" ${#text} "$text"; done; }
+names() { local all=(a b c d e f g h i j k l m n o p); echo "${all[@]:0:$1}"; }
 
-# took NAME CALLS COMMAND..: keeps the nanoseconds that the command says it took, where all its calls were acknowledged
-took() {
-    local name=$1 wanted=$2 said
-    shift 2
-    said=$("$@")
-    [ "${said%% *}" = "$wanted" ] || { echo "service.sh: $name acknowledged $said of $wanted" >&2; exit 1; }
-    set -- $said
-    [ "${3:-0}" = 0 ] || { echo "service.sh: the service ended with $3" >&2; exit 1; }
-    echo "$2" >> "$folder/$name"
+# served KIND CLIENTS COUNT: the seconds that a server takes for so many clients, who make COUNT calls each
+served() {
+    local name answers=() begin end server
+    rm -rf "$work/spool"
+    cp -a "$work/empty" "$work/spool"
+    for name in $(names "$2"); do "$1" "$name" "$3" > "$work/spool/new/$name"; done
+    begin=$EPOCHREALTIME
+    "$cclib" serve "$work/disk" "$work/spool" --workers 4 --clients "$2" --quiet > "$work/told" &
+    server=$!
+    trap 'kill $server 2> /dev/null || true' EXIT
+    while [ ${#answers[@]} -lt "$2" ]; do
+        sleep 0.002
+        kill -0 $server || fail "the server ended: $(cat "$work/told")"
+        answers=("$work"/spool/done/*)
+    done
+    end=$EPOCHREALTIME
+    touch "$work/spool/stop"
+    wait $server || fail "the server ended with $?: $(cat "$work/told")"
+    [ "$1" = nothing ] || [ "$(cat "${answers[@]}" | grep -c '^ok ')" = $(($2 * $3)) ] || fail "$1: $(cat "${answers[@]}" | grep -v '^ok ' | head -n 3)"
+    less "$end" "$begin"
 }
 
-best() { sort -n "$folder/$1" | head -n 1; }
+# took NAME SECONDS: keeps the least
+took() { echo "$(least "$2" "$(cat "$work/least.$1" 2> /dev/null || true)")" > "$work/least.$1"; }
+
+# An empty folder of a server.
+"$cclib" library "$work/disk" --quiet --format 1000000 < /dev/null
+"$cclib" serve "$work/disk" "$work/empty" --quiet > /dev/null &
+until [ -d "$work/empty/done" ]; do sleep 0.1; done
+sleep 1
+touch "$work/empty/stop"
+wait $!
+# How many bytes the unit has on the disk.
+put a 1 | "$cclib" library "$work/disk" --quiet > /dev/null
+unit=$(python3 "$top/bench/records.py" sizes "$work/disk" | awk '{ print $3 }')
 
 for task in withdraw put; do
     theirs=put
     [ "$task" = put ] || theirs=delete
     for clients in 1 4 16; do
-        each=$((calls / clients))
+        each=$((calls / clients)) all=$((calls / clients * clients))
+        rm -f "$work"/least.*
+        "$cclib" library "$work/disk" --quiet --format $((calls * 600 + 4096)) < /dev/null
+        [ "$task" = put ] || { for name in $(names "$clients"); do add "$name" "$each"; done; } | "$cclib" library "$work/disk" --quiet > "$work/added"
+        cp "$work/disk" "$work/filled"
         for _ in $(seq "$rounds"); do
-            rm -f "$folder"/base.db*
-            "$program" store make "$folder/disk" $((calls * 600 + 64))
-            took "ours.$task.$clients" $((each * clients)) "$program" service "$task" "$folder/disk" 4 "$clients" "$each" "$folder/text.c"
-            took "sqlite.$task.$clients" $((each * clients)) "$folder/sqlite" "$theirs" "$folder/base.db" "$clients" "$each" "$unit"
-            rm -f "$folder/disk"
+            cp "$work/filled" "$work/disk"
+            sync "$work/disk"
+            start=$(served nothing "$clients" 0)
+            ours=$(served "$task" "$clients" "$each")
+            took start "$start"
+            took ours "$ours"
+            rm -f "$work"/base.db*
+            said=$("$work/sqlite" "$theirs" "$work/base.db" "$clients" "$each" "$unit")
+            [ "${said%% *}" = "$all" ] || fail "sqlite acknowledged $said of $all"
+            took theirs "$(awk '{ printf "%.6f", $2 / 1e9 }' <<< "$said")"
         done
-        awk -v ours="$(best "ours.$task.$clients")" -v theirs="$(best "sqlite.$task.$clients")" -v all=$((each * clients)) -v task="$task" -v clients="$clients" 'BEGIN {
-            printf "%s, %d clients: %.0f commits a second, sqlite %.0f; ratio %.2f\n", task, clients, all / ours * 1e9, all / theirs * 1e9, theirs / ours }'
+        awk -v ours="$(less "$(cat "$work/least.ours")" "$(cat "$work/least.start")")" -v theirs="$(cat "$work/least.theirs")" -v all=$all -v task="$task" -v clients="$clients" 'BEGIN {
+            printf "%s, %d clients: %.0f commits a second, sqlite %.0f; ratio %.2f\n", task, clients, all / ours, all / theirs, theirs / ours }'
     done
 done

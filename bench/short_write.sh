@@ -1,27 +1,25 @@
 #!/usr/bin/env bash
-# A write to a file that the system cuts short: a disk on a file answers 35 there, and Ok where the write was whole.
+# A write to a file that the system cuts short: `add` answers 35 there, and `ok` where the write was whole.
 # The shell's limit on the size of a file (ulimit -f) cuts the write that crosses it, as a full file system does.
-# The program has to be built (rt run in crates/bench).
+# The program has to be built (./cclib), or CCLIB names one that is.
 set -eu
-top=$(cd "$(dirname "$0")/.." && pwd)
-program=$top/crates/bench/out/bench
-[ -x "$program" ] || { echo "short_write.sh: build the program first: (cd crates/bench && rt run)" >&2; exit 1; }
-work=$(mktemp -d)
-trap 'rm -rf "$work"' EXIT
+# shellcheck source=bench/words.sh
+. "$(dirname "$0")/words.sh"
+cclib
+room
 
-# answer OFFSET LENGTH: what a write is answered on a disk of 20480 bytes where files may have 10240
+# answer LENGTH: what an `add` of a text of so many bytes is answered over a new library of 40,016 bytes where files may have 10,240
 answer() {
-    truncate -s 20480 "$work/disk"
-    (ulimit -f 10 && "$program" store write "$work/disk" "$1" "$2")
+    printf 'int main(void){}%*s' $(($1 - 16)) '' > "$work/text"
+    "$cclib" library "$work/disk" --quiet --format 20000 < /dev/null
+    { echo "add a $1"; cat "$work/text"; echo; } | (ulimit -f 10 && "$cclib" library "$work/disk" --quiet || true)
 }
 
-[ "$(answer 0 10240)" = 0 ] || { echo "short_write.sh: a whole write is refused" >&2; exit 1; }
-for offset in 1 6144 10239; do
-    [ "$(answer $offset 10240)" = 35 ] || { echo "short_write.sh: a short write at $offset is not told" >&2; exit 1; }
+[ "$(answer 9000)" = 'ok 1' ] || fail "a whole write is refused: $(answer 9000)"
+for length in 10240 12000 19000; do
+    [ "$(answer $length)" = 'fault 35 DiskFault' ] || fail "a short write of $length bytes is not told: $(answer $length)"
 done
-# A file whose room can not be taken is not made.
-if (ulimit -f 10 && "$program" store make "$work/new" 8192) 2> /dev/null; then
-    echo "short_write.sh: a file is made without its room" >&2
-    exit 1
-fi
+# Where its room can not be taken no library is made.
+said=$(ulimit -f 10 && "$cclib" library "$work/new" --quiet --format 8192 < /dev/null || true)
+[ "$said" = 'fault 35 DiskFault' ] || fail "a library is made without its room: $said"
 echo "short writes are told"

@@ -1,82 +1,49 @@
-//! What the scripts of bench/ run: `bench TASK WORD.. [, TASK WORD..]` does each task in turn. Words that are a comma alone stand
-//! between two tasks.
+//! The compiler's passes over a text, again and again in one process, for the scripts of bench/ that time them: `bench STEP FILE TIMES [LTL]`.
 //!
-//! `audit TASK WORD..` audits stored units (`audit`); `compile FILE TIMES`, `again FILE` and `count FILE` compile a text, also once memory
-//! was refused, or count what its image executes (`compiler`); `hostile TASK SHAPE FILE TIMES` validates LTL that asks for much
-//! (`hostile`); `list COUNT` adds to an instruction list (`list`); `machine CODE GLOBALS STEPS [WORD..]` runs words on the simulator
-//! (`machine`); `passes TASK FILE TIMES` does the passes up to the validator (`passes`); `pool TASK FILE NUMBER..` has a pool of workers
-//! compile (`pool`); `service TASK FILE WORKERS CLIENTS CALLS SOURCE` has clients call a service (`service`); `stands SOURCE WORDS TIMES`
-//! looks whether a receipt stands (`stands`); `store TASK FILE [NUMBER..]` works on a library of units on a file (`store`). `arguments`
-//! reads the command line, `words` files of words, and `units` makes units and their names.
+//! `compile` compiles the text of FILE so many times, from reading it to its image, and prints how many words its code has. Every other step
+//! is one of `passes`, and prints how many nodes the RTL of the text's first function has; LTL is the file that `judge` reads. All print
+//! `refused` where it comes to nothing. What `cclib` itself can show, the scripts have it show.
 #![tactic(auto)]
 
-mod arguments;
-mod audit;
-mod compiler;
-mod hostile;
-mod list;
-mod machine;
 mod passes;
-mod pool;
-mod service;
-mod stands;
-mod store;
-mod units;
-mod words;
 
-use anyhow::{Result, bail};
-use arguments::{next_number, next_of_task};
+use passes::{Step, again, compiled};
+use std::alloc::Global;
 use std::env::{self, Args};
+use std::{fs, io};
 
-/// The most tasks of one command line.
-const MOST_TASKS: u32 = 64;
-
-fn main(rt: HostRuntime) -> Result<()> {
-    let mut arguments = env::args(&rt)?;
-    let _program = arguments.next();
-    for _ in 0..MOST_TASKS {
-        match arguments.next() {
-            Some(task) => {
-                if task.as_str() == "pool" {
-                    let work = pool::next_work(&rt, &mut arguments)?;
-                    pool::perform(&rt, rt.alloc(), work)?;
-                    end_of_task(&mut arguments)?;
-                } else if task.as_str() == "service" {
-                    let work = service::next_work(&rt, &mut arguments)?;
-                    service::perform(&rt, rt.alloc(), work)?;
-                    end_of_task(&mut arguments)?;
-                } else {
-                    perform(&rt, task.as_str(), &mut arguments)?;
-                }
-            }
-            None => return Ok(()),
-        }
+fn main(rt: HostRuntime) -> io::Result<()> {
+    let mut words = env::args(&rt)?;
+    drop(words.next());
+    let (step, file, times) = (words.next(), words.next(), next_number(&mut words));
+    let (Some(step), Some(file), Some(times)) = (step, file, times) else {
+        return println!(rt; "usage: bench STEP FILE TIMES [LTL]");
+    };
+    let text = fs::read(&rt, file.as_str())?;
+    let ltl = match words.next() {
+        Some(file) => fs::read(&rt, file.as_str())?,
+        None => Vec::new(rt.alloc()),
+    };
+    match done(
+        rt.alloc(),
+        step.as_str(),
+        text.as_slice(),
+        ltl.as_slice(),
+        times,
+    ) {
+        Some(count) => println!(rt; "{count}"),
+        None => println!(rt; "refused"),
     }
-    bail!("too many tasks")
 }
 
-fn perform(rt: &HostRuntime, task: &str, arguments: &mut Args) -> Result<()> {
-    match task {
-        "again" => compiler::compile_after_refusal(rt, arguments)?,
-        "audit" => audit::perform(rt, arguments)?,
-        "compile" => compiler::compile_again(rt, arguments)?,
-        "count" => return compiler::count(rt, arguments),
-        "hostile" => hostile::perform(rt, arguments)?,
-        "list" => list::perform(rt, arguments)?,
-        "machine" => return machine::run(rt, arguments),
-        "passes" => passes::perform(rt, arguments)?,
-        "stands" => stands::look_again(rt, arguments)?,
-        "store" => store::perform(rt, arguments)?,
-        _ => bail!(
-            "usage: bench again|audit|compile|count|hostile|list|machine|passes|pool|service|stands|store WORD.. [, TASK WORD..]"
-        ),
-    }
-    end_of_task(arguments)
+fn next_number(words: &mut Args) -> Option<u32> {
+    words.next()?.as_str().parse().ok()
 }
 
-fn end_of_task(arguments: &mut Args) -> Result<()> {
-    match next_of_task(arguments) {
-        Some(_more) => bail!("a task has too many words"),
-        None => Ok(()),
+// What the step's last turn counts, or none where there is no such step or something is refused.
+fn done(alloc: Global, step: &str, text: &[u8], ltl: &[u8], times: u32) -> Option<usize> {
+    if step == "compile" {
+        return compiled(alloc, text, times);
     }
+    again(alloc, text, Step::named(step)?, ltl, times)
 }
