@@ -1,7 +1,8 @@
 #!/usr/bin/env python3
 """Runs the gate and tells where its time goes.
 
-    bench/gate.py [FOLDER]      in that clone of the repository, or a fresh one of what is committed here
+    bench/gate.py [FOLDER]          in that clone of the repository, or a fresh one of what is committed here
+    bench/gate.py --chain           runs nothing: tells by docs/GATE.md's table the sum of all and the longest chain
 
 The gate is `rt ci`, as `.ci/run` has it; it should be the only thing that the machine does. While it runs, this script looks
 four times a second at the toolchain's processes and adds up the processor seconds of each. Then it prints a row for each
@@ -17,8 +18,9 @@ repository that the script stands in), whose text above stays:
     sum     all of these
     proof   the wall clock's seconds that the proof took, beside others
 
-and after them the sum of all, the wall clock's time, and the longest chain: the proofs of crates that wait for one another
-and the edits of the last of them, in the wall clock's time."""
+and after them the sum of all, the wall clock's time, and the longest chain: the proofs of crates that wait for one another,
+and the tests and edits of the last of them. The gate takes no less than its longest chain, nor than the sum by the number of
+processors; whether a cut of a crate would shorten it shows the chain in crates.txt as it is now."""
 import os
 import re
 import shutil
@@ -112,6 +114,35 @@ def count_lines(folder):
     return count
 
 
+def longest(names, proof, last):
+    """Returns the seconds and the crates of the longest chain, by those of each proof and of what comes behind the last one."""
+    chains = {}
+
+    def chain(name):
+        if name not in chains:
+            seconds, crates = max(map(chain, names[name]), default=(0, []))
+            chains[name] = seconds + proof(name), crates + [name]
+        return chains[name]
+
+    seconds, crates = max((chain(it)[0] + last(it), chain(it)[1]) for it in names)
+    return seconds, crates
+
+
+def tell_chain():
+    """Prints what docs/GATE.md's table says of the crates of today."""
+    names, found = below(TOP), {}
+    with open(f"{TOP}/docs/GATE.md", encoding="utf-8") as file:
+        for line in file:
+            cells = [it.strip() for it in line.strip("| \n").split("|")]
+            if len(cells) == 10 and cells[1].isdigit():
+                found[cells[0]] = [float(it) for it in cells[1:]]
+    unknown = sorted(set(names) - set(found))
+    proof = lambda it: found[it][1] if it in found else 0
+    seconds, crates = longest(names, proof, lambda it: found[it][7] - found[it][1] if it in found else 0)
+    print(f"sum {sum(found[it][7] for it in names if it in found) / 60:.0f} processor minutes; not in the table: {', '.join(unknown) or 'none'}")
+    print(f"the longest chain, {seconds:.0f} s of processor: {', '.join(f'{it} {proof(it):.0f}' for it in crates)}")
+
+
 def span(processes):
     return max((it.end for it in processes), default=0) - min((it.begin for it in processes), default=0)
 
@@ -153,18 +184,11 @@ def main(folder):
     rows = {name: Row(folder, name, processes) for name in names}
     said = ["| crate           |  lines |    P | tests | edits | first |    e |    n |   sum | proof |", "|---|---|---|---|---|---|---|---|---|---|"]
     said += [row.text() for row in rows.values()]
-    chains = {}
-
-    def chain(name):
-        if name not in chains:
-            chains[name] = rows[name].wall + max((chain(it) for it in names[name]), default=0)
-        return chains[name]
-
-    longest = max(names, key=lambda it: chain(it) + rows[it].edits_wall)
+    seconds, chain = longest(names, lambda it: rows[it].wall, lambda it: rows[it].edits_wall)
     said += [
         "",
         f"All crates: {sum(it.whole for it in rows.values()) / 60:.0f} processor minutes; all that the toolchain did: {sum(it.seconds for it in processes) / 60:.0f}.",
-        f"Wall clock: {wall / 60:.0f} minutes on {os.cpu_count()} processors; longest chain: to the edits of {longest}, {(chain(longest) + rows[longest].edits_wall) / 60:.0f} minutes.",
+        f"Wall clock: {wall / 60:.0f} minutes on {os.cpu_count()} processors; longest chain: {', '.join(chain)}, {seconds / 60:.0f} minutes.",
     ]
     print("\n".join(said))
     if passed:
@@ -176,4 +200,6 @@ def main(folder):
 
 
 if __name__ == "__main__":
+    if sys.argv[1:] == ["--chain"]:
+        sys.exit(tell_chain())
     sys.exit(main(sys.argv[1] if len(sys.argv) > 1 else None))
