@@ -1,13 +1,14 @@
 #!/usr/bin/env python3
-"""Each system call that a server and `submit` make in the folder, refused once.
+"""Each system call that a server and `submit` make in the folder, and each allocation of a server, refused once.
 
-fails.py [--program PROGRAM] server|submit [FIRST [LAST [STEP]]]: fail.c refuses the call with that number (from FIRST, 1, to LAST, or until a
+fails.py [--program PROGRAM] server|submit|memory [FIRST [LAST [STEP]]]: fail.c refuses the call with that number (from FIRST, 1, to LAST, or until a
 run made fewer calls), each with EIO, ENOSPC and EINTR, and with EIO though it was done, as over a network whose answer is lost. In the run of
 a server it takes a folder that a killed one left, with a script that was begun, one that was answered and one that waits, does scripts of two
 `submit`s, and is stopped; in that of `submit` the server is left alone. Then another server does what is left. Nothing may hang: a server
 ends within twenty seconds of `stop`, a `submit` within a minute. No unit may be lost that was answered `ok`, and none be there of a script
 of which nothing is done (56 without a name, 58); each status and each fault has to be one that docs/SERVICE.md has; in the end nothing may
-stand in `new` and `cur`. The status is 1 where that is not so."""
+stand in `new` and `cur`. The status is 1 where that is not so. With `memory` the run is that of a server, of which refuse.c refuses the
+allocation with that number, in whichever thread it comes; 40 and 41 are answers then, of which nothing is done."""
 
 import collections
 import concurrent.futures
@@ -51,6 +52,27 @@ class Way:
             return file.read().split()[1]
 
 
+class Want:
+    """Which allocation is refused: the program is put behind a shell, whose own memory is not."""
+
+    def __init__(self, place, library, number):
+        self.place, self.program, self.told = place, place.program, f"{place.work}/told-of-memory"
+        self.shell = f"{place.work}/refusing"
+        with open(self.shell, "w") as file:
+            file.write(f'#!/bin/sh\nexec env REFUSED={number} LD_PRELOAD={library} {place.program} "$@" 3> {self.told}\n')
+        os.chmod(self.shell, 0o755)
+
+    def __enter__(self):
+        self.place.program = self.shell
+
+    def __exit__(self, *_):
+        self.place.program = self.program
+
+    def met(self):
+        """What was refused; the library tells a run that ended before."""
+        return "allocation" if os.path.exists(self.told) and not os.path.getsize(self.told) else None
+
+
 def prepare(place, template):
     shutil.copy(f"{template}/units.disk", place.disk)
     shutil.copytree(f"{template}/spool", place.spool)
@@ -69,8 +91,8 @@ def look_at_submit(done, name, units):
         # With a fault behind it, where the answer could not be taken away or be read on: then a line of that comes last.
         serve.must(done.returncode == 0 and is_there, f"{name}: {done}, {sorted(units)}")
         return "ok"
-    serve.must(done.returncode == 1 and re.fullmatch(r"fault 5[3-8] \w+|fault 35 DiskFault", last), f"{name}: {done}")
-    if last.startswith("fault 58") or last.startswith("fault 56") and not is_named:
+    serve.must(done.returncode == 1 and re.fullmatch(r"fault (4[01]|5[3-8]) \w+|fault 35 DiskFault", last), f"{name}: {done}")
+    if re.match("fault (4|58)", last) or last.startswith("fault 56") and not is_named:
         serve.must(not is_there, f"{name}: {done}, {sorted(units)}")
     return last.split()[1] + (" left" if is_named else "")
 
@@ -88,7 +110,7 @@ def finish(place, server, is_met):
     serve.must(server.returncode in (0, 1), f"the server ended with {server.returncode}")
     serve.must(server.returncode == 1 or re.fullmatch(r"served \d+", last), f"the server said {said} with 0")
     serve.must(server.returncode == 0 or is_met(), f"the server said {said} with 1, and no call was refused")
-    serve.must(server.returncode == 0 or re.fullmatch(r"served \d+|fault 5[67] \w+", last), f"the server said {said} with 1")
+    serve.must(server.returncode == 0 or re.fullmatch(r"served \d+|fault (4[01]|5[67]) \w+", last), f"the server said {said} with 1")
     return f"{last.split()[0]} {server.returncode}" if last.startswith("served") else last
 
 
@@ -152,22 +174,24 @@ def main():
         at = words.index("--program")
         serve.PROGRAM = words[at + 1]
         del words[at : at + 2]
-    tries = {"server": try_server, "submit": try_submit}
+    tries = {"server": try_server, "submit": try_submit, "memory": try_server}
     if not words or words[0] not in tries:
         sys.exit(__doc__)
     first, last, step = ([int(it) for it in words[1:]] + [1, 10**6, 1][len(words) - 1 :])[:3]
     work = serve.tempfile.mkdtemp(prefix="fails-")
+    is_memory = words[0] == "memory"
     library = f"{work}/fail.so"
-    subprocess.run(["gcc", "-O1", "-shared", "-fPIC", "-o", library, os.path.join(serve.HERE, "fail.c"), "-ldl"], check=True)
+    source = os.path.join(serve.HERE, "refuse.c" if is_memory else "fail.c")
+    subprocess.run(["gcc", "-O1", "-shared", "-fPIC", "-o", library, source, "-ldl"], check=True)
     template_of(work)
     calls, ends = collections.Counter(), collections.Counter()
     for number in range(first, last + 1, step):
         is_met = False
-        for number_of_error, is_done in WAYS:
+        for number_of_error, is_done in [(errno.ENOMEM, False)] if is_memory else WAYS:
             place = serve.Place()
             try:
                 prepare(place, work)
-                way = Way(place, library, number, number_of_error, is_done)
+                way = Want(place, library, number) if is_memory else Way(place, library, number, number_of_error, is_done)
                 ends.update(tries[words[0]](place, way))
             except (serve.Wrong, subprocess.TimeoutExpired) as wrong:
                 sys.exit(f"fails.py: call {number} ({way.met()}), {errno.errorcode[number_of_error]}{' behind it' if is_done else ''}: {wrong} (in {place.work})")

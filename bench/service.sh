@@ -38,7 +38,8 @@ served() {
     begin=$EPOCHREALTIME
     "$cclib" serve "$work/disk" "$work/spool" --workers 4 --clients "$2" --quiet > "$work/told" &
     server=$!
-    trap 'kill $server 2> /dev/null || true' EXIT
+    # shellcheck disable=SC2064
+    trap "kill $server 2> /dev/null || true" EXIT
     while [ ${#answers[@]} -lt "$2" ]; do
         sleep 0.002
         kill -0 $server || fail "the server ended: $(cat "$work/told")"
