@@ -1,6 +1,6 @@
 //! Tests of the compiler from text to run: the worked rows, the pieces of a unit in every order, each refusal, the limits, comparisons with
 //! constants, and eight programs whose words are gcc's. `audits` has those of the audit, `build` those of the protocol core with the build that compiles,
-//! `stages` those of what is shown of each stage.
+//! `stages` those of what is shown of each stage, `memory` what a refused growth leaves.
 #![tactic(auto)]
 
 #[cfg(test)]
@@ -15,6 +15,8 @@ mod earlier;
 mod helpers;
 #[cfg(test)]
 mod limits;
+#[cfg(test)]
+mod memory;
 #[cfg(test)]
 mod numbered;
 #[cfg(test)]
