@@ -88,7 +88,8 @@ fn a_list_of_the_most_labels_takes_no_stack(rt: HostRuntime) -> Result<(), Fail>
     Ok(())
 }
 
-// Each of these growths may be refused (`rt try --test --fail-alloc N` refuses the Nth): then the item comes back, and the list stays.
+// Each of these growths may be refused (`bench/memory.sh list` refuses each in turn): then the item comes back, the list stays, and the item
+// goes in when it is added again.
 #[test]
 fn a_refused_growth_hands_the_item_back(rt: HostRuntime) -> Result<(), Fail> {
     let mut list = InstrList::new(rt.alloc());
@@ -102,6 +103,7 @@ fn a_refused_growth_hands_the_item_back(rt: HostRuntime) -> Result<(), Fail> {
                     assert_eq!(rt; refused.value, item);
                     assert_eq!(rt; list.given(), given);
                     assert_eq!(rt; list.len(), before);
+                    list.push_back(refused.value)?;
                 }
             }
         }
@@ -118,9 +120,11 @@ fn a_refused_growth_hands_the_item_back(rt: HostRuntime) -> Result<(), Fail> {
                     assert_eq!(rt; refused.value, item);
                     assert_eq!(rt; list.given(), given);
                     assert_eq!(rt; list.len(), before);
+                    list.insert_before(first, refused.value)?;
                 }
             }
         }
     }
+    assert_eq!(rt; list.len(), 40);
     Ok(())
 }
