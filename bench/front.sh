@@ -5,13 +5,13 @@
 # in turn and each the best of ROUNDS runs (40); and the most memory of `check`, in bytes for each byte of text, without that of an
 # empty text; and what initialisers of an array of bytes cost by those of an array of words. `check` is `--quiet check`, since gcc does not
 # warn either; how much longer it takes where it warns is told last.
-# Run by hand; the program has to be built (./cclib --help). CCLIB names another program in its place.
+# The program has to be built (./cclib), or CCLIB names one that is.
 set -eu
-here=$(cd "$(dirname "$0")/.." && pwd)
-program=${CCLIB:-$here/crates/cclib/out/cclib}
-[ -x "$program" ] || { echo "front.sh: build the program first: ./cclib --help" >&2; exit 1; }
-work=$(mktemp -d)
-trap 'rm -rf "$work"' EXIT
+# shellcheck source=bench/words.sh
+. "$(dirname "$0")/words.sh"
+cclib
+room
+program=$cclib
 
 # text KIND BYTES: a program of about BYTES bytes
 text() {
@@ -63,23 +63,7 @@ for kind in statements blocks comments names objects functions; do
 done
 for kind in statements blocks comments names objects functions nested; do text "$kind" 65536 > "$work/$kind.c"; done
 # A process counts the memory of the one that it is made of, so a small one starts the program, and tells the most that it took.
-cat > "$work/peak.c" <<'C'
-#include <stdio.h>
-#include <sys/resource.h>
-#include <sys/wait.h>
-#include <unistd.h>
-int main(int count, char **words) {
-  struct rusage used;
-  pid_t child = fork();
-  if (child == 0) {
-    if (freopen(words[1], "r", stdin) && freopen("/dev/null", "w", stdout)) execv(words[2], words + 2);
-    _exit(127);
-  }
-  wait4(child, 0, 0, &used);
-  printf("%ld\n", used.ru_maxrss);
-}
-C
-gcc -O1 -o "$work/peak" "$work/peak.c"
+gcc -O1 -o "$work/peak" "$top/bench/peak.c"
 python3 - "$program" "$work" <<'P'
 import math, os, subprocess, sys
 
@@ -88,8 +72,9 @@ ROUNDS = int(os.environ.get("ROUNDS", 40))
 
 
 def peak(path):
-    """The most memory of `check`, in KiB."""
-    return int(subprocess.run([f"{work}/peak", path, program, "--quiet", "check"], capture_output=True, check=True).stdout)
+    """The most memory of `check`, in MB."""
+    with open(path) as source:
+        return float(subprocess.run([f"{work}/peak", program, "--quiet", "check"], stdin=source, capture_output=True, check=True).stdout)
 
 
 def seconds(words, path):
@@ -117,7 +102,7 @@ floor = peak(f"{work}/empty.c")
 for kind in ["statements", "blocks", "comments", "names", "objects", "functions", "nested"]:
     path = f"{work}/{kind}.c"
     mine, other, warning = [time - before for time, before in zip(least(path), start)]
-    memory = (peak(path) - floor) * 1024 / os.path.getsize(path)
+    memory = (peak(path) - floor) * (1 << 20) / os.path.getsize(path)
     print(f"check, {kind}: {mine * 1000:.1f} ms, gcc -fsyntax-only {other * 1000:.1f} ms: {other / mine:.2f} times as fast; {memory:.0f} bytes of memory for a byte of text")
     if kind != "nested":
         ratios.append(other / mine)

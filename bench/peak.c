@@ -20,6 +20,6 @@ int main(int count, char **words)
     }
     if (child < 0 || wait4(child, &status, 0, &used) != child || status != 0)
         return 1;
-    printf("%.1f\n", used.ru_maxrss / 1024.0);
+    printf("%.3f\n", used.ru_maxrss / 1024.0);
     return 0;
 }
