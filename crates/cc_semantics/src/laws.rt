@@ -5,8 +5,9 @@ ghost use Rattle.cc_semantics.specs.Earlier.{EarlierTreesStay, NoTreeIsNew, Earl
 ghost use Rattle.cc_semantics.specs.Function.{TypedUnitsHaveMeaning, RunsGoOn};
 ghost use Rattle.cc_semantics.specs.Numbered.{CallsAreNumbered, ProgramsAreNumbered, TypedUnitsHaveMeanings};
 ghost use Rattle.cc_semantics.specs.Resolved.{FunctionsAreResolved};
+ghost use Rattle.cc_typing.specs.Verdict.{VerdictsAreOne, TextsHaveVerdicts};
 
-use cc_syntax::{tokens_are_determined, trees_are_determined};
+use cc_syntax::{parse_is_determined, tokens_are_determined, trees_are_determined};
 
 /// Each function of a typed unit has its meaning: a call with no step left is unfinished; where 1,024 calls are open a call
 /// spends a step and goes wrong; below that it is its body with one step less.
@@ -68,6 +69,14 @@ pub fn earlier_texts_stay()
 {
     tokens_are_determined();
     trees_are_determined();
+}
+
+/// What `parse` and then `check` answer is a function of the text, lack of memory set aside.
+pub fn verdicts_are_determined()
+    ensures one_verdict { VerdictsAreOne }
+    ensures some_verdict { TextsHaveVerdicts }
+{
+    parse_is_determined();
 }
 
 /// Each typed unit has a meaning by number, which its calls, its bodies and its run have by name.

@@ -13,10 +13,10 @@ use Rattle.cc_tokens.specs.declared.token.TokenKind.TheVariants.{Identifier}
 use Rattle.cc_tokens.specs.Place.{place_of}
 use Rattle.cc_tokens.specs.Token.{Lexeme}
 use Rattle.cc_tokens.specs.Tokens.{IsTokens, FirstLexicalError, IsLexicalFault, lexical_fault}
-use Rattle.cc_syntax.specs.Tree.{External}
-use Rattle.cc_syntax.specs.Grammar.{Measured, plain_tokens, Begins}
-use Rattle.cc_syntax.specs.Limits.{IsWithin, PassesLimit, SpellsWithin, UnexpectedAt, TooDeepAt, IsFineBefore}
-use Rattle.cc_syntax.specs.Parse.{place_at_token, IsParseAnswer, ParseAnswersAreOne, TextsHaveAnswers}
+use Rattle.cc_ast.specs.Tree.{External}
+use Rattle.cc_ast.specs.Grammar.{Measured, plain_tokens, Begins}
+use Rattle.cc_ast.specs.Limits.{IsWithin, PassesLimit, SpellsWithin, UnexpectedAt, TooDeepAt, IsFineBefore}
+use Rattle.cc_ast.specs.Parse.{place_at_token, IsParseAnswer, ParseAnswersAreOne, TextsHaveAnswers}
 use Rattle.cc_syntax.specs.internal.Parser.{State, start, step, standing, tree_of}
 use Rattle.cc_tokens.proofs.Cuts.{tokens_are_one, tokens_have_no_error, first_error_is_one}
 use Rattle.cc_tokens.proofs.Total.{tokens_or_error}

@@ -2,8 +2,8 @@
 use Rattle.std.proofs.Common.{◌≡◌, ◌<◌, ◌≤◌, ℕ, suc, List, [], ◌∷◌, ◌++◌, refl, sym, ap, subst, cond, leb, arith}
 use Rattle.std.proofs.lemmas.Bool.{lt-leb, le-leb}
 use Rattle.cc_tokens.specs.Token.{Lexeme}
-use Rattle.cc_syntax.specs.Tree.{Expr}
-use Rattle.cc_syntax.specs.Grammar.{Measured, full_after, precedence}
+use Rattle.cc_ast.specs.Tree.{Expr}
+use Rattle.cc_ast.specs.Grammar.{Measured, full_after, precedence}
 use Rattle.cc_syntax.specs.internal.Parser.{State, InFull, Operand, Operator, Context, Waiting, Parenthesis, Index, Arguments, Prefix, Casting, Infix, Then, Otherwise, full_of, reduced}
 use Rattle.cc_syntax.proofs.ParserRuns.{Runs, runs-append}
 

@@ -2,9 +2,9 @@
 use Rattle.std.proofs.Common.{ℕ, List, [], ◌∷◌, ◌++◌, Option, refl, sym, ap, subst, ◌∙◌, append_assoc}
 use Rattle.std.proofs.lemmas.List.{append-nil}
 use Rattle.cc_tokens.specs.Token.{Lexeme}
-use Rattle.cc_syntax.specs.Tree.{External}
+use Rattle.cc_ast.specs.Tree.{External}
 use Rattle.cc_syntax.specs.internal.Roles.{role_of}
-use Rattle.cc_syntax.specs.Grammar.{Measured, SpellsExternals, SpellsUnit}
+use Rattle.cc_ast.specs.Grammar.{Measured, SpellsExternals, SpellsUnit}
 use Rattle.cc_syntax.specs.internal.Parser.{State, AtFile, InBody, InFull, Between, step, level_at, count_of, start}
 use Rattle.cc_syntax.proofs.ParserRuns.{Runs}
 use Rattle.cc_syntax.proofs.Finishes.{IsUnit}

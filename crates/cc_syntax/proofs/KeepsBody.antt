@@ -6,8 +6,8 @@ use Rattle.cc_tokens.specs.declared.scalar.Scalar.{Scalar}
 use Rattle.cc_tokens.specs.declared.token.Keyword.TheVariants as keyword
 use Rattle.cc_tokens.specs.declared.token.Punctuator.TheVariants as punctuator
 use Rattle.cc_tokens.specs.Token.{Lexeme}
-use Rattle.cc_syntax.specs.Tree.{Expr, Beginning, Performs, Declares, Declarator, Stmt, Local, If, IfElse, While, For, Stmts, end, next}
-use Rattle.cc_syntax.specs.Grammar.{Measured, outside, full, begins, Marks, IsKeyword, SpellsStatement, SpellsStatements, IsStatement, IsClosed}
+use Rattle.cc_ast.specs.Tree.{Expr, Beginning, Performs, Declares, Declarator, Stmt, Local, If, IfElse, While, For, Stmts, end, next}
+use Rattle.cc_ast.specs.Grammar.{Measured, outside, full, begins, Marks, IsKeyword, SpellsStatement, SpellsStatements, IsStatement, IsClosed}
 use Rattle.cc_syntax.specs.internal.Parser.{Inside, Stage, AsLocal, AsHeader, AsStatement, AsStart, AsLast, ForIf, ForWhile, Open, InBlock, InThen, InElse, InWhile, InDo, InFor, settled, with_last}
 use Rattle.cc_syntax.proofs.ReadsStatement.{CanStand}
 use Rattle.cc_syntax.proofs.SoFarBody.{depth, first, TestingSoFar, SteppingSoFar, StartingSoFar, ReturningSoFar, DeclarationSoFar, SpotSoFar, OpenSoFar, BodySoFar, StageSoFar}

@@ -5,8 +5,8 @@ use Rattle.std.proofs.lemmas.List.{append-nil}
 use Rattle.cc_syntax.specs.declared.parser.role.Role.{Role}
 use Rattle.cc_syntax.specs.declared.parser.role.Role.TheVariants as role
 use Rattle.cc_tokens.specs.Token.{Lexeme}
-use Rattle.cc_syntax.specs.Tree.{Expr, Action, Perform, Stmt}
-use Rattle.cc_syntax.specs.Grammar.{Measured, outside, full, SpellsAction, SpellsStatement, IsClosed}
+use Rattle.cc_ast.specs.Tree.{Expr, Action, Perform, Stmt}
+use Rattle.cc_ast.specs.Grammar.{Measured, outside, full, SpellsAction, SpellsStatement, IsClosed}
 use Rattle.cc_syntax.specs.internal.Parser.{State, AtFile, InBody, InFull, Inside, Full, Phase, Context, OfBody, OfObject, Test, ForIf, ForWhile, ForDo, Spot, AsStatement, AsStart, AsLast, Open, InThen, InWhile, InFor, Waiting, settle, opens, acted, tested, settled}
 use Rattle.cc_syntax.proofs.Forms.{count_after, count_after-append, full_after-append}
 use Rattle.cc_syntax.proofs.Settles.{settled-count}

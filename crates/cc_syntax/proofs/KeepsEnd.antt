@@ -6,8 +6,8 @@ use Rattle.cc_tokens.specs.declared.token.Punctuator.TheVariants as punctuator
 use Rattle.cc_syntax.specs.declared.parser.role.Role.{Role}
 use Rattle.cc_syntax.specs.declared.parser.role.Role.TheVariants as role
 use Rattle.cc_tokens.specs.Token.{Lexeme}
-use Rattle.cc_syntax.specs.Tree.{Name, Expr, Assign, Evaluate, Declarator, Local, Return}
-use Rattle.cc_syntax.specs.Grammar.{Measured, outside, full, begins, identifier, Marks, SpellsExpression, SpellsRow, SpellsDeclarator, SpellsInitial}
+use Rattle.cc_ast.specs.Tree.{Name, Expr, Assign, Evaluate, Declarator, Local, Return}
+use Rattle.cc_ast.specs.Grammar.{Measured, outside, full, begins, identifier, Marks, SpellsExpression, SpellsRow, SpellsDeclarator, SpellsInitial}
 use Rattle.cc_syntax.specs.internal.Parser.{Inside, Phase, Context, OfBody, Purpose, ToPerform, ToAssign, ToStep, ToReturn, ToTest, ToGoOn, ToInitialise, Position, AsLocal, AsHeader, Open, Waiting, declares, declared, end_in_body}
 use Rattle.cc_syntax.proofs.Forms.{count_after, count_after-append, full_after-append}
 use Rattle.cc_syntax.proofs.ReadsStatement.{CanStand}

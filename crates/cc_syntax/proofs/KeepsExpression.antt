@@ -2,8 +2,8 @@
 use Rattle.std.proofs.Common.{◌≡◌, ◌≤◌, ℕ, suc, List, [], ◌∷◌, ◌++◌, refl, sym, ap, subst, ◌∙◌, arith, append_assoc, inl, inr}
 use Rattle.std.proofs.lemmas.Bool.Decides.{leb_tells}
 use Rattle.cc_tokens.specs.Token.{Lexeme}
-use Rattle.cc_syntax.specs.Tree.{Expr, Number, Variable, Element, Call, Parenthesised, Unary, Cast, Binary, Conditional}
-use Rattle.cc_syntax.specs.Grammar.{SpellsExpression, precedence}
+use Rattle.cc_ast.specs.Tree.{Expr, Number, Variable, Element, Call, Parenthesised, Unary, Cast, Binary, Conditional}
+use Rattle.cc_ast.specs.Grammar.{SpellsExpression, precedence}
 use Rattle.cc_syntax.specs.internal.Parser.{Waiting, Parenthesis, Index, Arguments, Prefix, Casting, Infix, Then, Otherwise, reduced}
 use Rattle.cc_syntax.proofs.Forms.{pops, keeps}
 use Rattle.cc_syntax.proofs.ReadsExpression.{precedence-within}

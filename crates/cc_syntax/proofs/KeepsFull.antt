@@ -1,13 +1,13 @@
 -- A token of a full expression keeps what its tokens spell: those that stay in it. With what waits and the operand after
 -- it, the tokens that came are spelled (SoFar); where nothing waits any more, the whole expression is.
 use Rattle.std.proofs.Common.{◌≡◌, ◌≤◌, ℕ, List, [], ◌∷◌, ◌++◌, refl, sym, ap, subst, ◌∙◌, arith, append_assoc}
-use Rattle.cc_syntax.specs.declared.ast.BinaryOperator.{BinaryOperator}
+use Rattle.cc_ast.specs.declared.ast.BinaryOperator.{BinaryOperator}
 use Rattle.cc_tokens.specs.declared.token.Punctuator.TheVariants as punctuator
 use Rattle.cc_tokens.specs.declared.token.TokenKind.{TokenKind}
 use Rattle.cc_tokens.specs.declared.token.TokenKind.TheVariants as kind
 use Rattle.cc_tokens.specs.Token.{Lexeme}
-use Rattle.cc_syntax.specs.Tree.{Name, Expr, Number, Variable, Element, Call, Parenthesised, Unary, Cast, Binary, Conditional, Exprs, none, more}
-use Rattle.cc_syntax.specs.Grammar.{identifier, Marks, SpellsExpression, SpellsArguments, precedence, binary_punctuator}
+use Rattle.cc_ast.specs.Tree.{Name, Expr, Number, Variable, Element, Call, Parenthesised, Unary, Cast, Binary, Conditional, Exprs, none, more}
+use Rattle.cc_ast.specs.Grammar.{identifier, Marks, SpellsExpression, SpellsArguments, precedence, binary_punctuator}
 use Rattle.cc_syntax.specs.internal.Parser.{Waiting, Parenthesis, Index, Arguments, Infix, Then, Otherwise, with_argument, name_of}
 use Rattle.cc_syntax.proofs.SoFar.{ArgumentsSoFar, WaitingSoFar, Holds}
 use Rattle.cc_syntax.proofs.KeepsExpression.{spells-looser, room-most, room-one, Reduces}

@@ -8,8 +8,8 @@ use Rattle.cc_syntax.specs.declared.parser.role.Role.TheVariants as role
 use Rattle.cc_tokens.specs.Token.{Lexeme}
 use Rattle.cc_syntax.specs.declared.parser.state.ObjectKind.{ObjectKind}
 use Rattle.cc_syntax.specs.declared.parser.state.ObjectKind.TheVariants.{Words, Bytes}
-use Rattle.cc_syntax.specs.Tree.{Name, Expr, ConstantExpr, Object, Single, External, Objects}
-use Rattle.cc_syntax.specs.Grammar.{Measured, outside, full, identifier, Marks, SpellsExpression, SpellsRow, SpellsConstantExpr, IsOptionalComma, SpellsList, SpellsArray, SpellsObject, SpellsObjects, SpellsExternal, SpellsExternals}
+use Rattle.cc_ast.specs.Tree.{Name, Expr, ConstantExpr, Object, Single, External, Objects}
+use Rattle.cc_ast.specs.Grammar.{Measured, outside, full, identifier, Marks, SpellsExpression, SpellsRow, SpellsConstantExpr, IsOptionalComma, SpellsList, SpellsArray, SpellsObject, SpellsObjects, SpellsExternal, SpellsExternals}
 use Rattle.cc_syntax.specs.internal.Parser.{AtFile, Outer, Between, Valuing, Phase, OfObject, Part, ToSize, ToSingle, ToValue, Naming, Waiting, array_of, scalar_of, with_object, constant, separated, end_list_value, end_in_object}
 use Rattle.cc_syntax.proofs.KeepsPhase.{HasRole}
 use Rattle.cc_syntax.proofs.KeepsBody.{regrouped}

@@ -1,15 +1,15 @@
 -- A token in a full expression, and the first token of one, keep what the tokens before the state spell.
 use Rattle.std.proofs.Common.{◌≡◌, ◌≤◌, ℕ, suc, List, [], ◌∷◌, ◌++◌, Option, Some, None, refl, sym, ap, subst, ◌∙◌, arith, inr}
 use Rattle.std.proofs.lemmas.List.{append-nil}
-use Rattle.cc_syntax.specs.declared.ast.BinaryOperator.{BinaryOperator}
-use Rattle.cc_syntax.specs.declared.ast.BinaryOperator.TheVariants as binary
-use Rattle.cc_syntax.specs.declared.ast.AssignmentOperator.{AssignmentOperator}
-use Rattle.cc_syntax.specs.declared.ast.StepOperator.{StepOperator}
+use Rattle.cc_ast.specs.declared.ast.BinaryOperator.{BinaryOperator}
+use Rattle.cc_ast.specs.declared.ast.BinaryOperator.TheVariants as binary
+use Rattle.cc_ast.specs.declared.ast.AssignmentOperator.{AssignmentOperator}
+use Rattle.cc_ast.specs.declared.ast.StepOperator.{StepOperator}
 use Rattle.cc_syntax.specs.declared.parser.role.Role.{Role}
 use Rattle.cc_syntax.specs.declared.parser.role.Role.TheVariants as role
 use Rattle.cc_tokens.specs.Token.{Lexeme}
-use Rattle.cc_syntax.specs.Tree.{Expr, Variable, Element, Target, Step}
-use Rattle.cc_syntax.specs.Grammar.{Measured, full, Marks, SpellsExpression, SpellsTarget, SpellsAction, precedence, binary_punctuator, assignment_punctuator, step_punctuator}
+use Rattle.cc_ast.specs.Tree.{Expr, Variable, Element, Target, Step}
+use Rattle.cc_ast.specs.Grammar.{Measured, full, Marks, SpellsExpression, SpellsTarget, SpellsAction, precedence, binary_punctuator, assignment_punctuator, step_punctuator}
 use Rattle.cc_syntax.specs.internal.Parser.{State, AtFile, InBody, InFull, Inside, Full, Phase, Operand, Operator, CastSign, CastType, Context, OfBody, OfObject, Purpose, ToPerform, ToAssign, Spot, AsStatement, AsStart, AsLast, Open, Waiting, reduced, full_of, close, operate, ask, open_name, assign, assigns, step_target, steps, target_of, end_full, operand_step, operator_step, cast_step, cast_sign_step, full_step, first_step, name_of}
 use Rattle.cc_syntax.proofs.Forms.{count_after, count_after-append}
 use Rattle.cc_syntax.proofs.ReadsExpression.{precedence-within}

@@ -4,16 +4,16 @@ use Rattle.std.proofs.lemmas.Bool.{false≢true, and_parts}
 use Rattle.std.proofs.lemmas.List.{append-nil}
 use Rattle.cc_tokens.specs.declared.scalar.Scalar.{Scalar}
 use Rattle.cc_tokens.specs.declared.scalar.Scalar.TheVariants as scalar
-use Rattle.cc_syntax.specs.declared.ast.AssignmentOperator.TheVariants as assignment
+use Rattle.cc_ast.specs.declared.ast.AssignmentOperator.TheVariants as assignment
 use Rattle.cc_tokens.specs.declared.token.Keyword.TheVariants as keyword
 use Rattle.cc_tokens.specs.declared.token.Punctuator.TheVariants as punctuator
 use Rattle.cc_syntax.specs.declared.parser.role.Role.{Role}
 use Rattle.cc_syntax.specs.declared.parser.role.Role.TheVariants as role
 use Rattle.cc_tokens.specs.Token.{Lexeme}
-use Rattle.cc_syntax.specs.Tree.{Name, ConstantExpr, Parameter, Signature, Object, Single, External, Declaration}
+use Rattle.cc_ast.specs.Tree.{Name, ConstantExpr, Parameter, Signature, Object, Single, External, Declaration}
 use Rattle.cc_syntax.specs.declared.parser.state.ObjectKind.{ObjectKind}
 use Rattle.cc_syntax.specs.declared.parser.state.ObjectKind.TheVariants.{Words, Bytes}
-use Rattle.cc_syntax.specs.Grammar.{Measured, outside, identifier, Marks, IsKeyword, SpellsType, SpellsRow, optional_identifier, SpellsParameter, SpellsParameters, AreNamed, SpellsExternals}
+use Rattle.cc_ast.specs.Grammar.{Measured, outside, identifier, Marks, IsKeyword, SpellsType, SpellsRow, optional_identifier, SpellsParameter, SpellsParameters, AreNamed, SpellsExternals}
 use Rattle.cc_syntax.specs.internal.Parser.{AtFile, Outer, Between, ResultSign, Typed, Named, Parameters, OnlyVoid, ParameterNext, ParameterSign, ParameterTyped, ParameterNamed, Headed, ObjectNext, ObjectNamed, Sizing, Sized, Initialising, Listing, Valuing, Listed, OfObject, ToSize, ToSingle, ToValue, Naming, array_of, with_object, signature_of, with_parameter, all_named, external_step, typed_step, char_step, result_sign_step, single_step, object_step, named_step, parameter_step, parameters_step, only_void_step, parameter_named_step, parameter_typed_step, parameter_sign_step, defines, headed_step, object_next_step, sizing_step, sized_step, listing_step, end_list, valuing_step, outer_step, outer_level, name_of}
 use Rattle.cc_syntax.proofs.KeepsFull.{identified}
 use Rattle.cc_syntax.proofs.SoFarBody.{RowSoFar}

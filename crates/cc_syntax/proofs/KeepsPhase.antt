@@ -11,9 +11,9 @@ use Rattle.cc_tokens.specs.declared.token.TokenKind.TheVariants as kind
 use Rattle.cc_syntax.specs.declared.parser.role.Role.{Role}
 use Rattle.cc_syntax.specs.declared.parser.role.Role.TheVariants as role
 use Rattle.cc_tokens.specs.Token.{Lexeme}
-use Rattle.cc_syntax.specs.Tree.{Expr, Number, Variable, none}
+use Rattle.cc_ast.specs.Tree.{Expr, Number, Variable, none}
 use Rattle.cc_syntax.specs.internal.Roles.{role_of, keyword_role, punctuator_role}
-use Rattle.cc_syntax.specs.Grammar.{Marks, IsKeyword, sign_word, unary_punctuator, binary_punctuator, assignment_punctuator, step_punctuator, SpellsType}
+use Rattle.cc_ast.specs.Grammar.{Marks, IsKeyword, sign_word, unary_punctuator, binary_punctuator, assignment_punctuator, step_punctuator, SpellsType}
 use Rattle.cc_syntax.specs.internal.Parser.{State, AtFile, InBody, InFull, Full, Phase, Operand, Operator, CastSign, CastType, Waiting, Parenthesis, Index, Arguments, Then, cast, call_of_none, operand_step, cast_step, cast_sign_step, open_name, close, name_of}
 use Rattle.cc_syntax.proofs.SoFar.{WaitingSoFar, Holds, Casts, IsSign}
 use Rattle.cc_syntax.proofs.KeepsFull.{identified, holds-one, kept-colon, kept-parenthesis, kept-index, kept-comma, kept-call, kept-call-none, kept-open-call, kept-open-index}

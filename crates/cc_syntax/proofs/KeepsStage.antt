@@ -4,15 +4,15 @@ use Rattle.std.proofs.lemmas.Bool.{false≢true}
 use Rattle.std.proofs.lemmas.List.{append-nil}
 use Rattle.cc_tokens.specs.declared.scalar.Scalar.{Scalar}
 use Rattle.cc_tokens.specs.declared.scalar.Scalar.TheVariants as scalar
-use Rattle.cc_syntax.specs.declared.ast.AssignmentOperator.TheVariants as assignment
-use Rattle.cc_syntax.specs.declared.ast.StepOperator.{StepOperator}
+use Rattle.cc_ast.specs.declared.ast.AssignmentOperator.TheVariants as assignment
+use Rattle.cc_ast.specs.declared.ast.StepOperator.{StepOperator}
 use Rattle.cc_tokens.specs.declared.token.Keyword.TheVariants as keyword
 use Rattle.cc_tokens.specs.declared.token.Punctuator.TheVariants as punctuator
 use Rattle.cc_syntax.specs.declared.parser.role.Role.{Role}
 use Rattle.cc_syntax.specs.declared.parser.role.Role.TheVariants as role
 use Rattle.cc_tokens.specs.Token.{Lexeme}
-use Rattle.cc_syntax.specs.Tree.{Name, Expr, AtVariable, Action, Step, Declarator, Beginning, Performs, Stmt, Block, Perform, Return, If, IfElse, While, For, end, Definition}
-use Rattle.cc_syntax.specs.Grammar.{Measured, outside, full, identifier, Marks, IsKeyword, sign_word, SpellsAction}
+use Rattle.cc_ast.specs.Tree.{Name, Expr, AtVariable, Action, Step, Declarator, Beginning, Performs, Stmt, Block, Perform, Return, If, IfElse, While, For, end, Definition}
+use Rattle.cc_ast.specs.Grammar.{Measured, outside, full, identifier, Marks, IsKeyword, sign_word, SpellsAction}
 use Rattle.cc_syntax.specs.internal.Parser.{Inside, Stage, Item, AfterThen, AfterDo, Testing, Ending, Returning, ForOpening, ForStarting, ForTesting, ForStepping, LocalSign, Declaring, HasDeclared, Stepping, StepNamed, Stepped, OfBody, ToPerform, ToStep, ToReturn, ToTest, ToGoOn, ToInitialise, Test, Position, AsLocal, Spot, AsStatement, AsStart, AsLast, Open, InBlock, InThen, InElse, InWhile, InDo, InFor, inside_of, settled, close_block, declare, action_step, item_step, do_step, resting_step, else_step, testing_step, ending_step, returning_step, for_opening_step, for_starting_step, for_testing_step, for_stepping_step, local_sign_step, declaring_step, declared_step, stepping_step, step_named_step, body_step, item_level, resting_depth, resting_level, else_level, header_level, stage_level, name_of, acted}
 use Rattle.cc_syntax.proofs.Settles.{within}
 use Rattle.cc_syntax.proofs.KeepsFull.{identified}

@@ -2,7 +2,7 @@
 use Rattle.std.proofs.Common.{◌≡◌, refl, Option, false}
 use Rattle.cc_syntax.specs.declared.parser.role.Role.{Role}
 use Rattle.cc_syntax.specs.declared.parser.role.Role.TheVariants as role
-use Rattle.cc_syntax.specs.Tree.{Name, Expr, Stmt, If, Beginning}
+use Rattle.cc_ast.specs.Tree.{Name, Expr, Stmt, If, Beginning}
 use Rattle.cc_syntax.specs.internal.Parser.{Inside, AsLast, settled, action_step, resting_step, else_step, for_stepping_step}
 
 -- no parenthesis closes a `for` header, so its last part begins

@@ -3,13 +3,13 @@ use Rattle.std.proofs.Common.{◌≡◌, ◌≤◌, ℕ, List, length, Result, O
 use Rattle.cc_tokens.specs.declared.place.Place.{Place}
 use Rattle.cc_tokens.specs.declared.fault.SyntaxFault.{SyntaxFault}
 use Rattle.cc_tokens.specs.declared.fault.SyntaxFault.TheVariants as fault
-use Rattle.cc_syntax.specs.declared.unit.Unit as unit
+use Rattle.cc_ast.specs.declared.unit.Unit as unit
 use Rattle.cc_tokens.specs.Token.{Lexeme}
-use Rattle.cc_syntax.specs.Tree.{External}
+use Rattle.cc_ast.specs.Tree.{External}
 use Rattle.cc_tokens.specs.Tokens.{IsLexicalFault}
-use Rattle.cc_syntax.specs.Limits.{SpellsWithin, UnexpectedAt, TooDeepAt}
-use Rattle.cc_syntax.specs.Parse.{SpellsText, BreaksAt, IsParseRefusal}
-use Rattle.cc_syntax.specs.Source.{source, AnswersTree}
+use Rattle.cc_ast.specs.Limits.{SpellsWithin, UnexpectedAt, TooDeepAt}
+use Rattle.cc_ast.specs.Parse.{SpellsText, BreaksAt, IsParseRefusal}
+use Rattle.cc_ast.specs.Source.{source, AnswersTree}
 use Rattle.cc_syntax.specs.internal.Answer.{IsParse}
 use Rattle.cc_tokens.proofs.Cuts.{tokens_are_one, tokens_have_no_error}
 use Rattle.cc_syntax.proofs.Verdict.{trees_are_one, spelled_have_no_fault}

@@ -1,8 +1,8 @@
 -- A closing parenthesis where an argument is due ends a call of no arguments alone.
 use Rattle.std.proofs.Common.{◌≡◌, List, [], ◌∷◌, ◌++◌, None, ap, ◌∙◌, refl}
-use Rattle.cc_syntax.specs.Tree.{Name}
-use Rattle.cc_syntax.specs.internal.Arguments.{expressions_of}
-use Rattle.cc_syntax.specs.declared.ast.Expression.{Expression}
+use Rattle.cc_ast.specs.Tree.{Name}
+use Rattle.cc_ast.specs.internal.Arguments.{expressions_of}
+use Rattle.cc_ast.specs.declared.ast.Expression.{Expression}
 use Rattle.cc_syntax.specs.declared.parser.state.Waiting as waiting
 use Rattle.cc_syntax.specs.internal.Parser.{Waiting, Arguments, Full, call_of_none}
 use Rattle.cc_syntax.specs.internal.ParserView.{waiting_view, waiting_views}

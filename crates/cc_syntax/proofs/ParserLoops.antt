@@ -2,10 +2,10 @@
 use Rattle.std.proofs.Common.{◌≡◌, Bool, true, false, ◌&&◌, List, [], ◌∷◌, ◌++◌, Option, Some, None, is_some, ap, ◌∙◌, sym, refl}
 use Rattle.std.specs.List.{list_all}
 use Rattle.std.specs.Option.{option_map}
-use Rattle.cc_syntax.specs.Tree.{Expr, Beginning, Action, Stmt, Stmts, If, IfElse, While, For}
-use Rattle.cc_syntax.specs.Erase.{name_tree, parameter_trees}
-use Rattle.cc_syntax.specs.declared.ast.Identifier.{Identifier}
-use Rattle.cc_syntax.specs.declared.ast.Parameter.{Parameter}
+use Rattle.cc_ast.specs.Tree.{Expr, Beginning, Action, Stmt, Stmts, If, IfElse, While, For}
+use Rattle.cc_ast.specs.Erase.{name_tree, parameter_trees}
+use Rattle.cc_ast.specs.declared.ast.Identifier.{Identifier}
+use Rattle.cc_ast.specs.declared.ast.Parameter.{Parameter}
 use Rattle.cc_syntax.specs.declared.parser.state.Open as open_statement
 use Rattle.cc_syntax.specs.internal.Parser.{Open, InBlock, InThen, InElse, InWhile, InDo, InFor, Inside, Stage, Item, with_last, inside_of, settled, all_named}
 use Rattle.cc_syntax.specs.internal.ParserView.{open_view, open_views}

@@ -4,7 +4,7 @@ use Rattle.std.proofs.Common.{◌≡◌, ℕ, List, [], ◌∷◌, ◌++◌, Opt
 use Rattle.cc_tokens.specs.declared.token.TokenKind.{TokenKind}
 use Rattle.cc_tokens.specs.Token.{Lexeme}
 use Rattle.cc_syntax.specs.internal.Roles.{role_of}
-use Rattle.cc_syntax.specs.Grammar.{Measured, plain_tokens}
+use Rattle.cc_ast.specs.Grammar.{Measured, plain_tokens}
 use Rattle.cc_syntax.specs.internal.Parser.{State, step, role_step, name_of, count_of, level_at, role_level}
 
 -- the parser goes over the tokens from one state to another

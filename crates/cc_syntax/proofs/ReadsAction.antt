@@ -1,18 +1,18 @@
 -- Each action that tokens spell is read from them: an assignment, an increment or decrement, an expression.
 use Rattle.std.proofs.Common.{◌≡◌, ℕ, true, false, suc, List, [], ◌∷◌, ◌++◌, Some, Bool, refl, sym, ap, subst, ◌∙◌, arith, append_assoc, inl, inr}
-use Rattle.cc_syntax.specs.declared.ast.AssignmentOperator.{AssignmentOperator}
-use Rattle.cc_syntax.specs.declared.ast.AssignmentOperator.TheVariants as assignment
-use Rattle.cc_syntax.specs.declared.ast.StepOperator.{StepOperator}
-use Rattle.cc_syntax.specs.declared.ast.StepOperator.TheVariants as stepping
+use Rattle.cc_ast.specs.declared.ast.AssignmentOperator.{AssignmentOperator}
+use Rattle.cc_ast.specs.declared.ast.AssignmentOperator.TheVariants as assignment
+use Rattle.cc_ast.specs.declared.ast.StepOperator.{StepOperator}
+use Rattle.cc_ast.specs.declared.ast.StepOperator.TheVariants as stepping
 use Rattle.cc_tokens.specs.declared.token.Punctuator.TheVariants as punctuator
 use Rattle.cc_tokens.specs.declared.token.TokenKind.{TokenKind}
 use Rattle.cc_tokens.specs.declared.token.TokenKind.TheVariants as kind
 use Rattle.cc_syntax.specs.declared.parser.role.Role.{Role}
 use Rattle.cc_syntax.specs.declared.parser.role.Role.TheVariants as role
 use Rattle.cc_tokens.specs.Token.{Lexeme}
-use Rattle.cc_syntax.specs.Tree.{Name, Expr, Variable, Element, Target, AtVariable, AtElement, Action, Assign, Step, Evaluate, Performs, Perform}
+use Rattle.cc_ast.specs.Tree.{Name, Expr, Variable, Element, Target, AtVariable, AtElement, Action, Assign, Step, Evaluate, Performs, Perform}
 use Rattle.cc_syntax.specs.internal.Roles.{role_of, punctuator_role}
-use Rattle.cc_syntax.specs.Grammar.{Measured, outside, full, full_after, begins, identifier, assignment_punctuator, step_punctuator, SpellsExpression, SpellsTarget, SpellsAction}
+use Rattle.cc_ast.specs.Grammar.{Measured, outside, full, full_after, begins, identifier, assignment_punctuator, step_punctuator, SpellsExpression, SpellsTarget, SpellsAction}
 use Rattle.cc_syntax.specs.internal.Parser.{State, Operand, ForTesting, InFor, in_body, inside_of, settled, InBody, InFull, Inside, Item, Stepping, StepNamed, Stepped, Context, OfBody, ToPerform, ToAssign, ToStep, Spot, AsStatement, AsStart, AsLast, Waiting, Index, Full, full_of, reduced, close, assign, step_target, acted, end_full, operator_step, operand_step, action_step, role_step, role_level, name_of, count_of}
 use Rattle.cc_syntax.proofs.ParserRuns.{Runs, token, runs-append}
 use Rattle.cc_syntax.proofs.Forms.{operand, operator, count_after, count_after-append, full_after-append, runs-full}

@@ -8,9 +8,9 @@ use Rattle.cc_tokens.specs.declared.token.TokenKind.{TokenKind}
 use Rattle.cc_tokens.specs.declared.token.TokenKind.TheVariants as kind
 use Rattle.cc_syntax.specs.declared.parser.role.Role.TheVariants as role
 use Rattle.cc_tokens.specs.Token.{Lexeme}
-use Rattle.cc_syntax.specs.Tree.{Name, Expr, Declarator, Declares, Local}
+use Rattle.cc_ast.specs.Tree.{Name, Expr, Declarator, Declares, Local}
 use Rattle.cc_syntax.specs.internal.Roles.{role_of}
-use Rattle.cc_syntax.specs.Grammar.{Measured, outside, full, begins, identifier, Marks, SpellsType, SpellsInitial, SpellsDeclarator, SpellsRow, SpellsLocal}
+use Rattle.cc_ast.specs.Grammar.{Measured, outside, full, begins, identifier, Marks, SpellsType, SpellsInitial, SpellsDeclarator, SpellsRow, SpellsLocal}
 use Rattle.cc_syntax.specs.internal.Parser.{State, InBody, Inside, HasDeclared, Declaring, LocalSign, ForTesting, Position, AsLocal, AsHeader, OfBody, ToInitialise, in_body, settled, declares, declared, end_full, role_step, role_level, name_of, count_of}
 use Rattle.cc_syntax.proofs.ParserRuns.{Runs, token, runs-append}
 use Rattle.cc_syntax.proofs.Forms.{operand, count_after}

@@ -1,10 +1,10 @@
 -- Each expression that tokens spell is read from them: an induction on its tree. After its tokens the parser may still
 -- hold parts of it that wait, which any operator of the level reduces to the whole expression.
 use Rattle.std.proofs.Common.{◌≡◌, ◌≤◌, ℕ, suc, List, [], ◌∷◌, ◌++◌, Some, refl, sym, ap, subst, ◌∙◌, arith, append_assoc, inl, inr}
-use Rattle.cc_syntax.specs.declared.ast.BinaryOperator.{BinaryOperator}
-use Rattle.cc_syntax.specs.declared.ast.BinaryOperator.TheVariants as binary
-use Rattle.cc_syntax.specs.declared.ast.UnaryOperator.{UnaryOperator}
-use Rattle.cc_syntax.specs.declared.ast.UnaryOperator.TheVariants as unary
+use Rattle.cc_ast.specs.declared.ast.BinaryOperator.{BinaryOperator}
+use Rattle.cc_ast.specs.declared.ast.BinaryOperator.TheVariants as binary
+use Rattle.cc_ast.specs.declared.ast.UnaryOperator.{UnaryOperator}
+use Rattle.cc_ast.specs.declared.ast.UnaryOperator.TheVariants as unary
 use Rattle.cc_tokens.specs.declared.scalar.Scalar.{Scalar}
 use Rattle.cc_tokens.specs.declared.scalar.Scalar.TheVariants as scalar
 use Rattle.cc_tokens.specs.declared.token.Keyword.TheVariants as keyword
@@ -12,9 +12,9 @@ use Rattle.cc_tokens.specs.declared.token.Punctuator.TheVariants as punctuator
 use Rattle.cc_tokens.specs.declared.token.TokenKind.TheVariants as kind
 use Rattle.cc_syntax.specs.declared.parser.role.Role.TheVariants as role
 use Rattle.cc_tokens.specs.Token.{Lexeme}
-use Rattle.cc_syntax.specs.Tree.{Name, Expr, Number, Variable, Element, Call, Parenthesised, Unary, Cast, Binary, Conditional, Exprs, none, more}
+use Rattle.cc_ast.specs.Tree.{Name, Expr, Number, Variable, Element, Call, Parenthesised, Unary, Cast, Binary, Conditional, Exprs, none, more}
 use Rattle.cc_syntax.specs.internal.Roles.{punctuator_role}
-use Rattle.cc_syntax.specs.Grammar.{Marks, SpellsType, SpellsExpression, SpellsArguments, full_after, precedence, binary_punctuator, unary_punctuator, identifier}
+use Rattle.cc_ast.specs.Grammar.{Marks, SpellsType, SpellsExpression, SpellsArguments, full_after, precedence, binary_punctuator, unary_punctuator, identifier}
 use Rattle.cc_syntax.specs.internal.Parser.{InFull, CastSign, CastType, Context, Waiting, Parenthesis, Index, Arguments, Prefix, Casting, Infix, Then, Otherwise, Full, full_of, reduced, operate, ask, close, operator_step, operand_step, with_argument, name_of}
 use Rattle.cc_syntax.proofs.ParserRuns.{Runs, token}
 use Rattle.cc_syntax.proofs.Forms.{operand, operator, count_after, count_after-append, runs-full, pops, Fits, fits-more, fits-stays}

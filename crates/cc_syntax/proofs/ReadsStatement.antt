@@ -9,9 +9,9 @@ use Rattle.cc_tokens.specs.declared.token.TokenKind.TheVariants as kind
 use Rattle.cc_syntax.specs.declared.parser.role.Role.{Role}
 use Rattle.cc_syntax.specs.declared.parser.role.Role.TheVariants as role
 use Rattle.cc_tokens.specs.Token.{Lexeme}
-use Rattle.cc_syntax.specs.Tree.{Name, Expr, Declarator, Action, Beginning, Declares, Performs, Stmt, Block, Local, Perform, Return, Break, Continue, If, IfElse, While, DoWhile, For, Stmts, end, next}
+use Rattle.cc_ast.specs.Tree.{Name, Expr, Declarator, Action, Beginning, Declares, Performs, Stmt, Block, Local, Perform, Return, Break, Continue, If, IfElse, While, DoWhile, For, Stmts, end, next}
 use Rattle.cc_syntax.specs.internal.Roles.{role_of}
-use Rattle.cc_syntax.specs.Grammar.{Measured, outside, full, begins, Marks, SpellsExpression, SpellsOptional, SpellsOptionalAction, SpellsBeginning, SpellsStatement, SpellsStatements, IsStatement, IsClosed}
+use Rattle.cc_ast.specs.Grammar.{Measured, outside, full, begins, Marks, SpellsExpression, SpellsOptional, SpellsOptionalAction, SpellsBeginning, SpellsStatement, SpellsStatements, IsStatement, IsClosed}
 use Rattle.cc_syntax.specs.internal.Parser.{State, InBody, Inside, Stage, Item, AfterThen, AfterDo, Testing, Ending, Returning, ForOpening, ForStarting, ForTesting, ForStepping, Declaring, LocalSign, AsLocal, AsHeader, Context, OfBody, ToReturn, ToTest, ToGoOn, Test, ForIf, ForWhile, ForDo, AsStatement, AsStart, AsLast, Open, InBlock, InThen, InElse, InWhile, InDo, InFor, Waiting, inside_of, in_body, settled, with_last, full_of, close, tested, declare, action_step, first_step, item_step, role_step, role_level, name_of, count_of}
 use Rattle.cc_syntax.proofs.ParserRuns.{Runs, token, runs-append}
 use Rattle.cc_syntax.proofs.Forms.{operand, operator, count_after}

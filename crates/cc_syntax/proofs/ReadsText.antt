@@ -9,8 +9,8 @@ use Rattle.cc_tokens.specs.Token.{Lexeme, lexeme, lexemes}
 use Rattle.cc_tokens.proofs.Found.{found_all, found_none}
 use Rattle.cc_syntax.specs.declared.parser.state.State as state
 use Rattle.cc_syntax.specs.declared.parser.stop.Stop as stop
-use Rattle.cc_syntax.specs.Tree.{External}
-use Rattle.cc_syntax.specs.Parse.{SpellsText}
+use Rattle.cc_ast.specs.Tree.{External}
+use Rattle.cc_ast.specs.Parse.{SpellsText}
 use Rattle.cc_syntax.specs.internal.Parser.{State, start, count_of, tree_of}
 use Rattle.cc_syntax.specs.internal.ParserView.{state_view, Advances}
 use Rattle.cc_syntax.proofs.ReadsTokens.{unit_state}

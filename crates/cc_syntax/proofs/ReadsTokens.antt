@@ -7,8 +7,8 @@ use Rattle.cc_syntax.specs.declared.parser.stop.Stop as stop
 use Rattle.cc_syntax.specs.declared.parser.stop.Stop.TheVariants as stops
 use Rattle.cc_syntax.specs.declared.parser.stop.Refusal.TheVariants as refusals
 use Rattle.cc_tokens.specs.Token.{Lexeme, lexeme, lexemes}
-use Rattle.cc_syntax.specs.Tree.{External}
-use Rattle.cc_syntax.specs.Limits.{SpellsWithin}
+use Rattle.cc_ast.specs.Tree.{External}
+use Rattle.cc_ast.specs.Limits.{SpellsWithin}
 use Rattle.cc_syntax.specs.internal.Parser.{State, AtFile, Between, count_of, tree_of}
 use Rattle.cc_syntax.specs.internal.ParserView.{state_view, Advances, Refuses}
 use Rattle.cc_syntax.proofs.Settles.{none-some}

@@ -1,10 +1,10 @@
 -- A block keeps its statements as a row, and a call its arguments: the trees are those of the row's list.
 use Rattle.std.proofs.Common.{◌≡◌, refl, ap}
-use Rattle.cc_syntax.specs.Tree.{next, more}
-use Rattle.cc_syntax.specs.Erase.{statement_tree, statements_tree, statements_of, expression_tree, expressions_tree}
-use Rattle.cc_syntax.specs.internal.Arguments.{expressions_of}
-use Rattle.cc_syntax.specs.declared.ast.Statement.{Row_of-Statement, end_of-Statement, more_of-Statement, items-the_row-Statement}
-use Rattle.cc_syntax.specs.declared.ast.Expression.{Row_of-Expression, end_of-Expression, more_of-Expression, items-the_row-Expression}
+use Rattle.cc_ast.specs.Tree.{next, more}
+use Rattle.cc_ast.specs.Erase.{statement_tree, statements_tree, statements_of, expression_tree, expressions_tree}
+use Rattle.cc_ast.specs.internal.Arguments.{expressions_of}
+use Rattle.cc_ast.specs.declared.ast.Statement.{Row_of-Statement, end_of-Statement, more_of-Statement, items-the_row-Statement}
+use Rattle.cc_ast.specs.declared.ast.Expression.{Row_of-Expression, end_of-Expression, more_of-Expression, items-the_row-Expression}
 
 pub statements_tree-row : (n : _) (row : Row_of-Statement n) → statements_tree row ≡ statements_of (items-the_row-Statement n row)
 statements_tree-row n end_of-Statement = refl

@@ -4,9 +4,9 @@ use Rattle.std.proofs.Common.{◌≡◌, true, false, List, [], ◌∷◌, ◌++
 use Rattle.std.specs.Prelude.{Bool}
 use Rattle.cc_syntax.specs.declared.parser.role.Role.{Role}
 use Rattle.cc_syntax.specs.declared.parser.role.Role.TheVariants as role
-use Rattle.cc_syntax.specs.Tree.{Name, Expr, Stmt, If, IfElse, While, For}
+use Rattle.cc_ast.specs.Tree.{Name, Expr, Stmt, If, IfElse, While, For}
 use Rattle.cc_syntax.specs.internal.Roles.{role_of}
-use Rattle.cc_syntax.specs.Grammar.{Measured}
+use Rattle.cc_ast.specs.Grammar.{Measured}
 use Rattle.cc_syntax.specs.internal.Parser.{State, Inside, Stage, Open, InBlock, InThen, InElse, InWhile, InDo, InFor, inside_of, in_body, settled, role_step, role_level, resting_step, resting_depth, resting_level, else_step, else_level, count_of, name_of}
 use Rattle.cc_syntax.proofs.ParserRuns.{Runs}
 

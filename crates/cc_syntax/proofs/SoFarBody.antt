@@ -6,8 +6,8 @@ use Rattle.cc_tokens.specs.declared.scalar.Scalar.{Scalar}
 use Rattle.cc_tokens.specs.declared.token.Keyword.TheVariants as keyword
 use Rattle.cc_tokens.specs.declared.token.Punctuator.TheVariants as punctuator
 use Rattle.cc_tokens.specs.Token.{Lexeme}
-use Rattle.cc_syntax.specs.Tree.{Expr, Action, Step, Declarator, Beginning, Declares, Performs, Stmt, Local, Perform, Return, If, IfElse, While, DoWhile, For, Stmts, Signature, External}
-use Rattle.cc_syntax.specs.Grammar.{Measured, outside, full, begins, identifier, Marks, IsKeyword, sign_word, assignment_punctuator, step_punctuator, SpellsType, SpellsExpression, SpellsTarget, SpellsAction, SpellsRow, SpellsDeclarator, SpellsLocal, SpellsOptional, SpellsOptionalAction, SpellsBeginning, SpellsStatement, SpellsStatements, IsStatement, IsClosed, SpellsSignature, AreNamed, SpellsExternals}
+use Rattle.cc_ast.specs.Tree.{Expr, Action, Step, Declarator, Beginning, Declares, Performs, Stmt, Local, Perform, Return, If, IfElse, While, DoWhile, For, Stmts, Signature, External}
+use Rattle.cc_ast.specs.Grammar.{Measured, outside, full, begins, identifier, Marks, IsKeyword, sign_word, assignment_punctuator, step_punctuator, SpellsType, SpellsExpression, SpellsTarget, SpellsAction, SpellsRow, SpellsDeclarator, SpellsLocal, SpellsOptional, SpellsOptionalAction, SpellsBeginning, SpellsStatement, SpellsStatements, IsStatement, IsClosed, SpellsSignature, AreNamed, SpellsExternals}
 use Rattle.cc_syntax.specs.internal.Parser.{Stage, Item, AfterThen, AfterDo, Testing, Ending, Returning, ForOpening, ForStarting, ForTesting, ForStepping, LocalSign, Declaring, HasDeclared, Stepping, StepNamed, Stepped, Purpose, ToPerform, ToAssign, ToStep, ToReturn, ToTest, ToGoOn, ToInitialise, Test, ForIf, ForWhile, ForDo, Position, AsLocal, AsHeader, Spot, AsStatement, AsStart, AsLast, Open, InBlock, InThen, InElse, InWhile, InDo, InFor}
 use Rattle.cc_syntax.proofs.Forms.{count_after}
 use Rattle.cc_syntax.proofs.ReadsAction.{terminator}

@@ -5,8 +5,8 @@ use Rattle.cc_tokens.specs.declared.token.Punctuator.TheVariants as punctuator
 use Rattle.cc_tokens.specs.Token.{Lexeme}
 use Rattle.cc_syntax.specs.declared.parser.state.ObjectKind.{ObjectKind}
 use Rattle.cc_syntax.specs.declared.parser.state.ObjectKind.TheVariants.{Words, Bytes}
-use Rattle.cc_syntax.specs.Tree.{Object, Signature, External}
-use Rattle.cc_syntax.specs.Grammar.{Measured, outside, full, identifier, Marks, IsKeyword, sign_word, SpellsType, SpellsRow, BeginsAt, SpellsConstantExpr, SpellsOptionalConstant, SpellsObject, SpellsByteArray, SpellsUnsignedChar, SpellsParameter, SpellsResult, SpellsSignature, SpellsExternals}
+use Rattle.cc_ast.specs.Tree.{Object, Signature, External}
+use Rattle.cc_ast.specs.Grammar.{Measured, outside, full, identifier, Marks, IsKeyword, sign_word, SpellsType, SpellsRow, BeginsAt, SpellsConstantExpr, SpellsOptionalConstant, SpellsObject, SpellsByteArray, SpellsUnsignedChar, SpellsParameter, SpellsResult, SpellsSignature, SpellsExternals}
 use Rattle.cc_syntax.specs.internal.Parser.{State, AtFile, InBody, InFull, Outer, Between, ResultSign, Typed, Named, Parameters, OnlyVoid, ParameterNext, ParameterSign, ParameterTyped, ParameterNamed, Headed, ObjectNext, ObjectNamed, Sizing, Sized, Initialising, Listing, Valuing, Listed, Phase, Context, OfBody, OfObject, Part, ToSize, ToSingle, ToValue, Naming, Waiting, count_of}
 use Rattle.cc_syntax.proofs.Forms.{count_after}
 use Rattle.cc_syntax.proofs.SoFarBody.{RowSoFar, BodySoFar, PurposeSoFar, leads, spot_of}

@@ -4,9 +4,9 @@ use Rattle.std.proofs.Common.{◌≡◌, ◌<◌, ◌≤◌, ℕ, zero, suc, Lis
 use Rattle.std.specs.List.{AllByRecursion}
 use Rattle.std.proofs.lemmas.List.{map-append, take-append-drop}
 use Rattle.cc_tokens.specs.Token.{Lexeme}
-use Rattle.cc_syntax.specs.Tree.{External}
-use Rattle.cc_syntax.specs.Grammar.{Measured, SpellsUnit, plain_tokens, Begins}
-use Rattle.cc_syntax.specs.Limits.{IsWithin, PassesLimit, SpellsWithin, UnexpectedAt, TooDeepAt, IsFineBefore, TreesAreOne, SpelledHaveNoFault}
+use Rattle.cc_ast.specs.Tree.{External}
+use Rattle.cc_ast.specs.Grammar.{Measured, SpellsUnit, plain_tokens, Begins}
+use Rattle.cc_ast.specs.Limits.{IsWithin, PassesLimit, SpellsWithin, UnexpectedAt, TooDeepAt, IsFineBefore, TreesAreOne, SpelledHaveNoFault}
 use Rattle.cc_syntax.specs.internal.Parser.{State, AtFile, Between, step, standing, start, tree_of}
 use Rattle.cc_syntax.proofs.ParserRuns.{Runs, runs-append, runs-split, runs-one}
 use Rattle.cc_syntax.proofs.ReadsExternal.{read_unit}

@@ -1,16 +1,16 @@
 -- What the parser's stacks and lists look like after a push and before a pop.
 use Rattle.std.proofs.Common.{◌≡◌, List, [], ◌∷◌, ◌++◌, map, reverse, ap, ◌∙◌, refl}
 use Rattle.std.proofs.lemmas.List.{map-append, reverse-append}
-use Rattle.cc_syntax.specs.Tree.{next, more}
-use Rattle.cc_syntax.specs.Erase.{statement_tree, statements_of, expression_tree, declarator_tree, declarator_trees, object_tree, object_trees, constant_tree, constant_trees, parameter_tree, parameter_trees, external_tree, external_trees}
-use Rattle.cc_syntax.specs.internal.Arguments.{expressions_of}
-use Rattle.cc_syntax.specs.declared.ast.Statement.{Statement}
-use Rattle.cc_syntax.specs.declared.ast.Expression.{Expression}
-use Rattle.cc_syntax.specs.declared.ast.Declarator.{Declarator}
-use Rattle.cc_syntax.specs.declared.ast.Object.{Object}
-use Rattle.cc_syntax.specs.declared.ast.ConstantExpression.{ConstantExpression}
-use Rattle.cc_syntax.specs.declared.ast.Parameter.{Parameter}
-use Rattle.cc_syntax.specs.declared.ast.External.{External}
+use Rattle.cc_ast.specs.Tree.{next, more}
+use Rattle.cc_ast.specs.Erase.{statement_tree, statements_of, expression_tree, declarator_tree, declarator_trees, object_tree, object_trees, constant_tree, constant_trees, parameter_tree, parameter_trees, external_tree, external_trees}
+use Rattle.cc_ast.specs.internal.Arguments.{expressions_of}
+use Rattle.cc_ast.specs.declared.ast.Statement.{Statement}
+use Rattle.cc_ast.specs.declared.ast.Expression.{Expression}
+use Rattle.cc_ast.specs.declared.ast.Declarator.{Declarator}
+use Rattle.cc_ast.specs.declared.ast.Object.{Object}
+use Rattle.cc_ast.specs.declared.ast.ConstantExpression.{ConstantExpression}
+use Rattle.cc_ast.specs.declared.ast.Parameter.{Parameter}
+use Rattle.cc_ast.specs.declared.ast.External.{External}
 use Rattle.cc_syntax.specs.declared.parser.state.Waiting as waiting
 use Rattle.cc_syntax.specs.declared.parser.state.Open as open_statement
 use Rattle.cc_syntax.specs.internal.Parser.{with_last, with_argument}

@@ -1,14 +1,3 @@
--- the syntax tree
-pub mod Tree
--- the tree of what the code keeps
-pub mod Erase
--- which tokens spell which tree, and how each token stands to the limits
-pub mod Grammar
--- the limits of a unit, and the first token that breaks the grammar or a limit
-pub mod Limits
--- what a text spells, and why it is refused
-pub mod Parse
--- what a parsed text shows, and what is said of the answer
-pub mod Source
+-- the pages that the contracts of `parse` and of the laws rest on are those of cc_ast
 -- no promise rests on these
 pub mod internal

@@ -1,6 +1,4 @@
 -- What private contracts and proofs speak of.
--- the tree of a list of arguments
-pub mod Arguments
 -- what a token is to the grammar
 pub mod Roles
 -- what the parser's functions compute, token by token

@@ -19,18 +19,17 @@ mod stop;
 ghost use Rattle.std.specs.Prelude.{◌≡◌, ◌≤◌, length, IfOk, IfErr};
 ghost use Rattle.cc_tokens.specs.Token.{lexemes};
 ghost use Rattle.cc_tokens.specs.Tokens.{AreInOrder, IsTokens, most_bytes};
-ghost use Rattle.cc_syntax.specs.Erase.{external_trees};
+ghost use Rattle.cc_ast.specs.Erase.{external_trees};
 ghost use Rattle.cc_syntax.specs.internal.ParserView.{Refuses};
-ghost use Rattle.cc_syntax.specs.Parse.{SpellsText, IsParseRefusal, ParseAnswersAreOne, TextsHaveAnswers, place_at_token};
-ghost use Rattle.cc_syntax.specs.Limits.{TreesAreOne, SpelledHaveNoFault};
-ghost use Rattle.cc_syntax.specs.Source.{source, UnitTree, AnswersTree};
+ghost use Rattle.cc_ast.specs.Parse.{SpellsText, IsParseRefusal, ParseAnswersAreOne, TextsHaveAnswers, place_at_token};
+ghost use Rattle.cc_ast.specs.Limits.{TreesAreOne, SpelledHaveNoFault};
+ghost use Rattle.cc_ast.specs.Source.{source, UnitTree, AnswersTree};
 ghost use Rattle.cc_syntax.specs.internal.Answer.{IsParse};
 
-use crate::ast::External;
 pub use crate::parser::read::{DEEPEST_LEVEL, MOST_TOKENS};
 use crate::parser::read::{read_text, read_tokens};
 use crate::parser::stop::Refusal;
-use crate::unit::Unit;
+use cc_ast::{External, Unit};
 use cc_tokens::{MOST_BYTES, Place, SyntaxFault, Token, place_at, tokens};
 use std::alloc::Global;
 

@@ -2,7 +2,7 @@
 use Rattle.std.proofs.Common.{◌≡◌, ℕ, zero, suc, ◌+◌, Bool, true, false, if◌then◌else◌, nat_lt, List, [], ◌∷◌, ◌++◌, length, map, take, drop, Option, Some, None, is_some, refl, sym, ap, subst, ◌∙◌, arith}
 use Rattle.std.proofs.lemmas.Bool.{false≢true}
 use Rattle.std.proofs.lemmas.Bool.Decides.{nat_tests}
-use Rattle.cc_syntax.specs.Tree.{Name, Object}
+use Rattle.cc_ast.specs.Tree.{Name, Object}
 use Rattle.cc_typing.specs.Types.{object_words}
 use Rattle.cc_typing.specs.Limits.{most_words, too_many, past, word_excesses, object_name}
 use Rattle.cc_typing.specs.internal.Counts.{counted, passed, count_after, excess_of, WordCount, with_words, words_after}

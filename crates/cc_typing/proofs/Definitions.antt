@@ -1,9 +1,9 @@
 -- The functions that some external declarations define, one by one.
 use Rattle.std.proofs.Common.{◌≡◌, ℕ, zero, suc, List, [], ◌∷◌, ◌++◌, length, map, slice_get, Some, refl, ap, ◌∙◌}
-use Rattle.cc_syntax.specs.Erase.{external_tree, external_trees}
-use Rattle.cc_syntax.specs.Tree as tree
-use Rattle.cc_syntax.specs.Tree.{Name, Object, Declaration, Definition, Objects}
-use Rattle.cc_syntax.specs.declared.ast.External.{External}
+use Rattle.cc_ast.specs.Erase.{external_tree, external_trees}
+use Rattle.cc_ast.specs.Tree as tree
+use Rattle.cc_ast.specs.Tree.{Name, Object, Declaration, Definition, Objects}
+use Rattle.cc_ast.specs.declared.ast.External.{External}
 use Rattle.cc_typing.specs.internal.Counts.{defines, objects_in}
 use Rattle.cc_typing.specs.Limits.{function_names, objects}
 use Rattle.cc_typing.specs.Typed.{definitions}

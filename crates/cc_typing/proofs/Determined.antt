@@ -2,10 +2,10 @@
 use Rattle.std.proofs.Common.{◌≡◌, ◌<◌, ◌≤◌, ◌⊎◌, inl, inr, ℕ, zero, suc, Bool, true, false, ◌==◌, if◌then◌else◌, List, [], ◌∷◌, ◌++◌, length, get_or, Option, Some, None, Result, Ok, Err, refl, sym, ap, subst, ◌∙◌, arith}
 use Rattle.std.specs.List.{AllByRecursion}
 use Rattle.std.proofs.lemmas.Bool.{false≢true}
-use Rattle.cc_syntax.specs.Tree.{External, Source}
+use Rattle.cc_ast.specs.Tree.{External, Source}
 use Rattle.cc_tokens.specs.declared.fault.SyntaxFault.{SyntaxFault}
 use Rattle.cc_tokens.specs.Place.{place_of}
-use Rattle.cc_syntax.specs.Parse.{IsParseAnswer, ParseAnswersAreOne, TextsHaveAnswers}
+use Rattle.cc_ast.specs.Parse.{IsParseAnswer, ParseAnswersAreOne, TextsHaveAnswers}
 use Rattle.cc_typing.specs.Fault.{fault_of, rule_number}
 use Rattle.cc_typing.specs.Limits.{excesses}
 use Rattle.cc_typing.specs.Rules.{errors, defines_main, undefined_calls}

@@ -2,8 +2,8 @@
 use Rattle.std.proofs.Common.{◌≡◌, ℕ, Bool, true, false, List, [], ◌∷◌, ◌++◌, length, Option, Some, None, refl, sym, ap, ◌∙◌}
 use Rattle.std.specs.Prelude.{not, is_some}
 use Rattle.cc_tokens.specs.declared.scalar.Scalar.{Scalar}
-use Rattle.cc_syntax.specs.Tree as tree
-use Rattle.cc_syntax.specs.Tree.{Parameter, Signature, Object, Single, Array, Bytes, External, Declaration, Definition, Objects, Stmts, ConstantExpr}
+use Rattle.cc_ast.specs.Tree as tree
+use Rattle.cc_ast.specs.Tree.{Parameter, Signature, Object, Single, Array, Bytes, External, Declaration, Definition, Objects, Stmts, ConstantExpr}
 use Rattle.cc_typing.specs.Bindings.{closed, file_level, file_of, file_with}
 use Rattle.cc_typing.specs.internal.Counts.{defined_in}
 use Rattle.cc_typing.specs.internal.Findings.{Found, after, with_before, is_bad_length}

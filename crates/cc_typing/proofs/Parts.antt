@@ -1,6 +1,6 @@
 -- What is found in one part and then in the next is found in both.
 use Rattle.std.proofs.Common.{◌≡◌, ℕ, true, false, List, [], ◌∷◌, ◌++◌, Option, Some, refl, sym, ap, ◌∙◌, append_assoc}
-use Rattle.cc_syntax.specs.Tree.{Name}
+use Rattle.cc_ast.specs.Tree.{Name}
 use Rattle.cc_typing.specs.Rules.{undefined_among, broken_if}
 use Rattle.cc_typing.specs.Scope.{has_name}
 use Rattle.cc_typing.specs.internal.Findings.{Found, earlier, noted, after}

@@ -1,6 +1,6 @@
 -- What is found in a whole unit decides whether it is typed.
 use Rattle.std.proofs.Common.{◌≡◌, inl, inr, true, false, List, [], ◌∷◌, ◌++◌, length, Option, Some, None, refl, sym, ap, ◌∙◌}
-use Rattle.cc_syntax.specs.Tree.{Source, External}
+use Rattle.cc_ast.specs.Tree.{Source, External}
 use Rattle.cc_tokens.specs.Place.{place_of}
 use Rattle.cc_typing.specs.Checked.{IsChecked}
 use Rattle.cc_typing.specs.internal.Counts.{all_defined}

@@ -1,5 +1,5 @@
 -- What a typed unit keeps.
-use Rattle.cc_syntax.specs.Tree.{Source}
+use Rattle.cc_ast.specs.Tree.{Source}
 use Rattle.cc_typing.specs.Typed.{IsTyped, IsWithinLimits}
 
 -- what a typed unit keeps of its source

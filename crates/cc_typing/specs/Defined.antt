@@ -1,6 +1,6 @@
 -- What a definition that the code hands out shows.
-use Rattle.cc_syntax.specs.Tree as tree
-use Rattle.cc_syntax.specs.Erase.{signature_tree, statements_of}
+use Rattle.cc_ast.specs.Tree as tree
+use Rattle.cc_ast.specs.Erase.{signature_tree, statements_of}
 use Rattle.cc_typing.specs.declared.typed.Definition.{Definition}
 
 -- its tree

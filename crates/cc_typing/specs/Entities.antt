@@ -2,7 +2,7 @@
 use Rattle.std.specs.Prelude.{ℕ, List, [], ◌∷◌, map, Option, Some, None}
 use Rattle.std.specs.Borrow.{Bor}
 use Rattle.cc_tokens.specs.declared.scalar.Scalar.TheVariants.{Int}
-use Rattle.cc_syntax.specs.Erase.{signature_tree}
+use Rattle.cc_ast.specs.Erase.{signature_tree}
 use Rattle.cc_typing.specs.Scope as scope
 use Rattle.cc_typing.specs.Scope.{Visible, function_entity}
 use Rattle.cc_typing.specs.declared.entity.Entity.{Entity}

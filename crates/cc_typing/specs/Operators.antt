@@ -5,14 +5,14 @@ use Rattle.std.specs.Prelude.{ℕ, ◌==◌, ◌&&◌, ◌||◌, Bool, not, if�
 use Rattle.cc_words.specs.Words.{truth_value, add, sub, mul, neg, complement, is_zero, eq, ne, lt_s, le_s, lt_u, le_u, div_s, rem_s, div_u, rem_u, shl, shr_s, shr_u, and, or, xor}
 use Rattle.cc_tokens.specs.declared.scalar.Scalar.{Scalar}
 use Rattle.cc_tokens.specs.declared.scalar.Scalar.TheVariants.{Int, Unsigned}
-use Rattle.cc_syntax.specs.declared.ast.UnaryOperator.{UnaryOperator}
-use Rattle.cc_syntax.specs.declared.ast.UnaryOperator.TheVariants.{Plus, Minus, Complement, Not}
-use Rattle.cc_syntax.specs.declared.ast.BinaryOperator.{BinaryOperator}
-use Rattle.cc_syntax.specs.declared.ast.BinaryOperator.TheVariants.{Multiply, Divide, Remainder, Add, Subtract, ShiftLeft, ShiftRight, Less, Greater, LessOrEqual, GreaterOrEqual, Equal, NotEqual, And, Xor, Or, LogicalAnd, LogicalOr}
-use Rattle.cc_syntax.specs.declared.ast.AssignmentOperator.{AssignmentOperator}
-use Rattle.cc_syntax.specs.declared.ast.AssignmentOperator.TheVariants as assignment
-use Rattle.cc_syntax.specs.declared.ast.StepOperator.{StepOperator}
-use Rattle.cc_syntax.specs.declared.ast.StepOperator.TheVariants.{Increment, Decrement}
+use Rattle.cc_ast.specs.declared.ast.UnaryOperator.{UnaryOperator}
+use Rattle.cc_ast.specs.declared.ast.UnaryOperator.TheVariants.{Plus, Minus, Complement, Not}
+use Rattle.cc_ast.specs.declared.ast.BinaryOperator.{BinaryOperator}
+use Rattle.cc_ast.specs.declared.ast.BinaryOperator.TheVariants.{Multiply, Divide, Remainder, Add, Subtract, ShiftLeft, ShiftRight, Less, Greater, LessOrEqual, GreaterOrEqual, Equal, NotEqual, And, Xor, Or, LogicalAnd, LogicalOr}
+use Rattle.cc_ast.specs.declared.ast.AssignmentOperator.{AssignmentOperator}
+use Rattle.cc_ast.specs.declared.ast.AssignmentOperator.TheVariants as assignment
+use Rattle.cc_ast.specs.declared.ast.StepOperator.{StepOperator}
+use Rattle.cc_ast.specs.declared.ast.StepOperator.TheVariants.{Increment, Decrement}
 
 -- ---- types
 

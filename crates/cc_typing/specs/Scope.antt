@@ -2,7 +2,7 @@
 use Rattle.std.specs.Prelude.{ℕ, Bool, true, false, ◌&&◌, ◌||◌, List, [], ◌∷◌, ◌++◌, map, Option, Some, None, if◌then◌else◌, is_some, codes}
 use Rattle.cc_tokens.specs.declared.scalar.Scalar.{Scalar}
 use Rattle.cc_tokens.specs.declared.scalar.Scalar.TheVariants.{Int, Unsigned}
-use Rattle.cc_syntax.specs.Tree.{Name, Declarator, Beginning, Declares, Performs, Stmt, Local, Parameter, Signature, Object, Single, Array, Bytes, External, Declaration, Definition, Objects}
+use Rattle.cc_ast.specs.Tree.{Name, Declarator, Beginning, Declares, Performs, Stmt, Local, Parameter, Signature, Object, Single, Array, Bytes, External, Declaration, Definition, Objects}
 use Rattle.cc_typing.specs.Names.{same_name}
 
 -- what a name stands for: an object of one value (a variable, a parameter, a local), an array of elements of one type, or

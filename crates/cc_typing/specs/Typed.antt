@@ -1,7 +1,7 @@
 -- Which units are typed, and why another one is refused.
 use Rattle.std.specs.Prelude.{ℕ, ◌≡◌, ◌⊎◌, ◌<◌, ◌≤◌, true, false, List, [], ◌∷◌, ◌++◌, length, map, Contains, Option, Some, None}
 use Rattle.std.specs.List.{AllByRecursion}
-use Rattle.cc_syntax.specs.Tree.{Name, External, Declaration, Definition, Objects, Source}
+use Rattle.cc_ast.specs.Tree.{Name, External, Declaration, Definition, Objects, Source}
 use Rattle.cc_tokens.specs.Place.{place_of}
 use Rattle.cc_typing.specs.Rules.{errors, defines_main, undefined_calls}
 use Rattle.cc_typing.specs.Limits.{excesses, function_names}

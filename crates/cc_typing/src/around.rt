@@ -1,6 +1,6 @@
 // Where a statement stands.
 
-use cc_syntax::Scalar;
+use cc_ast::Scalar;
 
 /// What a statement's function gives, none for `void`, and whether a loop is around the statement.
 #[derive(Clone, Copy)]

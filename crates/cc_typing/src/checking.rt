@@ -1,16 +1,15 @@
 // From a parsed unit to a typed one.
 
 ghost use Rattle.std.specs.Prelude.{◌≡◌, ◌⊎◌, ◌++◌, [], None, IfOk, IfErr, OnOk};
-ghost use Rattle.cc_syntax.specs.Source.{source};
+ghost use Rattle.cc_ast.specs.Source.{source};
 ghost use Rattle.cc_tokens.specs.Place.{place_of};
-ghost use Rattle.cc_syntax.specs.Erase.{external_tree, external_trees};
+ghost use Rattle.cc_ast.specs.Erase.{external_tree, external_trees};
 ghost use Rattle.cc_typing.specs.internal.Counts.{all_defined, defined_in};
 ghost use Rattle.cc_typing.specs.Fault.{fault_of};
 ghost use Rattle.cc_typing.specs.internal.Findings.{noted};
 ghost use Rattle.cc_typing.specs.Rules.{errors, is_main, defines_main, undefined_calls};
 ghost use Rattle.cc_typing.specs.Scope.{first_file_scope};
 ghost use Rattle.cc_typing.specs.Typed.{IsTyped, IsWithinLimits, IsTypeRefusal, TypeAnswersAreOne, UnitsHaveTypeAnswers, all_errors};
-ghost use Rattle.cc_typing.specs.Verdict.{VerdictsAreOne, TextsHaveVerdicts};
 
 use super::entity::same_result;
 use super::externals::all_externals;
@@ -21,7 +20,7 @@ use super::limits::with_excesses;
 use super::rule::{Rule, RuleError};
 use super::scope::{READ_WORD, Scope, WRITE_WORD};
 use super::typed::TypedUnit;
-use cc_syntax::{External, Place, Scalar, Unit, parse_is_determined, place_at};
+use cc_ast::{External, Place, Scalar, Unit, place_at};
 use std::alloc::{AllocError, Global};
 
 const MAIN: &[u8] = b"main";
@@ -189,12 +188,8 @@ fn place_in(text: &[u8], at: usize) -> Place
 }
 
 /// What `check` answers is a function of the unit, lack of memory set aside: each unit is typed within the limits, or has
-/// exactly one fault with one number and place. So what `parse` and then `check` answer is a function of the text.
+/// exactly one fault with one number and place.
 pub fn check_is_determined()
     ensures one { TypeAnswersAreOne }
     ensures some { UnitsHaveTypeAnswers }
-    ensures one_verdict { VerdictsAreOne }
-    ensures some_verdict { TextsHaveVerdicts }
-{
-    parse_is_determined();
-}
+{}

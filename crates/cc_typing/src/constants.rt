@@ -1,12 +1,12 @@
 // The values of constant expressions (C99 6.6).
 
 ghost use Rattle.std.specs.Prelude.{◌≡◌, [], map, option_map};
-ghost use Rattle.cc_syntax.specs.Erase.{expression_tree, constant_tree};
+ghost use Rattle.cc_ast.specs.Erase.{expression_tree, constant_tree};
 ghost use Rattle.cc_typing.specs.Operators.{unary_word, binary_word};
 ghost use Rattle.cc_typing.specs.Types.{value_type, constant_value, is_constant, constant_word, array_length};
 
 use super::operators::{binary_type, common_type, unary_type, working_type};
-use cc_syntax::{BinaryOperator, ConstantExpression, Expression, Scalar, UnaryOperator};
+use cc_ast::{BinaryOperator, ConstantExpression, Expression, Scalar, UnaryOperator};
 
 /// The type of an expression without names.
 pub fn constant_type(tree: &Expression) -> Scalar

@@ -1,13 +1,13 @@
 // What names stand for.
 
 ghost use Rattle.std.specs.Prelude.{◌≡◌, length, map, option_map, Some};
-ghost use Rattle.cc_syntax.specs.Erase.{parameter_trees, signature_tree};
+ghost use Rattle.cc_ast.specs.Erase.{parameter_trees, signature_tree};
 ghost use Rattle.cc_typing.specs.Entities.{entity_of, optional_entity};
 ghost use Rattle.cc_typing.specs.internal.Scopes.{scalars};
 ghost use Rattle.cc_typing.specs.Scope.{function_entity, same_scalar, same_scalars, same_result};
 ghost use Rattle.cc_typing.specs.Rules.{differs};
 
-use cc_syntax::{Parameter, Scalar, Signature};
+use cc_ast::{Parameter, Scalar, Signature};
 
 /// What a name stands for.
 #[derive(Clone, Copy)]

@@ -4,8 +4,8 @@
 // deep as the tree: at most 512 tokens of a full expression.
 
 ghost use Rattle.std.specs.Prelude.{◌≡◌, ◌==◌, [], not, length};
-ghost use Rattle.cc_syntax.specs.Erase.{expression_tree, optional_tree, target_tree, action_tree, optional_action};
-ghost use Rattle.cc_syntax.specs.internal.Arguments.{expressions_of};
+ghost use Rattle.cc_ast.specs.Erase.{expression_tree, optional_tree, target_tree, action_tree, optional_action};
+ghost use Rattle.cc_ast.specs.internal.Arguments.{expressions_of};
 ghost use Rattle.cc_typing.specs.Entities.{optional_entity};
 ghost use Rattle.cc_typing.specs.internal.Findings.{after};
 ghost use Rattle.cc_typing.specs.declared.rule.Rule.TheVariants.{WrongCount};
@@ -17,7 +17,7 @@ use super::entity::Entity;
 use super::findings::Findings;
 use super::rule::Rule;
 use super::scope::Scope;
-use cc_syntax::{Action, Expression, Identifier, Scalar, Target};
+use cc_ast::{Action, Expression, Identifier, Scalar, Target};
 
 // A name that must be a variable. An array or a function there breaks the rule that is given.
 fn variable(scope: &Scope, findings: &mut Findings, name: &Identifier, misuse: Rule)

@@ -1,7 +1,7 @@
 // The rules of file scope (C99 6.2.1, 6.6, 6.7, 6.9).
 
 ghost use Rattle.std.specs.Prelude.{◌≡◌, ◌++◌, ℕ, List, [], length, option_map, OnOk};
-ghost use Rattle.cc_syntax.specs.Erase.{name_tree, constant_tree, optional_constant, constant_trees, object_tree, object_trees, parameter_tree, parameter_trees, signature_tree, external_tree, external_trees};
+ghost use Rattle.cc_ast.specs.Erase.{name_tree, constant_tree, optional_constant, constant_trees, object_tree, object_trees, parameter_tree, parameter_trees, signature_tree, external_tree, external_trees};
 ghost use Rattle.cc_typing.specs.Bindings.{file_level, file_of, file_with};
 ghost use Rattle.cc_typing.specs.internal.Counts.{defined_in};
 ghost use Rattle.cc_typing.specs.internal.Findings.{after, noted, is_bad_length, with_before};
@@ -16,7 +16,7 @@ use super::findings::Findings;
 use super::rule::Rule;
 use super::scope::Scope;
 use super::statements::all_statements;
-use cc_syntax::{ConstantExpression, External, Identifier, Object, Parameter, Scalar, Signature};
+use cc_ast::{ConstantExpression, External, Identifier, Object, Parameter, Scalar, Signature};
 use std::alloc::AllocError;
 
 // A constant expression.

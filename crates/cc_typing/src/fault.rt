@@ -3,7 +3,7 @@
 ghost use Rattle.std.specs.Prelude.{◌≡◌};
 ghost use Rattle.cc_typing.specs.Fault.{fault_number, fault_place};
 
-use cc_syntax::Place;
+use cc_ast::Place;
 use std::alloc::AllocError;
 use thiserror::Error;
 

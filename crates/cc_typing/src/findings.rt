@@ -1,7 +1,7 @@
 // What is found wrong on the way through a unit.
 
 ghost use Rattle.std.specs.Prelude.{◌≡◌, [], ◌∷◌, ◌≤◌, OnOk};
-ghost use Rattle.cc_syntax.specs.Erase.{name_tree};
+ghost use Rattle.cc_ast.specs.Erase.{name_tree};
 ghost use Rattle.cc_typing.specs.Fault.{rule_number};
 ghost use Rattle.cc_typing.specs.internal.Findings.{is_before, earlier, after, noted, nothing_found, with_before};
 ghost use Rattle.cc_typing.specs.Rules.{broken, broken_if};
@@ -9,7 +9,7 @@ ghost use Rattle.cc_typing.specs.Scope.{has_name};
 
 use super::functions::Functions;
 use super::rule::{Rule, RuleError};
-use cc_syntax::Identifier;
+use cc_ast::Identifier;
 use std::alloc::AllocError;
 use std::marker::Model;
 

@@ -1,7 +1,7 @@
 // The limits: parameters of a function, locals of a function, functions, and words of all objects.
 
 ghost use Rattle.std.specs.Prelude.{◌≡◌, ◌≤◌, [], ◌∷◌, None, length, IfOk};
-ghost use Rattle.cc_syntax.specs.Erase.{name_tree, optional_constant, constant_trees, declarator_trees, beginning_tree, statement_tree, statements_of, object_tree, object_trees, signature_tree, external_tree, external_trees};
+ghost use Rattle.cc_ast.specs.Erase.{name_tree, optional_constant, constant_trees, declarator_trees, beginning_tree, statement_tree, statements_of, object_tree, object_trees, signature_tree, external_tree, external_trees};
 ghost use Rattle.cc_typing.specs.internal.Counts.{count_after, defines, excess_of, objects_in, word_count, with_words, words_after};
 ghost use Rattle.cc_typing.specs.internal.Findings.{noted};
 ghost use Rattle.cc_typing.specs.Limits.{most_functions, too_many, declared_names, beginning_names, locals_of, locals, function_names, objects, object_name, parameter_excesses, external_excesses, externals_excesses, excesses};
@@ -10,7 +10,7 @@ ghost use Rattle.cc_typing.specs.Types.{array_elements, object_elements, object_
 use super::constants::array_length;
 use super::findings::earlier;
 use super::rule::{Rule, RuleError};
-use cc_syntax::{
+use cc_ast::{
     Beginning, ConstantExpression, Declarator, External, Identifier, Object, Signature, Statement,
 };
 use cc_words::Width;

@@ -3,7 +3,7 @@
 ghost use Rattle.std.specs.Prelude.{◌≡◌};
 ghost use Rattle.cc_typing.specs.Operators.{common_type, working_type, binary_type, unary_type, applied_operator, step_operator};
 
-use cc_syntax::{AssignmentOperator, BinaryOperator, Scalar, StepOperator, UnaryOperator};
+use cc_ast::{AssignmentOperator, BinaryOperator, Scalar, StepOperator, UnaryOperator};
 
 /// The type in which two operands meet (C99 6.3.1.8).
 pub fn common_type(left: Scalar, right: Scalar) -> Scalar

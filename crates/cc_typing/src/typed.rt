@@ -1,16 +1,16 @@
 // A unit that keeps the rules and limits.
 
 ghost use Rattle.std.specs.Prelude.{◌≡◌, ◌<◌, ◌≤◌, [], ◌∷◌, Some, MatchOption, length, slice_get};
-ghost use Rattle.cc_syntax.specs.Source.{source};
-ghost use Rattle.cc_syntax.specs.Erase.{external_tree, external_trees};
-ghost use Rattle.cc_syntax.specs.Parse.{SpellsText};
+ghost use Rattle.cc_ast.specs.Source.{source};
+ghost use Rattle.cc_ast.specs.Erase.{external_tree, external_trees};
+ghost use Rattle.cc_ast.specs.Parse.{SpellsText};
 ghost use Rattle.cc_tokens.specs.Tokens.{most_bytes};
 ghost use Rattle.cc_typing.specs.internal.Counts.{defines};
 ghost use Rattle.cc_typing.specs.Typed.{IsTyped, IsWithinLimits, defined_names, definitions};
 ghost use Rattle.cc_typing.specs.Checked.{IsChecked};
 ghost use Rattle.cc_typing.specs.Defined.{definition_tree};
 
-use cc_syntax::{External, Signature, Statement, Unit};
+use cc_ast::{External, Signature, Statement, Unit};
 use std::marker::Model;
 
 /// A unit that breaks no rule of scope or type and passes no limit. Contracts see it as the unit that it was made from.
@@ -26,9 +26,9 @@ impl Drop for TypedUnit {
 }
 
 impl Model for TypedUnit {
-    ghost use Rattle.cc_syntax.specs.Source.{source};
-    ghost use Rattle.cc_syntax.specs.declared.unit.Unit.{Unit};
-    ghost use Rattle.cc_syntax.specs.contracts.unit.Unit.{the_row};
+    ghost use Rattle.cc_ast.specs.Source.{source};
+    ghost use Rattle.cc_ast.specs.declared.unit.Unit.{Unit};
+    ghost use Rattle.cc_ast.specs.contracts.unit.Unit.{the_row};
     ghost use Rattle.cc_typing.specs.Checked.{IsChecked};
 
     ghost Value = { Unit };

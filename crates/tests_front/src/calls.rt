@@ -4,6 +4,7 @@ use cc_meaning::{
     MeaningFault, Stop, Words, calls_are_effects, calls_go_on, calls_keep_objects,
     earlier_texts_stay, functions_are_resolved, functions_have_meaning, interpret,
     names_have_numbers, programs_call_main, runs_go_on, units_have_meanings,
+    verdicts_are_determined,
 };
 use cc_syntax::{
     Expression, External, Keyword, Place, Punctuator, Scalar, Statement, SyntaxFault,
@@ -208,6 +209,7 @@ fn laws() {
     trees_are_determined();
     parse_is_determined();
     check_is_determined();
+    verdicts_are_determined();
     functions_have_meaning();
     runs_go_on();
     calls_are_effects();

@@ -32,10 +32,10 @@ use Rattle.cc_syntax.specs.declared.parser.stop.Stop as stop
 use Rattle.cc_syntax.specs.declared.parser.stop.Stop.TheVariants as stops
 use Rattle.cc_syntax.specs.declared.parser.stop.Refusal as refusal
 use Rattle.cc_syntax.specs.declared.parser.stop.Refusal.TheVariants as refusals
-use Rattle.cc_syntax.specs.Erase.{name_tree, expression_tree, optional_tree, target_tree, optional_action, declarator_trees, beginning_tree, statement_tree, statements_of, optional_constant, constant_trees, signature_tree, object_trees, external_trees}
-use Rattle.cc_syntax.specs.internal.Arguments.{expressions_of}
+use Rattle.cc_ast.specs.Erase.{name_tree, expression_tree, optional_tree, target_tree, optional_action, declarator_trees, beginning_tree, statement_tree, statements_of, optional_constant, constant_trees, signature_tree, object_trees, external_trees}
+use Rattle.cc_ast.specs.internal.Arguments.{expressions_of}
 use Rattle.cc_tokens.specs.Token.{Lexeme}
-use Rattle.cc_syntax.specs.Limits.{IsWithin, PassesLimit, UnexpectedAt, TooDeepAt, IsFineBefore}
+use Rattle.cc_ast.specs.Limits.{IsWithin, PassesLimit, UnexpectedAt, TooDeepAt, IsFineBefore}
 use Rattle.cc_syntax.specs.internal.Parser.{step, standing, Waiting, Parenthesis, Index, Arguments, Prefix, Casting, Infix, Then, Otherwise, Open, InBlock, InThen, InElse, InWhile, InDo, InFor, Inside, Spot, AsStatement, AsStart, AsLast, Test, ForIf, ForWhile, ForDo, Position, AsLocal, AsHeader, Purpose, ToPerform, ToAssign, ToStep, ToReturn, ToTest, ToGoOn, ToInitialise, Naming, Part, ToSize, ToSingle, ToValue, Context, OfBody, OfObject, Full, Phase, Operand, Operator, CastSign, CastType, Stage, Item, AfterThen, AfterDo, Testing, Ending, Returning, ForOpening, ForStarting, ForTesting, ForStepping, LocalSign, Declaring, HasDeclared, Stepping, StepNamed, Stepped, Outer, Between, ResultSign, Typed, Named, Parameters, OnlyVoid, ParameterNext, ParameterSign, ParameterTyped, ParameterNamed, Headed, ObjectNext, ObjectNamed, Sizing, Sized, Initialising, Listing, Valuing, Listed, State, AtFile, InBody, InFull}
 
 abbrev pub waiting_view : waiting.Waiting → Waiting

@@ -1,9 +1,9 @@
 -- What a token is to the grammar.
 use Rattle.cc_tokens.specs.declared.scalar.Scalar.TheVariants as scalar
-use Rattle.cc_syntax.specs.declared.ast.UnaryOperator.TheVariants as unary
-use Rattle.cc_syntax.specs.declared.ast.BinaryOperator.TheVariants as binary
-use Rattle.cc_syntax.specs.declared.ast.AssignmentOperator.TheVariants as assignment
-use Rattle.cc_syntax.specs.declared.ast.StepOperator.TheVariants as stepping
+use Rattle.cc_ast.specs.declared.ast.UnaryOperator.TheVariants as unary
+use Rattle.cc_ast.specs.declared.ast.BinaryOperator.TheVariants as binary
+use Rattle.cc_ast.specs.declared.ast.AssignmentOperator.TheVariants as assignment
+use Rattle.cc_ast.specs.declared.ast.StepOperator.TheVariants as stepping
 use Rattle.cc_tokens.specs.declared.token.Keyword.{Keyword}
 use Rattle.cc_tokens.specs.declared.token.Keyword.TheVariants as keyword
 use Rattle.cc_tokens.specs.declared.token.Punctuator.{Punctuator}

@@ -1,16 +1,12 @@
 // The statements and declarations of a function's body, outside of full expressions.
 
 ghost use Rattle.std.specs.Prelude.{◌≡◌, ◌≤◌, suc, [], ◌∷◌, ◌++◌, IfOk, Some, None, length};
-ghost use Rattle.cc_syntax.specs.Erase.{name_tree, expression_tree, statement_tree, beginning_tree, optional_tree, declarator_trees, target_tree};
-ghost use Rattle.cc_syntax.specs.Tree.{Step};
+ghost use Rattle.cc_ast.specs.Erase.{name_tree, expression_tree, statement_tree, beginning_tree, optional_tree, declarator_trees, target_tree};
+ghost use Rattle.cc_ast.specs.Tree.{Step};
 ghost use Rattle.cc_syntax.specs.internal.Parser.{name_of, action_step, item_step, do_step, resting_step, else_step, testing_step, ending_step, returning_step, for_opening_step, for_starting_step, for_testing_step, for_stepping_step, declaring_step, local_sign_step, declared_step, stepping_step, step_named_step, body_step, stage_count, acted, InBody, Ending};
 ghost use Rattle.cc_syntax.specs.internal.ParserView.{body_view, stage_view, state_view, spot_view, test_view, position_view, Gives};
 ghost use Rattle.cc_tokens.specs.Token.{lexeme};
 
-use crate::ast::{
-    Action, AssignmentOperator, Beginning, Declarator, Expression, Identifier, Statement,
-    StepOperator, Target,
-};
 use crate::parser::full::{begin_full, identifier, step_first, with_declarator};
 use crate::parser::role::Role;
 use crate::parser::settle::{
@@ -22,6 +18,10 @@ use crate::parser::state::{
     SteppedTarget, Test, in_body,
 };
 use crate::parser::stop::Stop;
+use cc_ast::{
+    Action, AssignmentOperator, Beginning, Declarator, Expression, Identifier, Statement,
+    StepOperator, Target,
+};
 use cc_tokens::{Scalar, Token};
 use std::alloc::Global;
 use std::mem::replace;

@@ -1,15 +1,15 @@
 // What waits for an operand, and how tightly it binds.
 
 ghost use Rattle.std.specs.Prelude.{◌≡◌, ◌≤◌, suc, IfOk};
-ghost use Rattle.cc_syntax.specs.Grammar.{precedence};
-ghost use Rattle.cc_syntax.specs.Tree.{Call};
-ghost use Rattle.cc_syntax.specs.Erase.{name_tree, expression_tree};
-ghost use Rattle.cc_syntax.specs.internal.Arguments.{expressions_of};
+ghost use Rattle.cc_ast.specs.Grammar.{precedence};
+ghost use Rattle.cc_ast.specs.Tree.{Call};
+ghost use Rattle.cc_ast.specs.Erase.{name_tree, expression_tree};
+ghost use Rattle.cc_ast.specs.internal.Arguments.{expressions_of};
 ghost use Rattle.cc_syntax.specs.internal.Parser.{tightness, completed, reduced, with_argument};
 ghost use Rattle.cc_syntax.specs.internal.ParserView.{waiting_view, waiting_views};
 
-use crate::ast::{BinaryOperator, Expression, Identifier};
 use crate::parser::state::Waiting;
+use cc_ast::{BinaryOperator, Expression, Identifier};
 use std::alloc::{AllocError, Global};
 
 /// How tightly a binary operator binds (C99 6.5.5 to 6.5.14).

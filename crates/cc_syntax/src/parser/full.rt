@@ -2,17 +2,13 @@
 
 ghost use Rattle.std.specs.Prelude.{◌≡◌, ◌≤◌, suc, [], ◌∷◌, ◌++◌, IfOk, Some, None, length};
 ghost use Rattle.std.specs.Option.{option_map};
-ghost use Rattle.cc_syntax.specs.Grammar.{precedence};
-ghost use Rattle.cc_syntax.specs.Erase.{name_tree, expression_tree, declarator_trees, optional_tree, external_trees, target_tree, object_tree, constant_tree, object_trees, constant_trees, optional_constant};
-ghost use Rattle.cc_syntax.specs.internal.Arguments.{expressions_of};
+ghost use Rattle.cc_ast.specs.Grammar.{precedence};
+ghost use Rattle.cc_ast.specs.Erase.{name_tree, expression_tree, declarator_trees, optional_tree, external_trees, target_tree, object_tree, constant_tree, object_trees, constant_trees, optional_constant};
+ghost use Rattle.cc_ast.specs.internal.Arguments.{expressions_of};
 ghost use Rattle.cc_syntax.specs.internal.Parser.{name_of, reduced, full_of, goes_on, begins_full, end_in_body, end_in_object, end_full, close, operate, ask, open_name, target_of, assign, step_target, operator_step, cast, call_of_none, operand_step, cast_step, cast_sign_step, full_step, first_step, declared, scalar_of, array_of, separated, end_list_value, Operand, Operator, Arguments, ToInitialise, AtFile, InBody, Valuing, Stepped};
 ghost use Rattle.cc_syntax.specs.internal.ParserView.{waiting_view, waiting_views, context_view, full_view, phase_view, state_view, body_view, position_view, purpose_view, naming_view, part_view, spot_view, Gives};
 ghost use Rattle.cc_tokens.specs.Token.{lexeme};
 
-use crate::ast::{
-    Action, AssignmentOperator, BinaryOperator, ConstantExpression, Declarator, Expression,
-    External, Identifier, Object, Statement, StepOperator, Target, UnaryOperator,
-};
 use crate::parser::expression::{
     boxed, call_of, complete, precedence_of, reduce, with_argument_of,
 };
@@ -23,6 +19,10 @@ use crate::parser::state::{
     Stage, State, SteppedName, SteppedTarget, Values, Waiting, at_file, in_body, in_full,
 };
 use crate::parser::stop::Stop;
+use cc_ast::{
+    Action, AssignmentOperator, BinaryOperator, ConstantExpression, Declarator, Expression,
+    External, Identifier, Object, Statement, StepOperator, Target, UnaryOperator,
+};
 use cc_tokens::{Scalar, Token};
 use std::alloc::{AllocError, Global};
 use std::mem::replace;

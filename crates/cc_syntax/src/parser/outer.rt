@@ -2,21 +2,21 @@
 
 ghost use Rattle.std.specs.Prelude.{◌≡◌, ◌≤◌, [], ◌∷◌, ◌++◌, IfOk, Some, None, length};
 ghost use Rattle.std.specs.Option.{option_map};
-ghost use Rattle.cc_syntax.specs.Erase.{name_tree, external_trees, signature_tree, parameter_trees, optional_constant, constant_trees, object_trees};
+ghost use Rattle.cc_ast.specs.Erase.{name_tree, external_trees, signature_tree, parameter_trees, optional_constant, constant_trees, object_trees};
 ghost use Rattle.cc_syntax.specs.internal.Parser.{name_of, external_step, typed_step, char_step, result_sign_step, single_step, separated, object_step, first_step_object, named_step, parameter_step, parameters_step, only_void_step, parameter_named_step, parameter_typed_step, parameter_sign_step, headed_step, object_next_step, sizing_step, sized_step, listing_step, end_list, valuing_step, outer_step, with_parameter, signature_of, all_named};
 ghost use Rattle.cc_syntax.specs.internal.ParserView.{naming_view, outer_view, state_view, Gives};
-ghost use Rattle.cc_syntax.specs.Tree.{Single};
+ghost use Rattle.cc_ast.specs.Tree.{Single};
 ghost use Rattle.cc_tokens.specs.Token.{lexeme};
 
-use crate::ast::{
-    AssignmentOperator, ConstantExpression, External, Identifier, Object, Parameter, Signature,
-};
 use crate::parser::full::{end_object, identifier, listing, step_first, with_array, with_one};
 use crate::parser::role::Role;
 use crate::parser::state::{
     Body, Context, File, Naming, ObjectKind, Outer, Part, Stage, State, Values, at_file,
 };
 use crate::parser::stop::Stop;
+use cc_ast::{
+    AssignmentOperator, ConstantExpression, External, Identifier, Object, Parameter, Signature,
+};
 use cc_tokens::{Scalar, Token};
 use std::alloc::{AllocError, Global};
 use std::mem::replace;

@@ -6,19 +6,19 @@
 
 ghost use Rattle.std.specs.Prelude.{◌≡◌, ◌<◌, ◌≤◌, length, IfOk, IfSome, MatchResult};
 ghost use Rattle.std.specs.Option.{option_map};
-ghost use Rattle.cc_syntax.specs.Erase.{external_trees};
+ghost use Rattle.cc_ast.specs.Erase.{external_trees};
 ghost use Rattle.cc_syntax.specs.internal.Parser.{count_of, start, tree_of};
-ghost use Rattle.cc_syntax.specs.Limits.{SpellsWithin};
-ghost use Rattle.cc_syntax.specs.Parse.{SpellsText};
+ghost use Rattle.cc_ast.specs.Limits.{SpellsWithin};
+ghost use Rattle.cc_ast.specs.Parse.{SpellsText};
 ghost use Rattle.cc_syntax.specs.internal.ParserView.{state_view, Advances, Refuses};
 ghost use Rattle.cc_tokens.specs.Token.{lexeme, lexemes};
 ghost use Rattle.cc_tokens.specs.Tokens.{AreInOrder};
 
-use crate::ast::External;
 use crate::parser::role::of_kind;
 use crate::parser::state::{File, Outer, State};
 use crate::parser::step::{count_so_far, level_begun, step};
 use crate::parser::stop::{Refusal, Stop};
+use cc_ast::External;
 use cc_tokens::{Next, Token, next_token};
 use std::alloc::{AllocError, Global};
 

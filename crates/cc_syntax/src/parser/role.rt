@@ -3,7 +3,7 @@
 ghost use Rattle.std.specs.Prelude.{◌≡◌};
 ghost use Rattle.cc_syntax.specs.internal.Roles.{role_of, keyword_role, punctuator_role};
 
-use crate::ast::{AssignmentOperator, BinaryOperator, StepOperator, UnaryOperator};
+use cc_ast::{AssignmentOperator, BinaryOperator, StepOperator, UnaryOperator};
 use cc_tokens::{Keyword, Punctuator, Scalar, TokenKind};
 
 /// What a token is to the grammar.

@@ -1,17 +1,17 @@
 // Statements that are complete, and those that open.
 
 ghost use Rattle.std.specs.Prelude.{◌≡◌, ◌≤◌, IfOk, Some, None, [], ◌∷◌, true, false};
-ghost use Rattle.cc_syntax.specs.Erase.{statement_tree, statements_of, expression_tree, declarator_trees, beginning_tree, optional_tree, optional_action, action_tree};
-ghost use Rattle.cc_syntax.specs.Tree.{Block, IfElse, For};
+ghost use Rattle.cc_ast.specs.Erase.{statement_tree, statements_of, expression_tree, declarator_trees, beginning_tree, optional_tree, optional_action, action_tree};
+ghost use Rattle.cc_ast.specs.Tree.{Block, IfElse, For};
 ghost use Rattle.cc_syntax.specs.internal.Parser.{with_last, inside_of, settled, settle, opens, declares, acted, tested, close_block, declare};
 ghost use Rattle.cc_syntax.specs.internal.ParserView.{open_view, open_views, body_view, stage_view, state_view, spot_view, test_view, position_view, Gives};
 
-use crate::ast::{Action, Beginning, Declarator, Expression, External, Statement};
 use crate::parser::role::Role;
 use crate::parser::state::{
     Body, Open, Outer, Position, Spot, Stage, State, Test, at_file, in_body,
 };
 use crate::parser::stop::Stop;
+use cc_ast::{Action, Beginning, Declarator, Expression, External, Statement};
 use cc_tokens::Scalar;
 use std::alloc::{AllocError, Global};
 

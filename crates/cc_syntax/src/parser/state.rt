@@ -1,11 +1,11 @@
 // What the parser has read so far, and what may come next.
 
 ghost use Rattle.std.specs.Prelude.{◌≡◌};
-ghost use Rattle.cc_syntax.specs.Erase.{external_trees};
+ghost use Rattle.cc_ast.specs.Erase.{external_trees};
 ghost use Rattle.cc_syntax.specs.internal.Parser.{AtFile, InBody, InFull};
 ghost use Rattle.cc_syntax.specs.internal.ParserView.{state_view, outer_view, body_view, stage_view, full_view, phase_view};
 
-use crate::ast::{
+use cc_ast::{
     Action, AssignmentOperator, Beginning, BinaryOperator, ConstantExpression, Declarator,
     Expression, External, Identifier, Object, Signature, Statement, StepOperator, Target,
     UnaryOperator,

@@ -1,6 +1,6 @@
 -- How the code counts what is limited.
 use Rattle.std.specs.Prelude.{ℕ, ◌+◌, List, [], ◌∷◌, ◌++◌, Option, Some, None, if◌then◌else◌, nat_lt, is_some}
-use Rattle.cc_syntax.specs.Tree.{Name, Object, External, Declaration, Definition, Objects}
+use Rattle.cc_ast.specs.Tree.{Name, Object, External, Declaration, Definition, Objects}
 use Rattle.cc_typing.specs.Limits.{most_words, object_name}
 use Rattle.cc_typing.specs.Types.{object_words}
 use Rattle.cc_typing.specs.declared.rule.RuleError.{RuleError}

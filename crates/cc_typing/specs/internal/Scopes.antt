@@ -1,7 +1,7 @@
 -- What the code asks of what is in scope.
 use Rattle.std.specs.Prelude.{ℕ, Bool, false, List, map, Option, Some, None, nat_le}
 use Rattle.cc_tokens.specs.declared.scalar.Scalar.{Scalar}
-use Rattle.cc_syntax.specs.Tree.{Parameter}
+use Rattle.cc_ast.specs.Tree.{Parameter}
 
 -- a number from k on
 abbrev pub from : ℕ → Option ℕ → Bool

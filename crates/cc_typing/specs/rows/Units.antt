@@ -1,12 +1,12 @@
 -- Worked units and the rules that they break, by computation. An offset counts bytes from 0.
 use Rattle.std.specs.Prelude.{◌≡◌, refl, ℕ, zero, suc, replicate, ◌+◌, ◌/◌, ◌%◌, true, false, List, [], ◌∷◌, ◌++◌, Some, None, codes}
-use Rattle.cc_syntax.specs.Tree as tree
-use Rattle.cc_syntax.specs.Tree.{Name, Stmt, External}
+use Rattle.cc_ast.specs.Tree as tree
+use Rattle.cc_ast.specs.Tree.{Name, Stmt, External}
 use Rattle.cc_tokens.specs.declared.scalar.Scalar.TheVariants.{Int, Unsigned}
-use Rattle.cc_syntax.specs.declared.ast.UnaryOperator.TheVariants.{Minus, Not}
-use Rattle.cc_syntax.specs.declared.ast.BinaryOperator.TheVariants.{Divide, Add, Less}
-use Rattle.cc_syntax.specs.declared.ast.AssignmentOperator.TheVariants as assignment
-use Rattle.cc_syntax.specs.declared.ast.StepOperator.TheVariants.{Increment}
+use Rattle.cc_ast.specs.declared.ast.UnaryOperator.TheVariants.{Minus, Not}
+use Rattle.cc_ast.specs.declared.ast.BinaryOperator.TheVariants.{Divide, Add, Less}
+use Rattle.cc_ast.specs.declared.ast.AssignmentOperator.TheVariants as assignment
+use Rattle.cc_ast.specs.declared.ast.StepOperator.TheVariants.{Increment}
 use Rattle.cc_typing.specs.Rules.{broken, errors, defines_main, undefined_calls}
 use Rattle.cc_typing.specs.Limits.{excesses}
 use Rattle.cc_typing.specs.declared.rule.Rule.TheVariants.{Unknown, Redeclared, WrongKind, WrongCount, VoidValue, BadReturn, BadAssign, BadBreak, Undefined, TooMany}

@@ -2,7 +2,7 @@ use Rattle.std.proofs.Common.{length, Option, ap, ◌∙◌, sym, arith}
 use Rattle.cc_tokens.specs.declared.token.TokenKind.TheVariants.{Identifier}
 use Rattle.cc_tokens.specs.Place.{place_of}
 use Rattle.cc_tokens.specs.Token.{Lexeme}
-use Rattle.cc_syntax.specs.Parse.{offset_of}
+use Rattle.cc_ast.specs.Parse.{offset_of}
 use Rattle.cc_syntax.proofs.TokenOrder.{in_order-at, token_at, no_token_at}
 use Rattle.cc_syntax.proofs.parser.place_of_token.Goals as goal
 

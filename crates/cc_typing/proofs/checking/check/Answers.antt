@@ -1,7 +1,7 @@
 -- The first error is answered at its place; then a missing main; then the first call of an undefined function; then the
 -- unit is typed.
 use Rattle.std.proofs.Common.{◌≡◌, ◌∙◌, inr, ap, sym, length, true, false, Some, None}
-use Rattle.cc_syntax.specs.Source.{source}
+use Rattle.cc_ast.specs.Source.{source}
 use Rattle.cc_tokens.specs.Place.{place_of}
 use Rattle.cc_typing.specs.Fault.{fault_of}
 use Rattle.cc_typing.specs.internal.Findings.{noted}

@@ -1,7 +1,7 @@
 -- Declaration by declaration.
 use Rattle.std.proofs.Common.{◌+◌, ap, sym, ◌∙◌, drop, [], ◌≡◌}
 use Rattle.std.proofs.Math.ListN.{drop_of_length-le}
-use Rattle.cc_syntax.specs.Erase.{external_trees}
+use Rattle.cc_ast.specs.Erase.{external_trees}
 use Rattle.cc_typing.specs.internal.Counts.{all_defined}
 use Rattle.cc_typing.specs.internal.Functions.{Functions}
 use Rattle.cc_typing.proofs.SameTypes.{drop-item}

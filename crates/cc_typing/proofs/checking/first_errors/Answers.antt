@@ -1,6 +1,6 @@
 -- The walk over file scope begins with the builtins, and knows all definitions.
 use Rattle.std.proofs.Common.{◌∙◌}
-use Rattle.cc_syntax.specs.Erase.{external_trees}
+use Rattle.cc_ast.specs.Erase.{external_trees}
 use Rattle.cc_typing.proofs.Verdict.{first-are, undefined-are}
 use Rattle.cc_typing.proofs.checking.first_errors.Goals as goal
 

@@ -1,9 +1,9 @@
 -- The parts of an expression, one after the other.
 use Rattle.std.proofs.Common.{◌≡◌, ◌∙◌, ◌+◌, ◌++◌, [], ◌∷◌, ap, sym, drop, length, List}
 use Rattle.std.proofs.Math.ListN.{drop_of_length-le}
-use Rattle.cc_syntax.specs.Erase.{name_tree, expression_tree}
-use Rattle.cc_syntax.specs.internal.Arguments.{expressions_of}
-use Rattle.cc_syntax.specs.declared.ast.Expression.{Expression}
+use Rattle.cc_ast.specs.Erase.{name_tree, expression_tree}
+use Rattle.cc_ast.specs.internal.Arguments.{expressions_of}
+use Rattle.cc_ast.specs.declared.ast.Expression.{Expression}
 use Rattle.cc_typing.specs.Rules.{array_errors, function_errors, count_of, void_errors, expression_errors, value_errors, argument_errors, called_in, called_in_all}
 use Rattle.cc_typing.specs.Scope.{found, in_scope}
 use Rattle.cc_typing.proofs.Parts.{next, last, two, three, after_noted}

@@ -1,5 +1,5 @@
 use Rattle.std.proofs.Common.{◌≡◌, drop}
-use Rattle.cc_syntax.specs.internal.Arguments.{expressions_of}
+use Rattle.cc_ast.specs.internal.Arguments.{expressions_of}
 use Rattle.cc_typing.specs.internal.Findings.{after}
 use Rattle.cc_typing.specs.Rules.{argument_errors, called_in_all}
 use Rattle.cc_typing.specs.Scope.{in_scope}

@@ -1,7 +1,7 @@
 -- Declaration by declaration.
 use Rattle.std.proofs.Common.{◌≡◌, [], ap, subst, drop}
 use Rattle.std.proofs.Math.ListN.{drop_of_length-le}
-use Rattle.cc_syntax.specs.Erase.{external_tree, external_trees}
+use Rattle.cc_ast.specs.Erase.{external_tree, external_trees}
 use Rattle.cc_typing.specs.internal.Findings.{Found}
 use Rattle.cc_typing.proofs.FileScopes.{Declaring, Declaring-next}
 use Rattle.cc_typing.proofs.SameTypes.{drop-item}

@@ -1,5 +1,5 @@
 use Rattle.std.proofs.Common.{drop}
-use Rattle.cc_syntax.specs.Erase.{external_trees}
+use Rattle.cc_ast.specs.Erase.{external_trees}
 use Rattle.cc_typing.proofs.FileScopes.{Declaring}
 use Rattle.cc_typing.proofs.externals.all_externals.Given as goal
 

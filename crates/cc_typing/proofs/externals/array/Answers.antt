@@ -1,8 +1,8 @@
 -- An array: its name, its length, and its list.
 use Rattle.std.proofs.Common.{◌≡◌, ◌∙◌, List, [], ◌∷◌, suc, length, refl, ap}
 use Rattle.std.specs.Prelude.{is_some}
-use Rattle.cc_syntax.specs.Erase.{name_tree, optional_constant, constant_trees}
-use Rattle.cc_syntax.specs.declared.ast.ConstantExpression.{ConstantExpression}
+use Rattle.cc_ast.specs.Erase.{name_tree, optional_constant, constant_trees}
+use Rattle.cc_ast.specs.declared.ast.ConstantExpression.{ConstantExpression}
 use Rattle.cc_typing.specs.Bindings.{file_level, file_of}
 use Rattle.cc_typing.specs.internal.Findings.{is_bad_length}
 use Rattle.cc_typing.specs.Scope.{Elements, is_declared, in_scope, with_declared}

@@ -1,7 +1,7 @@
 -- Its value, and then whether it has one.
 use Rattle.std.proofs.Common.{◌≡◌, ◌∙◌, [], ap, sym}
 use Rattle.std.specs.Prelude.{not, is_some}
-use Rattle.cc_syntax.specs.Erase.{constant_tree, expression_tree}
+use Rattle.cc_ast.specs.Erase.{constant_tree, expression_tree}
 use Rattle.cc_typing.specs.internal.Findings.{after}
 use Rattle.cc_typing.specs.Rules.{broken_if, value_errors, called_in}
 use Rattle.cc_typing.specs.Scope.{in_scope}

@@ -1,5 +1,5 @@
 use Rattle.std.proofs.Common.{◌≡◌, drop}
-use Rattle.cc_syntax.specs.Erase.{constant_trees}
+use Rattle.cc_ast.specs.Erase.{constant_trees}
 use Rattle.cc_typing.specs.internal.Findings.{after}
 use Rattle.cc_typing.specs.Rules.{constants_errors, called_in_constants}
 use Rattle.cc_typing.specs.Scope.{in_scope}

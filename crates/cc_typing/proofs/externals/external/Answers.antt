@@ -1,6 +1,6 @@
 -- Each kind of external declaration in turn.
 use Rattle.std.proofs.Common.{◌≡◌, ◌∙◌, ◌∷◌, [], false, ap}
-use Rattle.cc_syntax.specs.Erase.{signature_tree, statements_of, object_trees, external_tree}
+use Rattle.cc_ast.specs.Erase.{signature_tree, statements_of, object_trees, external_tree}
 use Rattle.cc_typing.specs.Bindings.{file_level, file_of}
 use Rattle.cc_typing.specs.internal.Findings.{Found, after, with_before}
 use Rattle.cc_typing.specs.Rules.{objects_errors, statements_errors, called_in_objects, called_in_statements}

@@ -1,6 +1,6 @@
 -- Object by object.
 use Rattle.std.proofs.Common.{subst}
-use Rattle.cc_syntax.specs.Erase.{object_tree, object_trees}
+use Rattle.cc_ast.specs.Erase.{object_tree, object_trees}
 use Rattle.cc_typing.proofs.FileScopes.{Objecting, Objecting-next}
 use Rattle.cc_typing.proofs.SameTypes.{drop-item}
 use Rattle.cc_typing.proofs.externals.objects.Goals as goal

@@ -1,6 +1,6 @@
 -- Parameter by parameter.
 use Rattle.std.proofs.Common.{subst}
-use Rattle.cc_syntax.specs.Erase.{parameter_tree, parameter_trees}
+use Rattle.cc_ast.specs.Erase.{parameter_tree, parameter_trees}
 use Rattle.cc_typing.proofs.FileScopes.{Parametering, Parametering-next}
 use Rattle.cc_typing.proofs.SameTypes.{drop-item}
 use Rattle.cc_typing.proofs.externals.parameters.Goals as goal

@@ -1,5 +1,5 @@
 use Rattle.std.proofs.Common.{drop}
-use Rattle.cc_syntax.specs.Erase.{parameter_trees}
+use Rattle.cc_ast.specs.Erase.{parameter_trees}
 use Rattle.cc_typing.proofs.FileScopes.{Parametering}
 use Rattle.cc_typing.proofs.externals.parameters.Given as goal
 

@@ -1,7 +1,7 @@
 -- Statement by statement.
 use Rattle.std.proofs.Common.{◌+◌, ◌++◌, ◌∙◌, ap, sym, drop}
-use Rattle.cc_syntax.specs.Erase.{beginning_tree, statement_tree, statements_of}
-use Rattle.cc_syntax.specs.declared.ast.Statement.{Statement}
+use Rattle.cc_ast.specs.Erase.{beginning_tree, statement_tree, statements_of}
+use Rattle.cc_ast.specs.declared.ast.Statement.{Statement}
 use Rattle.cc_typing.specs.internal.Counts.{count_after}
 use Rattle.cc_typing.specs.Limits.{beginning_names, locals_of, locals}
 use Rattle.cc_typing.proofs.Counting.{count-next, count-two}

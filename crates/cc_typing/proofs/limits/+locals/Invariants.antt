@@ -1,5 +1,5 @@
 use Rattle.std.proofs.Common.{◌≡◌, drop}
-use Rattle.cc_syntax.specs.Erase.{statements_of}
+use Rattle.cc_ast.specs.Erase.{statements_of}
 use Rattle.cc_typing.specs.internal.Counts.{count_after}
 use Rattle.cc_typing.specs.Limits.{locals}
 use Rattle.cc_typing.proofs.limits.+locals.Given as goal

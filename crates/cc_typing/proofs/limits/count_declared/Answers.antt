@@ -1,6 +1,6 @@
 -- Name by name.
 use Rattle.std.proofs.Common.{◌+◌, [], ◌∷◌, ap, drop}
-use Rattle.cc_syntax.specs.Erase.{name_tree, declarator_trees}
+use Rattle.cc_ast.specs.Erase.{name_tree, declarator_trees}
 use Rattle.cc_typing.specs.Limits.{declared_names}
 use Rattle.cc_typing.proofs.Counting.{count-next}
 use Rattle.cc_typing.proofs.SameTypes.{drop-item}

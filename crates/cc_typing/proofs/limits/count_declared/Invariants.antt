@@ -1,5 +1,5 @@
 use Rattle.std.proofs.Common.{◌≡◌, drop}
-use Rattle.cc_syntax.specs.Erase.{declarator_trees}
+use Rattle.cc_ast.specs.Erase.{declarator_trees}
 use Rattle.cc_typing.specs.internal.Counts.{count_after}
 use Rattle.cc_typing.specs.Limits.{declared_names}
 use Rattle.cc_typing.proofs.limits.count_declared.Given as goal

@@ -1,5 +1,5 @@
 -- No local is past the greatest number.
-use Rattle.cc_syntax.specs.Erase.{statements_of}
+use Rattle.cc_ast.specs.Erase.{statements_of}
 use Rattle.cc_typing.specs.Limits.{locals}
 use Rattle.cc_typing.proofs.Counting.{count-is}
 use Rattle.cc_typing.proofs.limits.local_count.Goals as goal

@@ -1,6 +1,6 @@
 -- Declaration by declaration.
 use Rattle.std.proofs.Common.{◌+◌, ◌∙◌, ap, drop}
-use Rattle.cc_syntax.specs.Erase.{external_tree, external_trees}
+use Rattle.cc_ast.specs.Erase.{external_tree, external_trees}
 use Rattle.cc_typing.specs.internal.Counts.{defines}
 use Rattle.cc_typing.specs.Limits.{function_names}
 use Rattle.cc_typing.proofs.Counting.{count-next}

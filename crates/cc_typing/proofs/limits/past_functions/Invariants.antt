@@ -1,5 +1,5 @@
 use Rattle.std.proofs.Common.{◌≡◌, drop, None}
-use Rattle.cc_syntax.specs.Erase.{external_trees}
+use Rattle.cc_ast.specs.Erase.{external_trees}
 use Rattle.cc_typing.specs.internal.Counts.{count_after}
 use Rattle.cc_typing.specs.Limits.{function_names}
 use Rattle.cc_typing.proofs.limits.past_functions.Given as goal

@@ -1,6 +1,6 @@
 -- Declaration by declaration.
 use Rattle.std.proofs.Common.{◌+◌, ◌∙◌, ap, sym, drop}
-use Rattle.cc_syntax.specs.Erase.{external_tree, external_trees}
+use Rattle.cc_ast.specs.Erase.{external_tree, external_trees}
 use Rattle.cc_typing.specs.internal.Counts.{word_count, words_after, objects_in}
 use Rattle.cc_typing.specs.Limits.{objects}
 use Rattle.cc_typing.proofs.Counting.{words_words}

@@ -1,6 +1,6 @@
 -- The limits of each function, then that on functions, then that on words.
 use Rattle.std.proofs.Common.{◌≡◌, ◌∙◌, ◌++◌, ap}
-use Rattle.cc_syntax.specs.Erase.{external_trees}
+use Rattle.cc_ast.specs.Erase.{external_trees}
 use Rattle.cc_typing.specs.internal.Counts.{excess_of}
 use Rattle.cc_typing.specs.internal.Findings.{noted}
 use Rattle.cc_typing.specs.Limits.{most_functions, past, function_names, objects, word_excesses, externals_excesses}

@@ -1,6 +1,6 @@
 -- The parameters, and then the locals.
 use Rattle.std.proofs.Common.{◌≡◌, ◌∙◌, None, ap, sym}
-use Rattle.cc_syntax.specs.Erase.{signature_tree, statements_of, external_tree}
+use Rattle.cc_ast.specs.Erase.{signature_tree, statements_of, external_tree}
 use Rattle.cc_typing.specs.internal.Counts.{count_after, excess_of}
 use Rattle.cc_typing.specs.internal.Findings.{noted}
 use Rattle.cc_typing.specs.Limits.{most_locals, past, locals, parameter_excesses, external_excesses}

@@ -1,6 +1,6 @@
 -- Declaration by declaration.
 use Rattle.std.proofs.Common.{◌+◌, ◌∙◌, ap, sym, drop}
-use Rattle.cc_syntax.specs.Erase.{external_tree, external_trees}
+use Rattle.cc_ast.specs.Erase.{external_tree, external_trees}
 use Rattle.cc_typing.specs.internal.Findings.{noted}
 use Rattle.cc_typing.specs.Limits.{external_excesses, externals_excesses}
 use Rattle.cc_typing.proofs.Parts.{noted-append}

@@ -1,7 +1,7 @@
 -- Each kind of statement in turn, and a list statement by statement.
 use Rattle.std.proofs.Common.{◌≡◌, ◌∙◌, refl, ap, sym, subst}
-use Rattle.cc_syntax.specs.Erase.{expression_tree, optional_tree, optional_action, beginning_tree, statement_tree, statements_of}
-use Rattle.cc_syntax.specs.Tree.{If, IfElse, While, DoWhile, For}
+use Rattle.cc_ast.specs.Erase.{expression_tree, optional_tree, optional_action, beginning_tree, statement_tree, statements_of}
+use Rattle.cc_ast.specs.Tree.{If, IfElse, While, DoWhile, For}
 use Rattle.cc_typing.specs.internal.Findings.{after, around_of}
 use Rattle.cc_typing.specs.Scope.{Visible, in_scope, opened}
 use Rattle.cc_typing.specs.Rules.{value_errors, statement_errors, statements_errors, called_in, called_in_statement, called_in_statements}

@@ -1,5 +1,5 @@
 use Rattle.std.proofs.Common.{drop}
-use Rattle.cc_syntax.specs.Erase.{statements_of}
+use Rattle.cc_ast.specs.Erase.{statements_of}
 use Rattle.cc_typing.specs.internal.Findings.{around_of}
 use Rattle.cc_typing.proofs.Walks.{Walking}
 use Rattle.cc_typing.proofs.statements.+statements.Given as goal

@@ -1,5 +1,5 @@
 use Rattle.std.proofs.Common.{drop}
-use Rattle.cc_syntax.specs.Erase.{declarator_trees}
+use Rattle.cc_ast.specs.Erase.{declarator_trees}
 use Rattle.cc_typing.proofs.Walks.{Declaring}
 use Rattle.cc_typing.proofs.statements.declaration.Given as goal
 

@@ -1,10 +1,10 @@
 -- Without an `else` the statement is complete, and the token stands after what is left open.
 use Rattle.std.proofs.Common.{◌≡◌, ◌∙◌, ap, sym, subst, Option, false, rules}
-use Rattle.cc_syntax.specs.Erase.{expression_tree, statement_tree}
+use Rattle.cc_ast.specs.Erase.{expression_tree, statement_tree}
 use Rattle.cc_syntax.specs.internal.Parser.{Inside, Stage, State, name_of, settled, resting_step}
 use Rattle.cc_syntax.specs.internal.ParserView.{body_view, state_view, Gives}
 use Rattle.cc_tokens.specs.Token.{lexeme}
-use Rattle.cc_syntax.specs.Tree.{Stmt, If}
+use Rattle.cc_ast.specs.Tree.{Stmt, If}
 use Rattle.cc_syntax.proofs.OtherRoles.{else-other}
 use Rattle.cc_syntax.proofs.parser.body.step_else.Goals as goal
 

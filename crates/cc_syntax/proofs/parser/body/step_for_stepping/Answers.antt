@@ -1,5 +1,5 @@
 -- Every token but the parenthesis begins the last part of the header.
-use Rattle.cc_syntax.specs.Erase.{beginning_tree, optional_tree}
+use Rattle.cc_ast.specs.Erase.{beginning_tree, optional_tree}
 use Rattle.cc_syntax.specs.internal.Parser.{name_of}
 use Rattle.cc_syntax.specs.internal.ParserView.{body_view}
 use Rattle.cc_tokens.specs.Token.{lexeme}

@@ -1,5 +1,5 @@
 use Rattle.std.proofs.Common.{rules}
-use Rattle.cc_syntax.specs.declared.ast.Expression.{the_lemmas}
+use Rattle.cc_ast.specs.declared.ast.Expression.{the_lemmas}
 use Rattle.cc_syntax.proofs.Rows.{expressions_tree-row}
 use Rattle.cc_syntax.proofs.parser.expression.call_of.Goals as goal
 

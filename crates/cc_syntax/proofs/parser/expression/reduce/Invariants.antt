@@ -1,5 +1,5 @@
 use Rattle.std.proofs.Common.{◌≡◌, vec_len}
-use Rattle.cc_syntax.specs.Erase.{expression_tree}
+use Rattle.cc_ast.specs.Erase.{expression_tree}
 use Rattle.cc_syntax.specs.internal.Parser.{reduced}
 use Rattle.cc_syntax.specs.internal.ParserView.{waiting_views}
 use Rattle.cc_syntax.proofs.parser.expression.reduce.Given as goal

@@ -1,6 +1,6 @@
 use Rattle.std.proofs.Common.{◌≡◌, [], length, ◌++◌, ◌∷◌, ap, arith, rules}
 use Rattle.std.proofs.lemmas.Grind.{common_steps}
-use Rattle.cc_syntax.specs.Erase.{name_tree}
+use Rattle.cc_ast.specs.Erase.{name_tree}
 use Rattle.cc_syntax.specs.internal.ParserView.{waiting_view, full_view}
 use Rattle.cc_syntax.proofs.ParserCalls.{call_of_none-some}
 use Rattle.cc_syntax.proofs.parser.full.end_call.Goals as goal

@@ -1,8 +1,8 @@
 -- What closes is the same of a full expression with more that waits: it looks at what stands around and at the count alone.
 use Rattle.std.proofs.Common.{◌≡◌, ◌∙◌, ◌∷◌, List, ap, sym, subst, rules}
 use Rattle.cc_syntax.specs.declared.parser.state.Full as full
-use Rattle.cc_syntax.specs.Tree.{Expr}
-use Rattle.cc_syntax.specs.Erase.{expression_tree}
+use Rattle.cc_ast.specs.Tree.{Expr}
+use Rattle.cc_ast.specs.Erase.{expression_tree}
 use Rattle.cc_syntax.specs.internal.Parser.{Waiting, reduced, full_of, close}
 use Rattle.cc_syntax.specs.internal.ParserView.{context_view, full_view, waiting_view, waiting_views, state_view, Gives}
 use Rattle.cc_syntax.proofs.Views.{waiting_views-push}

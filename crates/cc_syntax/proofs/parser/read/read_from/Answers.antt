@@ -3,7 +3,7 @@ use Rattle.cc_tokens.specs.declared.token.TokenKind.TheVariants.{Identifier}
 use Rattle.cc_syntax.specs.declared.parser.stop.Stop as stop
 use Rattle.cc_syntax.specs.declared.parser.state.State as state
 use Rattle.std.specs.Option.{option_map}
-use Rattle.cc_syntax.specs.Erase.{external_trees}
+use Rattle.cc_ast.specs.Erase.{external_trees}
 use Rattle.cc_syntax.specs.internal.ParserView.{state_view}
 use Rattle.cc_syntax.proofs.TokenOrder.{in_order-at}
 use Rattle.cc_syntax.proofs.ReadsTokens.{stopped, past_limit, goes_on, finished, unfinished}

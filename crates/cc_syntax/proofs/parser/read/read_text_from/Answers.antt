@@ -1,5 +1,5 @@
 use Rattle.std.proofs.Common.{arith}
-use Rattle.cc_syntax.specs.Erase.{external_trees}
+use Rattle.cc_ast.specs.Erase.{external_trees}
 use Rattle.cc_syntax.specs.internal.ParserView.{state_view}
 use Rattle.cc_syntax.proofs.ReadsText.{read_more, read_answered}
 use Rattle.cc_syntax.proofs.parser.read.read_text_from.Goals as goal

@@ -1,5 +1,5 @@
 use Rattle.std.proofs.Common.{rules}
-use Rattle.cc_syntax.specs.declared.ast.Statement.{the_lemmas}
+use Rattle.cc_ast.specs.declared.ast.Statement.{the_lemmas}
 use Rattle.cc_syntax.proofs.Rows.{statements_tree-row}
 use Rattle.cc_syntax.proofs.parser.settle.block.Goals as goal
 

@@ -1,5 +1,5 @@
 use Rattle.std.proofs.Common.{◌≡◌, vec_len}
-use Rattle.cc_syntax.specs.Erase.{statement_tree}
+use Rattle.cc_ast.specs.Erase.{statement_tree}
 use Rattle.cc_syntax.specs.internal.Parser.{settled}
 use Rattle.cc_syntax.specs.internal.ParserView.{open_views, body_view}
 use Rattle.cc_syntax.proofs.parser.settle.settle_body.Given as goal

@@ -1,6 +1,6 @@
 -- One call more.
 use Rattle.std.proofs.Common.{◌≡◌, true, false, [], ◌∷◌, ◌∙◌, Some, sym, ap}
-use Rattle.cc_syntax.specs.Erase.{name_tree}
+use Rattle.cc_ast.specs.Erase.{name_tree}
 use Rattle.cc_typing.specs.internal.Findings.{Found, after}
 use Rattle.cc_typing.specs.Scope.{has_name}
 use Rattle.cc_typing.proofs.Parts.{called_undefined, called_defined}

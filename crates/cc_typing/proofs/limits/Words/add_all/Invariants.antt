@@ -1,5 +1,5 @@
 use Rattle.std.proofs.Common.{◌≡◌, drop}
-use Rattle.cc_syntax.specs.Erase.{object_trees}
+use Rattle.cc_ast.specs.Erase.{object_trees}
 use Rattle.cc_typing.specs.internal.Counts.{word_count, words_after}
 use Rattle.cc_typing.proofs.limits.Words.add_all.Given as goal
 

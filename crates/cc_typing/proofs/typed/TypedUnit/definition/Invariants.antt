@@ -1,5 +1,5 @@
 use Rattle.std.proofs.Common.{◌≡◌, ◌<◌, length, drop, slice_get}
-use Rattle.cc_syntax.specs.Erase.{external_trees}
+use Rattle.cc_ast.specs.Erase.{external_trees}
 use Rattle.cc_typing.specs.Typed.{definitions}
 use Rattle.cc_typing.proofs.typed.TypedUnit.definition.Given as goal
 

@@ -1,7 +1,7 @@
 -- The name of the definition with the number.
 use Rattle.std.proofs.Common.{Some, ap, sym, ◌∙◌}
-use Rattle.cc_syntax.specs.Source.{source}
-use Rattle.cc_syntax.specs.Erase.{signature_tree, statements_of}
+use Rattle.cc_ast.specs.Source.{source}
+use Rattle.cc_ast.specs.Erase.{signature_tree, statements_of}
 use Rattle.cc_typing.proofs.Definitions.{named}
 use Rattle.cc_typing.proofs.typed.TypedUnit.function_name.Goals as goal
 

@@ -4,10 +4,10 @@ use Rattle.cc_tokens.specs.declared.place.Place.{Place}
 use Rattle.cc_tokens.specs.declared.fault.SyntaxFault.{SyntaxFault}
 use Rattle.cc_tokens.specs.declared.fault.SyntaxFault.TheVariants as fault
 use Rattle.cc_tokens.specs.Token.{Lexeme}
-use Rattle.cc_syntax.specs.Tree.{External}
+use Rattle.cc_ast.specs.Tree.{External}
 use Rattle.cc_tokens.specs.Place.{place_of}
 use Rattle.cc_tokens.specs.Tokens.{IsTokens, IsTokenRefusal, most_bytes}
-use Rattle.cc_syntax.specs.Limits.{SpellsWithin, UnexpectedAt, TooDeepAt, IsFineBefore}
+use Rattle.cc_ast.specs.Limits.{SpellsWithin, UnexpectedAt, TooDeepAt, IsFineBefore}
 
 -- the text's tokens spell the tree, and the limits hold
 pub record SpellsText (text : List ℕ) (tree : List External) : Type 0 where

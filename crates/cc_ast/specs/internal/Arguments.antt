@@ -1,8 +1,8 @@
 -- The tree of a list of arguments that is being made, or walked.
 use Rattle.std.specs.Prelude.{List, [], ◌∷◌}
-use Rattle.cc_syntax.specs.Tree.{Exprs, none, more}
-use Rattle.cc_syntax.specs.Erase.{expression_tree}
-use Rattle.cc_syntax.specs.declared.ast.Expression.{Expression}
+use Rattle.cc_ast.specs.Tree.{Exprs, none, more}
+use Rattle.cc_ast.specs.Erase.{expression_tree}
+use Rattle.cc_ast.specs.declared.ast.Expression.{Expression}
 
 -- the trees of a list of arguments
 abbrev pub expressions_of : List Expression → Exprs

@@ -2,8 +2,8 @@
 use Rattle.std.specs.Prelude.{◌≡◌, ℕ, suc, ◌<◌, ◌≤◌, List, [], ◌∷◌, ◌++◌, length, take, ◌⊎◌}
 use Rattle.std.specs.List.{AllByRecursion}
 use Rattle.cc_tokens.specs.Token.{Lexeme}
-use Rattle.cc_syntax.specs.Tree.{External}
-use Rattle.cc_syntax.specs.Grammar.{Measured, SpellsUnit, plain_tokens, Spells, Begins}
+use Rattle.cc_ast.specs.Tree.{External}
+use Rattle.cc_ast.specs.Grammar.{Measured, SpellsUnit, plain_tokens, Spells, Begins}
 
 -- how many tokens a full expression may have
 abbrev pub most_tokens : ℕ

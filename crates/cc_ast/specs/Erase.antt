@@ -2,25 +2,25 @@
 use Rattle.std.specs.Prelude.{List, [], ◌∷◌, Option, map}
 use Rattle.std.specs.Global.{Box}
 use Rattle.std.specs.Option.{option_map}
-use Rattle.cc_syntax.specs.Tree as tree
-use Rattle.cc_syntax.specs.Tree.{Expr, Exprs, none, more, Stmt, Stmts, end, next, ConstantExpr}
-use Rattle.cc_syntax.specs.declared.ast.Identifier.{Identifier}
-use Rattle.cc_syntax.specs.declared.ast.Expression.{Expression, Number, Name, Element', Call', Parenthesised', Unary', Cast', Binary', Conditional', Row_of-Expression, end_of-Expression, more_of-Expression}
-use Rattle.cc_syntax.specs.declared.ast.Target.{Target}
-use Rattle.cc_syntax.specs.declared.ast.Target.TheVariants as targets
-use Rattle.cc_syntax.specs.declared.ast.Action.{Action}
-use Rattle.cc_syntax.specs.declared.ast.Action.TheVariants as actions
-use Rattle.cc_syntax.specs.declared.ast.Declarator.{Declarator}
-use Rattle.cc_syntax.specs.declared.ast.Beginning.{Beginning}
-use Rattle.cc_syntax.specs.declared.ast.Beginning.TheVariants as beginnings
-use Rattle.cc_syntax.specs.declared.ast.Statement.{Statement, Block', Local, Perform, Return, Break, Continue, If', IfElse', While', DoWhile', For', Row_of-Statement, end_of-Statement, more_of-Statement}
-use Rattle.cc_syntax.specs.declared.ast.ConstantExpression.{ConstantExpression}
-use Rattle.cc_syntax.specs.declared.ast.Parameter.{Parameter}
-use Rattle.cc_syntax.specs.declared.ast.Signature.{Signature}
-use Rattle.cc_syntax.specs.declared.ast.Object.{Object}
-use Rattle.cc_syntax.specs.declared.ast.Object.TheVariants as objects
-use Rattle.cc_syntax.specs.declared.ast.External.{External}
-use Rattle.cc_syntax.specs.declared.ast.External.TheVariants as externals
+use Rattle.cc_ast.specs.Tree as tree
+use Rattle.cc_ast.specs.Tree.{Expr, Exprs, none, more, Stmt, Stmts, end, next, ConstantExpr}
+use Rattle.cc_ast.specs.declared.ast.Identifier.{Identifier}
+use Rattle.cc_ast.specs.declared.ast.Expression.{Expression, Number, Name, Element', Call', Parenthesised', Unary', Cast', Binary', Conditional', Row_of-Expression, end_of-Expression, more_of-Expression}
+use Rattle.cc_ast.specs.declared.ast.Target.{Target}
+use Rattle.cc_ast.specs.declared.ast.Target.TheVariants as targets
+use Rattle.cc_ast.specs.declared.ast.Action.{Action}
+use Rattle.cc_ast.specs.declared.ast.Action.TheVariants as actions
+use Rattle.cc_ast.specs.declared.ast.Declarator.{Declarator}
+use Rattle.cc_ast.specs.declared.ast.Beginning.{Beginning}
+use Rattle.cc_ast.specs.declared.ast.Beginning.TheVariants as beginnings
+use Rattle.cc_ast.specs.declared.ast.Statement.{Statement, Block', Local, Perform, Return, Break, Continue, If', IfElse', While', DoWhile', For', Row_of-Statement, end_of-Statement, more_of-Statement}
+use Rattle.cc_ast.specs.declared.ast.ConstantExpression.{ConstantExpression}
+use Rattle.cc_ast.specs.declared.ast.Parameter.{Parameter}
+use Rattle.cc_ast.specs.declared.ast.Signature.{Signature}
+use Rattle.cc_ast.specs.declared.ast.Object.{Object}
+use Rattle.cc_ast.specs.declared.ast.Object.TheVariants as objects
+use Rattle.cc_ast.specs.declared.ast.External.{External}
+use Rattle.cc_ast.specs.declared.ast.External.TheVariants as externals
 
 -- an identifier's bytes and place
 abbrev pub name_tree : Identifier → tree.Name

@@ -1,8 +1,8 @@
 // A text with the tree that its tokens spell.
 
 ghost use Rattle.std.specs.Prelude.{◌≡◌, ◌≤◌, length};
-ghost use Rattle.cc_syntax.specs.Erase.{external_trees};
-ghost use Rattle.cc_syntax.specs.Parse.{SpellsText};
+ghost use Rattle.cc_ast.specs.Erase.{external_trees};
+ghost use Rattle.cc_ast.specs.Parse.{SpellsText};
 ghost use Rattle.cc_tokens.specs.Tokens.{most_bytes};
 
 use super::ast::External;
@@ -23,10 +23,10 @@ impl Drop for Unit {
 }
 
 impl Unit {
-    ghost use Rattle.cc_syntax.specs.Source.{source};
+    ghost use Rattle.cc_ast.specs.Source.{source};
 
     /// A text and a tree that it spells.
-    pub(crate) fn new(text: Vec<u8>, externals: Vec<External>) -> Self
+    pub fn new(text: Vec<u8>, externals: Vec<External>) -> Self
         requires spelled { SpellsText text.items (external_trees externals.items) }
         requires fits { length text.items ≤ most_bytes }
         ensures text { (source result).text ≡ text.items }

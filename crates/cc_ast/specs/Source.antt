@@ -1,10 +1,10 @@
 -- What a parsed text shows: its bytes and its tree.
 use Rattle.std.specs.Prelude.{◌≡◌, List, Result, Ok, Err}
-use Rattle.cc_syntax.specs.Tree.{Source, External}
-use Rattle.cc_syntax.specs.Erase.{external_trees}
+use Rattle.cc_ast.specs.Tree.{Source, External}
+use Rattle.cc_ast.specs.Erase.{external_trees}
 use Rattle.cc_tokens.specs.declared.fault.SyntaxFault.{SyntaxFault}
 use Rattle.cc_tokens.specs.declared.fault.SyntaxFault.TheVariants.{OutOfMemory}
-use Rattle.cc_syntax.specs.declared.unit.Unit.{Unit}
+use Rattle.cc_ast.specs.declared.unit.Unit.{Unit}
 
 -- the bytes and the tree of a parsed text
 abbrev pub source : Unit → Source

@@ -2,21 +2,21 @@
 use Rattle.std.specs.Prelude.{◌≡◌, ℕ, suc, ◌≤◌, List, [], ◌∷◌, ◌++◌, map, Option, Some, None, ◌⊎◌}
 use Rattle.cc_tokens.specs.declared.scalar.Scalar.{Scalar}
 use Rattle.cc_tokens.specs.declared.scalar.Scalar.TheVariants as scalar
-use Rattle.cc_syntax.specs.declared.ast.UnaryOperator.{UnaryOperator}
-use Rattle.cc_syntax.specs.declared.ast.UnaryOperator.TheVariants as unary
-use Rattle.cc_syntax.specs.declared.ast.BinaryOperator.{BinaryOperator}
-use Rattle.cc_syntax.specs.declared.ast.BinaryOperator.TheVariants as binary
-use Rattle.cc_syntax.specs.declared.ast.AssignmentOperator.{AssignmentOperator}
-use Rattle.cc_syntax.specs.declared.ast.AssignmentOperator.TheVariants as assignment
-use Rattle.cc_syntax.specs.declared.ast.StepOperator.{StepOperator}
-use Rattle.cc_syntax.specs.declared.ast.StepOperator.TheVariants as stepping
+use Rattle.cc_ast.specs.declared.ast.UnaryOperator.{UnaryOperator}
+use Rattle.cc_ast.specs.declared.ast.UnaryOperator.TheVariants as unary
+use Rattle.cc_ast.specs.declared.ast.BinaryOperator.{BinaryOperator}
+use Rattle.cc_ast.specs.declared.ast.BinaryOperator.TheVariants as binary
+use Rattle.cc_ast.specs.declared.ast.AssignmentOperator.{AssignmentOperator}
+use Rattle.cc_ast.specs.declared.ast.AssignmentOperator.TheVariants as assignment
+use Rattle.cc_ast.specs.declared.ast.StepOperator.{StepOperator}
+use Rattle.cc_ast.specs.declared.ast.StepOperator.TheVariants as stepping
 use Rattle.cc_tokens.specs.declared.token.Keyword.{Keyword}
 use Rattle.cc_tokens.specs.declared.token.Keyword.TheVariants as keyword
 use Rattle.cc_tokens.specs.declared.token.Punctuator.{Punctuator}
 use Rattle.cc_tokens.specs.declared.token.Punctuator.TheVariants as punctuator
 use Rattle.cc_tokens.specs.declared.token.TokenKind.TheVariants as kind
 use Rattle.cc_tokens.specs.Token.{Lexeme}
-use Rattle.cc_syntax.specs.Tree.{Name, Expr, Number, Variable, Element, Call, Parenthesised, Unary, Cast, Binary, Conditional, Exprs, none, more, Target, AtVariable, AtElement, Action, Assign, Step, Evaluate, Declarator, Beginning, Declares, Performs, Stmt, Block, Local, Perform, Return, Break, Continue, If, IfElse, While, DoWhile, For, Stmts, end, next, ConstantExpr, Parameter, Signature, Object, Single, Array, Bytes, External, Declaration, Definition, Objects}
+use Rattle.cc_ast.specs.Tree.{Name, Expr, Number, Variable, Element, Call, Parenthesised, Unary, Cast, Binary, Conditional, Exprs, none, more, Target, AtVariable, AtElement, Action, Assign, Step, Evaluate, Declarator, Beginning, Declares, Performs, Stmt, Block, Local, Perform, Return, Break, Continue, If, IfElse, While, DoWhile, For, Stmts, end, next, ConstantExpr, Parameter, Signature, Object, Single, Array, Bytes, External, Declaration, Definition, Objects}
 
 -- the punctuator of a unary operator (C99 6.5.3)
 abbrev pub unary_punctuator : UnaryOperator → Punctuator

@@ -1,10 +1,10 @@
 -- The syntax tree, without where it lies in memory.
 use Rattle.std.specs.Prelude.{ℕ, List, Option}
 use Rattle.cc_tokens.specs.declared.scalar.Scalar.{Scalar}
-use Rattle.cc_syntax.specs.declared.ast.UnaryOperator.{UnaryOperator}
-use Rattle.cc_syntax.specs.declared.ast.BinaryOperator.{BinaryOperator}
-use Rattle.cc_syntax.specs.declared.ast.AssignmentOperator.{AssignmentOperator}
-use Rattle.cc_syntax.specs.declared.ast.StepOperator.{StepOperator}
+use Rattle.cc_ast.specs.declared.ast.UnaryOperator.{UnaryOperator}
+use Rattle.cc_ast.specs.declared.ast.BinaryOperator.{BinaryOperator}
+use Rattle.cc_ast.specs.declared.ast.AssignmentOperator.{AssignmentOperator}
+use Rattle.cc_ast.specs.declared.ast.StepOperator.{StepOperator}
 
 -- an identifier: its bytes, and the offset of its first byte in the text (C99 6.4.2)
 pub record Name : Type 0 where

@@ -1,0 +1,3 @@
+-- What private contracts and proofs speak of.
+-- the tree of a list of arguments
+pub mod Arguments
