@@ -5,8 +5,8 @@ use Rattle.std.proofs.Math.Nat.{ℕ_set}
 use Rattle.std.proofs.lemmas.List.{length-map}
 use Rattle.cc_tokens.specs.declared.fault.SyntaxFault.{SyntaxFault}
 use Rattle.cc_tokens.specs.declared.fault.SyntaxFault.TheVariants as syntax
-use Rattle.cc_syntax.specs.Tree.{Name, Source}
-use Rattle.cc_syntax.specs.Parse.{SpellsText, IsParseRefusal}
+use Rattle.cc_ast.specs.Tree.{Name, Source}
+use Rattle.cc_ast.specs.Parse.{SpellsText, IsParseRefusal}
 use Rattle.cc_syntax.proofs.Determined.{answers_are_one}
 use Rattle.cc_typing.specs.declared.fault.TypeFault.{TypeFault}
 use Rattle.cc_typing.specs.declared.fault.TypeFault.TheVariants as typing

@@ -7,10 +7,10 @@ use Rattle.std.proofs.Math.Logic.{∥∥₁_elim, ∥∥₁_map, ∥∥₁_prop}
 use Rattle.std.proofs.lemmas.Bool.{eq-eqb, eqb-true, cases_lt}
 use Rattle.std.proofs.lemmas.Option.{slice_get_within, get_or_from_slice_get, slice_get-get_or}
 use Rattle.cc_tokens.specs.Tokens.{TokensAreOne}
-use Rattle.cc_syntax.specs.Tree.{Source}
-use Rattle.cc_syntax.specs.Source.{source}
-use Rattle.cc_syntax.specs.Limits.{TreesAreOne}
-use Rattle.cc_syntax.specs.Parse.{SpellsText}
+use Rattle.cc_ast.specs.Tree.{Source}
+use Rattle.cc_ast.specs.Source.{source}
+use Rattle.cc_ast.specs.Limits.{TreesAreOne}
+use Rattle.cc_ast.specs.Parse.{SpellsText}
 use Rattle.cc_semantics.specs.Meaning.{functions}
 use Rattle.cc_semantics.specs.Calls.{TypedUnitsHaveMain}
 use Rattle.cc_unit.specs.declared.unit.StoredUnit.{StoredUnit}

@@ -2,7 +2,7 @@
 use Rattle.std.proofs.Common.{◌≡◌, ℕ, suc, ◌+◌, ◌<◌, Bool, true, false, List, [], ◌∷◌, length, map, option_map, Option, Some, None, unwrap_or, get_or, slice_get, refl, sym, ap, ◌∙◌, subst, arith}
 use Rattle.std.proofs.lemmas.List.{length-map}
 use Rattle.std.proofs.lemmas.Option.{slice_get-get_or, slice_get-map}
-use Rattle.cc_syntax.specs.Tree.{External, Name, Parameter}
+use Rattle.cc_ast.specs.Tree.{External, Name, Parameter}
 use Rattle.cc_resolve.specs.Layout.{Layout, LaidObject, layout_of, callee}
 use Rattle.cc_resolve.specs.Environment.{Environment, parameter_names}
 use Rattle.cc_resolve.specs.declared.layout.Callee.{Callee}

@@ -1,8 +1,8 @@
 -- At the end of a scope its locals are taken back, and all is as it was before.
 use Rattle.std.proofs.Common.{◌≡◌, ℕ, zero, suc, ◌+◌, ◌-◌, ◌≤◌, ◌<◌, List, [], ◌∷◌, ◌++◌, length, take, drop, refl, sym, ap, ◌∙◌, subst, arith}
 use Rattle.cc_tokens.specs.declared.scalar.Scalar.{Scalar}
-use Rattle.cc_syntax.specs.Tree as tree
-use Rattle.cc_syntax.specs.Tree.{Declarator, Beginning, Declares, Performs, Stmt, Stmts, end, next}
+use Rattle.cc_ast.specs.Tree as tree
+use Rattle.cc_ast.specs.Tree.{Declarator, Beginning, Declares, Performs, Stmt, Stmts, end, next}
 use Rattle.cc_typing.specs.Scope.{Binding}
 use Rattle.cc_typing.specs.Bindings.{closed}
 use Rattle.cc_resolve.specs.Layout.{Layout}

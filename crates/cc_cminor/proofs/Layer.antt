@@ -1,7 +1,7 @@
 -- Cminor is a layer: outputs grow, a call hands over the output so far and goes on from the answer's. So a run that keeps up with the
 -- source follows it.
 use Rattle.std.proofs.Common.{◌≡◌, ℕ, zero, suc, List, [], ◌∷◌, ◌++◌, Option, Some, None, option_map, refl, sym, ap, subst}
-use Rattle.cc_syntax.specs.Tree.{External}
+use Rattle.cc_ast.specs.Tree.{External}
 use Rattle.cc_runs.specs.Behavior.{IsPrefixOf}
 use Rattle.cc_runs.specs.World.{World, Question, Answer, element, stored}
 use Rattle.cc_runs.specs.Run.{Move, Goes, Calls, Returns, Fails, tried}

@@ -3,7 +3,7 @@ use Rattle.std.proofs.Common.{◌≡◌, ℕ, zero, suc, ◌+◌, ◌/◌, ◌<�
 use Rattle.std.proofs.lemmas.Bool.{ltb-false}
 use Rattle.cc_tokens.specs.declared.scalar.Scalar.{Scalar}
 use Rattle.cc_tokens.specs.declared.scalar.Scalar.TheVariants.{Int}
-use Rattle.cc_syntax.specs.Tree.{Name, Stmts, Signature, ConstantExpr, Object, Single, Array, Bytes, External, Declaration, Definition, Objects}
+use Rattle.cc_ast.specs.Tree.{Name, Stmts, Signature, ConstantExpr, Object, Single, Array, Bytes, External, Declaration, Definition, Objects}
 use Rattle.cc_typing.specs.Scope.{Elements, FileScope, with_declared, with_object, file_scope_behind, first_file_scope}
 use Rattle.cc_typing.specs.Types.{array_length, array_elements, object_elements, object_words, constant_word, elements_of_word, value_type}
 use Rattle.cc_typing.specs.Rules.{broken, broken_if, value_errors, constant_errors, optional_constant_errors, constants_errors, length_errors, named_array_errors, object_errors, objects_errors, external_errors, externals_errors, errors}

@@ -2,7 +2,7 @@
 use Rattle.std.proofs.Common.{◌≡◌, ℕ, suc, ◌+◌, arith, ◌++◌, Bool, true, Option, List, [], ◌∷◌, length, refl, ap, ◌∙◌}
 use Rattle.std.proofs.lemmas.List.{append_assoc}
 use Rattle.cc_tokens.specs.declared.scalar.Scalar.{Scalar}
-use Rattle.cc_syntax.specs.Tree.{Expr, Declarator, Beginning, Action, Stmt, Stmts, next, For}
+use Rattle.cc_ast.specs.Tree.{Expr, Declarator, Beginning, Action, Stmt, Stmts, next, For}
 use Rattle.cc_resolve.specs.Layout.{Layout}
 use Rattle.cc_resolve.specs.Environment.{Environment, inner, with_locals, behind, behind_beginning}
 use Rattle.cc_cminor.specs.Cminor.{Statement, Set, Sequence, Block, Loop, Exit}

@@ -5,10 +5,10 @@ use Rattle.std.proofs.Math.Logic.{∥∥₁_elim}
 use Rattle.std.specs.List.{AllByRecursion}
 use Rattle.cc_tokens.specs.Token.{Lexeme}
 use Rattle.cc_tokens.specs.declared.scalar.Scalar.{Scalar}
-use Rattle.cc_syntax.specs.Tree.{Expr, Action, Declarator, Beginning, Declares, Performs, Stmt, Stmts, end, next, Block, Local, Perform, Return, Break, Continue, If, IfElse, While, DoWhile, For, External, Signature, Declaration, Definition, Objects}
-use Rattle.cc_syntax.specs.Grammar.{Measured, outside, full_after, full, begins, SpellsRow, SpellsInitial, SpellsDeclarator, SpellsLocal, SpellsOptional, SpellsOptionalAction, SpellsBeginning, SpellsStatement, SpellsStatements, SpellsExternal, SpellsExternals, SpellsUnit}
-use Rattle.cc_syntax.specs.Limits.{IsWithin}
-use Rattle.cc_syntax.specs.Parse.{SpellsText}
+use Rattle.cc_ast.specs.Tree.{Expr, Action, Declarator, Beginning, Declares, Performs, Stmt, Stmts, end, next, Block, Local, Perform, Return, Break, Continue, If, IfElse, While, DoWhile, For, External, Signature, Declaration, Definition, Objects}
+use Rattle.cc_ast.specs.Grammar.{Measured, outside, full_after, full, begins, SpellsRow, SpellsInitial, SpellsDeclarator, SpellsLocal, SpellsOptional, SpellsOptionalAction, SpellsBeginning, SpellsStatement, SpellsStatements, SpellsExternal, SpellsExternals, SpellsUnit}
+use Rattle.cc_ast.specs.Limits.{IsWithin}
+use Rattle.cc_ast.specs.Parse.{SpellsText}
 use Rattle.cc_typing.specs.Typed.{definitions}
 use Rattle.cc_cminor.proofs.Tokens.{tokens_or, optional_tokens, expression_long, action_long}
 

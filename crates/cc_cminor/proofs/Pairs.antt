@@ -1,10 +1,10 @@
 -- What a pair keeps, and how small its code is, from what the meaning hands out of a typed unit.
 use Rattle.std.proofs.Common.{◌≡◌, ℕ, ◌+◌, ◌*◌, ◌<◌, ◌≤◌, List, [], length, map, Some, slice_get, refl, sym, ap, subst, ◌∙◌, arith}
 use Rattle.std.proofs.lemmas.List.{length-map}
-use Rattle.cc_syntax.specs.Tree.{Name, External, Definition}
-use Rattle.cc_syntax.specs.Source.{source}
-use Rattle.cc_syntax.specs.Grammar.{SpellsExternal}
-use Rattle.cc_syntax.specs.Parse.{SpellsText}
+use Rattle.cc_ast.specs.Tree.{Name, External, Definition}
+use Rattle.cc_ast.specs.Source.{source}
+use Rattle.cc_ast.specs.Grammar.{SpellsExternal}
+use Rattle.cc_ast.specs.Parse.{SpellsText}
 use Rattle.cc_typing.specs.Limits.{locals, function_names}
 use Rattle.cc_typing.specs.Typed.{IsTyped, IsWithinLimits, defined_names}
 use Rattle.cc_resolve.specs.Layout.{layout_of}

@@ -1,12 +1,12 @@
 -- The trees of calls and blocks, whose parts the code keeps as rows.
 use Rattle.std.proofs.Common.{◌≡◌, refl, ap, rules}
-use Rattle.cc_syntax.specs.Tree as tree
-use Rattle.cc_syntax.specs.Erase.{name_tree, expression_tree, expressions_tree, statement_tree, statements_tree, statements_of}
-use Rattle.cc_syntax.specs.internal.Arguments.{expressions_of}
-use Rattle.cc_syntax.specs.declared.ast.Expression as expression
-use Rattle.cc_syntax.specs.declared.ast.Expression.{Row_of-Expression, end_of-Expression, more_of-Expression, items-the_row-Expression}
-use Rattle.cc_syntax.specs.declared.ast.Statement as statement
-use Rattle.cc_syntax.specs.declared.ast.Statement.{Row_of-Statement, end_of-Statement, more_of-Statement, items-the_row-Statement}
+use Rattle.cc_ast.specs.Tree as tree
+use Rattle.cc_ast.specs.Erase.{name_tree, expression_tree, expressions_tree, statement_tree, statements_tree, statements_of}
+use Rattle.cc_ast.specs.internal.Arguments.{expressions_of}
+use Rattle.cc_ast.specs.declared.ast.Expression as expression
+use Rattle.cc_ast.specs.declared.ast.Expression.{Row_of-Expression, end_of-Expression, more_of-Expression, items-the_row-Expression}
+use Rattle.cc_ast.specs.declared.ast.Statement as statement
+use Rattle.cc_ast.specs.declared.ast.Statement.{Row_of-Statement, end_of-Statement, more_of-Statement, items-the_row-Statement}
 
 expressions_tree-row : (n : _) (row : Row_of-Expression n) → expressions_tree row ≡ expressions_of (items-the_row-Expression n row)
 expressions_tree-row n end_of-Expression = refl

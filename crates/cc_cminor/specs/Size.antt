@@ -1,7 +1,7 @@
 -- How many statements and expressions code has, against the tokens of the definition that it comes from.
 use Rattle.std.specs.Prelude.{◌≡◌, ℕ, suc, ◌+◌, ◌*◌, ◌≤◌, List, [], ◌∷◌, length, Some, slice_get}
-use Rattle.cc_syntax.specs.Tree.{External}
-use Rattle.cc_syntax.specs.Grammar.{Measured, SpellsExternal}
+use Rattle.cc_ast.specs.Tree.{External}
+use Rattle.cc_ast.specs.Grammar.{Measured, SpellsExternal}
 use Rattle.cc_typing.specs.Typed.{definitions}
 use Rattle.cc_cminor.specs.Cminor.{Expression, Constant, Local, Unary, Binary, Load, Statement, Skip, Set, Store, Call, Read, Write, Sequence, If, Loop, Block, Exit, Return}
 

@@ -5,9 +5,9 @@
 // expression.
 
 ghost use Rattle.std.specs.Prelude.{◌≡◌, true, IfOk};
-ghost use Rattle.cc_syntax.specs.Tree as tree;
-ghost use Rattle.cc_syntax.specs.Erase.{expression_tree, name_tree, optional_tree};
-ghost use Rattle.cc_syntax.specs.internal.Arguments.{expressions_of};
+ghost use Rattle.cc_ast.specs.Tree as tree;
+ghost use Rattle.cc_ast.specs.Erase.{expression_tree, name_tree, optional_tree};
+ghost use Rattle.cc_ast.specs.internal.Arguments.{expressions_of};
 ghost use Rattle.cc_typing.specs.Types.{value_type};
 ghost use Rattle.cc_resolve.specs.Environment.{types_in};
 ghost use Rattle.cc_cminor.specs.Cminor as cminor;
@@ -23,8 +23,8 @@ use super::taken::{
     Taken, alone, conditionally, converted, is_strict, joined, operated, put_in, right_from,
     waiting, word,
 };
+use cc_ast::{Expression as Tree, Identifier, Scalar};
 use cc_resolve::{Callee, Environment};
-use cc_syntax::{Expression as Tree, Identifier, Scalar};
 use std::alloc::{AllocError, Global};
 
 // ---- plain expressions

@@ -8,8 +8,8 @@ ghost use Rattle.cc_cminor.specs.internal.Lowering.{single_of, unary_of, operati
 
 use super::boxes::boxed_expression;
 use super::code::Expression;
+use cc_ast::{BinaryOperator, Scalar, UnaryOperator};
 use cc_resolve::{BinaryOperation, UnaryOperation, operation, unary_operation};
-use cc_syntax::{BinaryOperator, Scalar, UnaryOperator};
 use cc_words::{Binary, Unary};
 use std::alloc::{AllocError, Global};
 

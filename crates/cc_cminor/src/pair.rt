@@ -34,7 +34,7 @@ impl Drop for CminorPair {
 impl Model for CminorPair {
     ghost use Rattle.std.specs.Arc.{arc_value};
     ghost use Rattle.std.specs.Coded.{codes};
-    ghost use Rattle.cc_syntax.specs.contracts.unit.Unit as parsed;
+    ghost use Rattle.cc_ast.specs.contracts.unit.Unit as parsed;
     ghost use Rattle.cc_cminor.specs.contracts.code.Statement as written;
     ghost use Rattle.cc_cminor.specs.Pair.{Pair, IsPair};
 

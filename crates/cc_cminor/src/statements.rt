@@ -4,8 +4,8 @@
 // follows its body stand between the two. The recursion is as deep as the tree: at most 64 levels.
 
 ghost use Rattle.std.specs.Prelude.{◌≡◌, ◌≤◌, ◌-◌, ◌∷◌, ◌++◌, true, length, drop, IfOk, OnOk};
-ghost use Rattle.cc_syntax.specs.Tree as tree;
-ghost use Rattle.cc_syntax.specs.Erase.{expression_tree, optional_tree, optional_action, declarator_tree, declarator_trees, beginning_tree, statement_tree, statements_of};
+ghost use Rattle.cc_ast.specs.Tree as tree;
+ghost use Rattle.cc_ast.specs.Erase.{expression_tree, optional_tree, optional_action, declarator_tree, declarator_trees, beginning_tree, statement_tree, statements_of};
 ghost use Rattle.cc_typing.specs.Bindings.{closed};
 ghost use Rattle.cc_resolve.specs.Environment.{inner, behind, behind_beginning, with_local, with_locals};
 ghost use Rattle.cc_cminor.specs.Cminor as cminor;
@@ -19,10 +19,10 @@ use super::boxes::{above, both, boxed_statement, constant, sequence, set};
 use super::code::Statement;
 use super::expressions::{value, value_or};
 use super::taken::{Taken, behind, choice};
-use cc_resolve::{Environment, declare_locals};
-use cc_syntax::{
+use cc_ast::{
     Action, Beginning, Declarator, Expression as Tree, Scalar, Statement as TreeStatement,
 };
+use cc_resolve::{Environment, declare_locals};
 use std::alloc::{AllocError, Global};
 
 // Takes all locals back that were declared since so many were in scope, and leaves the scope for one that had declared so many names.

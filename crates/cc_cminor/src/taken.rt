@@ -16,7 +16,7 @@ use super::boxes::{above, both, constant, local, set};
 use super::code::{Expression, Statement};
 use super::conditions::branch;
 use super::operators::{binary, truth, unary};
-use cc_syntax::{BinaryOperator, Scalar, UnaryOperator};
+use cc_ast::{BinaryOperator, Scalar, UnaryOperator};
 use cc_typing::{binary_type, common_type, unary_type, working_type};
 use std::alloc::{AllocError, Global};
 

@@ -2,7 +2,7 @@
 use Rattle.std.proofs.Common.{◌≡◌, ℕ, zero, suc, ◌+◌, ◌-◌, ◌*◌, ◌≤◌, List, [], ◌∷◌, ◌++◌, true, false, Bool, cond, length, map, get_or, min, nat_lt, refl, sym, ap, ◌∙◌, subst, append_assoc, length-append, arith}
 use Rattle.std.proofs.lemmas.Bool.Decides.{nat_tests}
 use Rattle.cc_words.specs.Widths.{words_of}
-use Rattle.cc_syntax.specs.Tree.{Object, External}
+use Rattle.cc_ast.specs.Tree.{Object, External}
 use Rattle.cc_typing.specs.Types.{object_elements, object_words}
 use Rattle.cc_typing.specs.Limits.{objects, object_name, too_many, most_words, word_excesses, past, most_functions, function_names, externals_excesses}
 use Rattle.cc_typing.specs.Typed.{IsTyped, IsWithinLimits}

@@ -1,8 +1,8 @@
 -- What a piece keeps: the code of one function of a typed unit.
 use Rattle.std.specs.Prelude.{ℕ, ◌<◌, ◌≤◌, List, length}
-use Rattle.cc_syntax.specs.Tree.{External}
-use Rattle.cc_syntax.specs.Source.{source}
-use Rattle.cc_syntax.specs.declared.unit.Unit as parsed
+use Rattle.cc_ast.specs.Tree.{External}
+use Rattle.cc_ast.specs.Source.{source}
+use Rattle.cc_ast.specs.declared.unit.Unit as parsed
 use Rattle.cc_typing.specs.Typed.{IsTyped}
 use Rattle.cc_semantics.specs.Meaning.{functions}
 use Rattle.cc_semantics.specs.Numbered.{IsMeaningOf}

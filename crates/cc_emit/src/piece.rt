@@ -39,7 +39,7 @@ impl Drop for Piece {
 impl Model for Piece {
     ghost use Rattle.std.specs.Arc.{arc_value};
     ghost use Rattle.std.specs.Coded.{codes};
-    ghost use Rattle.cc_syntax.specs.contracts.unit.Unit as parsed;
+    ghost use Rattle.cc_ast.specs.contracts.unit.Unit as parsed;
     ghost use Rattle.cc_emit.specs.Piece.{Piece as Shown, IsPieceOfUnit};
 
     ghost Value = { Shown };

@@ -3,7 +3,7 @@ use Rattle.std.proofs.Common.{◌≡◌, ℕ, List, [], ◌∷◌, Option, Some,
 use Rattle.std.specs.Prelude.{option_map}
 use Rattle.std.proofs.lemmas.List.{append-nil}
 use Rattle.std.proofs.lemmas.Option.{none-some, same_Some}
-use Rattle.cc_syntax.specs.Tree.{External}
+use Rattle.cc_ast.specs.Tree.{External}
 use Rattle.cc_runs.specs.Behavior.{IsPrefixOf}
 use Rattle.cc_runs.specs.World.{World, Question, Answer, element, stored}
 use Rattle.cc_runs.specs.Run.{Move as Moving, Goes, Calls, tried}

@@ -29,7 +29,7 @@ pub struct LinearPair {
 impl Model for LinearPair {
     ghost use Rattle.std.specs.Arc.{arc_value};
     ghost use Rattle.std.specs.Coded.{codes};
-    ghost use Rattle.cc_syntax.specs.contracts.unit.Unit as parsed;
+    ghost use Rattle.cc_ast.specs.contracts.unit.Unit as parsed;
     ghost use Rattle.cc_linear.specs.Pair.{Pair, IsPair};
 
     ghost Value = { Pair };

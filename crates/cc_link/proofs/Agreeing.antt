@@ -1,6 +1,6 @@
 -- An image of the pieces of a unit agrees with the unit's text.
 use Rattle.std.proofs.Common.{◌≡◌, ℕ, ◌<◌, ◌≤◌, List, [], length, get_or, unwrap_or, refl, sym, ap, ◌∙◌, subst}
-use Rattle.cc_syntax.specs.Tree.{External}
+use Rattle.cc_ast.specs.Tree.{External}
 use Rattle.cc_typing.specs.Typed.{IsTyped, IsWithinLimits}
 use Rattle.cc_typing.specs.Limits.{objects}
 use Rattle.cc_typing.specs.Verdict.{source_with}

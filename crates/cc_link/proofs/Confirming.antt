@@ -1,6 +1,6 @@
 -- What is confirmed of a unit that was made again, and is the stored one.
 use Rattle.std.proofs.Common.{◌≡◌, ℕ, List, Option, Some, sym, ap, ◌∙◌, subst}
-use Rattle.cc_syntax.specs.Parse.{SpellsText}
+use Rattle.cc_ast.specs.Parse.{SpellsText}
 use Rattle.cc_rv32.specs.declared.image.Image.{Image}
 use Rattle.cc_unit.specs.declared.unit.StoredUnit.{StoredUnit}
 use Rattle.cc_link.specs.Agree.{Agree}

@@ -11,13 +11,13 @@ use Rattle.cc_tokens.specs.declared.token.TokenKind.TheVariants as kind
 use Rattle.cc_tokens.specs.Constant.{digits_value, type_of_value}
 use Rattle.cc_tokens.specs.Token.{Lexeme}
 use Rattle.cc_tokens.specs.Tokens.{Piece, blank, comment, token, IsCut, SpellsToken, tokens_of, IsTokens}
-use Rattle.cc_syntax.specs.declared.ast.UnaryOperator.{UnaryOperator}
-use Rattle.cc_syntax.specs.declared.ast.UnaryOperator.TheVariants.{Plus, Minus, Complement, Not}
-use Rattle.cc_syntax.specs.declared.ast.BinaryOperator.{BinaryOperator}
-use Rattle.cc_syntax.specs.declared.ast.BinaryOperator.TheVariants.{Multiply, Divide, Remainder, Add, Subtract, ShiftLeft, ShiftRight, Less, Greater, LessOrEqual, GreaterOrEqual, Equal, NotEqual, And, Xor, Or, LogicalAnd, LogicalOr}
-use Rattle.cc_syntax.specs.Tree.{Expr, Number, Variable, Element, Call, Parenthesised, Unary, Cast, Binary, Conditional, ConstantExpr, Object, Single, Array, Bytes, External, Declaration, Definition, Objects}
-use Rattle.cc_syntax.specs.Grammar.{Measured, outside, full_after, identifier, plain_tokens, SpellsExpression, SpellsConstantExpr, SpellsRow, SpellsList, SpellsObject, SpellsByteArray, SpellsExternal, SpellsExternals, SpellsUnit}
-use Rattle.cc_syntax.specs.Parse.{SpellsText}
+use Rattle.cc_ast.specs.declared.ast.UnaryOperator.{UnaryOperator}
+use Rattle.cc_ast.specs.declared.ast.UnaryOperator.TheVariants.{Plus, Minus, Complement, Not}
+use Rattle.cc_ast.specs.declared.ast.BinaryOperator.{BinaryOperator}
+use Rattle.cc_ast.specs.declared.ast.BinaryOperator.TheVariants.{Multiply, Divide, Remainder, Add, Subtract, ShiftLeft, ShiftRight, Less, Greater, LessOrEqual, GreaterOrEqual, Equal, NotEqual, And, Xor, Or, LogicalAnd, LogicalOr}
+use Rattle.cc_ast.specs.Tree.{Expr, Number, Variable, Element, Call, Parenthesised, Unary, Cast, Binary, Conditional, ConstantExpr, Object, Single, Array, Bytes, External, Declaration, Definition, Objects}
+use Rattle.cc_ast.specs.Grammar.{Measured, outside, full_after, identifier, plain_tokens, SpellsExpression, SpellsConstantExpr, SpellsRow, SpellsList, SpellsObject, SpellsByteArray, SpellsExternal, SpellsExternals, SpellsUnit}
+use Rattle.cc_ast.specs.Parse.{SpellsText}
 use Rattle.cc_typing.specs.Operators.{unary_word, binary_word, decided, is_true, working_type}
 use Rattle.cc_typing.specs.Types.{is_constant, decided_or, with_word, value_type, constant_value, array_elements, object_width, initial_word, zeros_behind, initial_words}
 use Rattle.cc_typing.specs.Limits.{objects}

@@ -7,9 +7,9 @@ use Rattle.std.proofs.lemmas.Bool.{lt-ltb, le-ltb}
 use Rattle.std.specs.Prelude.{All}
 use Rattle.std.specs.Option.{option_or}
 use Rattle.cc_tokens.specs.Tokens.{TokensAreOne}
-use Rattle.cc_syntax.specs.Tree.{Name, External, Source, Declaration, Definition, Objects}
-use Rattle.cc_syntax.specs.Limits.{TreesAreOne}
-use Rattle.cc_syntax.specs.Parse.{SpellsText}
+use Rattle.cc_ast.specs.Tree.{Name, External, Source, Declaration, Definition, Objects}
+use Rattle.cc_ast.specs.Limits.{TreesAreOne}
+use Rattle.cc_ast.specs.Parse.{SpellsText}
 use Rattle.cc_typing.specs.Scope.{FileScope, first_file_scope, file_scope_behind}
 use Rattle.cc_typing.specs.Limits.{function_names}
 use Rattle.cc_typing.specs.Typed.{IsTyped, IsWithinLimits, defined_names}

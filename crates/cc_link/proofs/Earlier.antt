@@ -4,7 +4,7 @@ use Rattle.std.proofs.Common.{◌≡◌, ℕ, List, sym, ap, ◌∙◌, subst}
 use Rattle.std.proofs.Math.Logic.{∥∥₁_map}
 use Rattle.cc_rv32.specs.declared.image.Image.{Image}
 use Rattle.cc_tokens.specs.Tokens.{TokensAreOne}
-use Rattle.cc_syntax.specs.Tree.{External}
+use Rattle.cc_ast.specs.Tree.{External}
 use Rattle.cc_typing.specs.Verdict.{source_with}
 use Rattle.cc_semantics.specs.Numbered.{without_cause}
 use Rattle.cc_semantics.specs.Earlier.{HasNoChar, ArePlain, EarlierText, EarlierTreesStay, NoTreeIsNew, EarlierRulesStay, EarlierMeaningStays}

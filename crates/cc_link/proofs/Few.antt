@@ -1,7 +1,7 @@
 -- A unit within the limits defines few functions.
 use Rattle.std.proofs.Common.{◌≡◌, ℕ, zero, suc, ◌≤◌, List, [], ◌∷◌, ◌++◌, length, ap, arith, length-append}
 use Rattle.std.proofs.lemmas.List.{length-map}
-use Rattle.cc_syntax.specs.Tree.{Name, Source}
+use Rattle.cc_ast.specs.Tree.{Name, Source}
 use Rattle.cc_typing.specs.Limits.{most_functions, past, externals_excesses, function_names, objects, word_excesses}
 use Rattle.cc_typing.specs.Typed.{IsWithinLimits, defined_names}
 

@@ -9,10 +9,10 @@ use Rattle.std.specs.List.{AllByRecursion}
 use Rattle.std.specs.Option.{option_or}
 use Rattle.std.specs.Cmp.Lexicographic.{same_text}
 use Rattle.cc_tokens.specs.Tokens.{TokensAreOne}
-use Rattle.cc_syntax.specs.Tree.{External}
-use Rattle.cc_syntax.specs.Source.{source}
-use Rattle.cc_syntax.specs.Limits.{TreesAreOne}
-use Rattle.cc_syntax.specs.Parse.{SpellsText}
+use Rattle.cc_ast.specs.Tree.{External}
+use Rattle.cc_ast.specs.Source.{source}
+use Rattle.cc_ast.specs.Limits.{TreesAreOne}
+use Rattle.cc_ast.specs.Parse.{SpellsText}
 use Rattle.cc_typing.specs.Limits.{objects}
 use Rattle.cc_link.proofs.Sizes.{AllKept}
 use Rattle.cc_semantics.specs.Meaning.{functions}

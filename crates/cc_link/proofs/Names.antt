@@ -1,7 +1,7 @@
 -- The names of the functions that a unit defines.
 use Rattle.std.proofs.Common.{◌≡◌, ℕ, zero, suc, List, [], ◌∷◌, slice_get, Some, ap}
-use Rattle.cc_syntax.specs.Tree as tree
-use Rattle.cc_syntax.specs.Tree.{Declaration, Definition, Objects}
+use Rattle.cc_ast.specs.Tree as tree
+use Rattle.cc_ast.specs.Tree.{Declaration, Definition, Objects}
 use Rattle.cc_typing.specs.Limits.{function_names}
 use Rattle.cc_typing.specs.Typed.{definitions}
 

@@ -2,7 +2,7 @@
 use Rattle.std.proofs.Common.{◌≡◌, ℕ, zero, suc, ◌+◌, ◌≤◌, Bool, true, false, if◌then◌else◌, nat_lt, List, [], ◌∷◌, ◌++◌, length, map, refl, ap, ◌∙◌, arith}
 use Rattle.std.proofs.lemmas.Bool.{ltb-false}
 use Rattle.cc_words.specs.Widths.{words_of}
-use Rattle.cc_syntax.specs.Tree.{Object, External}
+use Rattle.cc_ast.specs.Tree.{Object, External}
 use Rattle.cc_typing.specs.Types.{object_elements, object_width, object_words, initial_words}
 use Rattle.cc_typing.specs.Limits.{most_words, too_many, past, function_names, objects, object_name, word_excesses, externals_excesses}
 use Rattle.cc_typing.specs.Typed.{IsTyped, IsWithinLimits}

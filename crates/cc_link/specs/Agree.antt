@@ -5,8 +5,8 @@ use Rattle.cc_rv32.specs.declared.image.Image.{Image}
 use Rattle.cc_rv32.specs.declared.outcome.MachineOutcome.{MachineOutcome}
 use Rattle.cc_rv32.specs.declared.outcome.MachineOutcome.TheVariants as machine
 use Rattle.cc_rv32.specs.Machine.{Behavior, machine_behavior}
-use Rattle.cc_syntax.specs.Tree.{External, Source}
-use Rattle.cc_syntax.specs.Parse.{SpellsText}
+use Rattle.cc_ast.specs.Tree.{External, Source}
+use Rattle.cc_ast.specs.Parse.{SpellsText}
 use Rattle.cc_typing.specs.Typed.{IsTyped}
 use Rattle.cc_typing.specs.Verdict.{source_with}
 use Rattle.cc_semantics.specs.Meaning.{source_behavior}

@@ -1,7 +1,7 @@
 -- What an audit says of a text, an image and a certificate, whoever made them.
 use Rattle.std.specs.Prelude.{◌≡◌, ℕ, List, length, Option, Some, None}
-use Rattle.cc_syntax.specs.Tree.{External}
-use Rattle.cc_syntax.specs.Parse.{SpellsText}
+use Rattle.cc_ast.specs.Tree.{External}
+use Rattle.cc_ast.specs.Parse.{SpellsText}
 use Rattle.cc_semantics.specs.Meaning.{functions}
 use Rattle.cc_rv32.specs.declared.image.Image.{Image}
 use Rattle.cc_link.specs.Agree.{Agree}

@@ -4,7 +4,7 @@ use Rattle.std.specs.Prelude.{ℕ, ◌≡◌, ◌<◌, ◌^◌, List, ◌++◌, 
 use Rattle.std.specs.List.{AllByRecursion, flat_map}
 use Rattle.cc_ltl.specs.Ltl.{Ltl, IsLtl}
 use Rattle.cc_ltl.specs.Bytes.{word_bytes, ltl_bytes}
-use Rattle.cc_syntax.specs.Tree.{External}
+use Rattle.cc_ast.specs.Tree.{External}
 use Rattle.cc_validate.specs.Pair.{KeepsUp}
 
 -- how many bytes the LTL of a function takes, and these

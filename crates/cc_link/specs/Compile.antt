@@ -2,10 +2,10 @@
 use Rattle.std.specs.Prelude.{◌≡◌, ℕ, ◌<◌, ◌⊎◌, List, length, slice_get, All, Option, Some, None, Err}
 use Rattle.cc_tokens.specs.declared.place.Place.{Place}
 use Rattle.cc_tokens.specs.Fault as tokens
-use Rattle.cc_syntax.specs.Tree.{Name, External}
-use Rattle.cc_syntax.specs.Source.{source}
-use Rattle.cc_syntax.specs.Grammar.{Measured, SpellsExternal}
-use Rattle.cc_syntax.specs.Parse.{SpellsText, IsParseRefusal}
+use Rattle.cc_ast.specs.Tree.{Name, External}
+use Rattle.cc_ast.specs.Source.{source}
+use Rattle.cc_ast.specs.Grammar.{Measured, SpellsExternal}
+use Rattle.cc_ast.specs.Parse.{SpellsText, IsParseRefusal}
 use Rattle.cc_typing.specs.declared.fault.TypeFault.{TypeFault}
 use Rattle.cc_typing.specs.declared.fault.TypeFault.TheVariants as typing
 use Rattle.cc_typing.specs.Fault as typed

@@ -6,8 +6,8 @@ use Rattle.std.specs.Prelude.{◌≡◌, ℕ, true, List, []}
 use Rattle.cc_rv32.specs.declared.image.Image.{Image}
 use Rattle.cc_tokens.specs.Token.{Lexeme}
 use Rattle.cc_tokens.specs.Tokens.{IsTokens}
-use Rattle.cc_syntax.specs.Tree.{External, Source}
-use Rattle.cc_syntax.specs.Parse.{SpellsText}
+use Rattle.cc_ast.specs.Tree.{External, Source}
+use Rattle.cc_ast.specs.Parse.{SpellsText}
 use Rattle.cc_typing.specs.Scope.{first_file_scope}
 use Rattle.cc_typing.specs.Rules.{defines_main, undefined_calls}
 use Rattle.cc_typing.specs.Checked.{IsChecked}

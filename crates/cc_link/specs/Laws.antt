@@ -1,7 +1,7 @@
 -- What linking promises of definitions alone, each the contract of a function of this crate.
 use Rattle.std.specs.Prelude.{◌≡◌, ℕ, List, All, Some, Ok, length}
-use Rattle.cc_syntax.specs.Tree.{External, Source}
-use Rattle.cc_syntax.specs.Parse.{SpellsText}
+use Rattle.cc_ast.specs.Tree.{External, Source}
+use Rattle.cc_ast.specs.Parse.{SpellsText}
 use Rattle.cc_typing.specs.Checked.{IsChecked}
 use Rattle.cc_semantics.specs.Meaning.{functions}
 use Rattle.cc_unit.specs.declared.unit.StoredUnit.{StoredUnit}

@@ -3,8 +3,8 @@ use Rattle.std.specs.Borrow.{Bor}
 use Rattle.std.specs.Prelude.{ℕ, zero, suc, map, ◌==◌, nat_eq, nat_lt, Bool, false, ◌||◌, if◌then◌else◌, List, [], ◌∷◌, ◌++◌, length, Option, Some, None, is_some, Result, Ok, Err}
 use Rattle.std.specs.Option.{option_or}
 use Rattle.std.specs.Cmp.Lexicographic.{pointwise}
-use Rattle.cc_syntax.specs.Tree.{External, Source}
-use Rattle.cc_syntax.specs.Source.{source}
+use Rattle.cc_ast.specs.Tree.{External, Source}
+use Rattle.cc_ast.specs.Source.{source}
 use Rattle.cc_typing.specs.Limits.{objects}
 use Rattle.cc_link.specs.Packed.{image_words}
 use Rattle.cc_semantics.specs.Meaning.{functions}

@@ -1,8 +1,8 @@
 -- What a compiled unit was made of.
 use Rattle.std.specs.Prelude.{◌≡◌, List, All, Ok}
-use Rattle.cc_syntax.specs.Tree.{Source}
-use Rattle.cc_syntax.specs.Source.{source}
-use Rattle.cc_syntax.specs.Parse.{SpellsText}
+use Rattle.cc_ast.specs.Tree.{Source}
+use Rattle.cc_ast.specs.Source.{source}
+use Rattle.cc_ast.specs.Parse.{SpellsText}
 use Rattle.cc_typing.specs.Checked.{IsChecked}
 use Rattle.cc_unit.specs.declared.unit.StoredUnit.{StoredUnit}
 use Rattle.cc_emit.specs.Piece.{Piece, IsPieceOfUnit}

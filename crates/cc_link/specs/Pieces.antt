@@ -1,6 +1,6 @@
 -- Whose pieces some pieces are.
 use Rattle.std.specs.Prelude.{ℕ, List, [], ◌∷◌, ◌≡◌, suc}
-use Rattle.cc_syntax.specs.Source.{source}
+use Rattle.cc_ast.specs.Source.{source}
 use Rattle.cc_emit.specs.Piece.{Piece}
 
 -- pieces of a text, one of each function from this one on

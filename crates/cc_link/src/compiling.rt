@@ -2,9 +2,9 @@
 
 ghost use Rattle.std.specs.Prelude.{◌≡◌, ◌<◌, ℕ, List, length, All, IfOk, IfErr};
 ghost use Rattle.std.specs.Arc.{arc_value};
-ghost use Rattle.cc_syntax.specs.Source.{source};
-ghost use Rattle.cc_syntax.specs.Tree.{External};
-ghost use Rattle.cc_syntax.specs.Parse.{SpellsText};
+ghost use Rattle.cc_ast.specs.Source.{source};
+ghost use Rattle.cc_ast.specs.Tree.{External};
+ghost use Rattle.cc_ast.specs.Parse.{SpellsText};
 ghost use Rattle.cc_semantics.specs.Meaning.{functions};
 ghost use Rattle.cc_link.specs.Agree.{Agree};
 ghost use Rattle.cc_link.specs.Compile.{IsProgramText, IsPieceRefusal, IsBuildRefusal, HasPiece};

@@ -1,7 +1,7 @@
 //! What holds of linking by its definition alone, and the laws of lower crates that it rests on.
 
 ghost use Rattle.cc_tokens.specs.Tokens.{TokensAreOne};
-ghost use Rattle.cc_syntax.specs.Limits.{TreesAreOne};
+ghost use Rattle.cc_ast.specs.Limits.{TreesAreOne};
 ghost use Rattle.cc_semantics.specs.Calls.{ObjectsAreSized, TypedUnitsHaveMain};
 ghost use Rattle.cc_semantics.specs.Numbered.{ProgramsAreNumbered, TypedUnitsHaveMeanings};
 ghost use Rattle.cc_link.specs.Earlier.{EarlierImagesAgree, EarlierProgramsStay, EarlierUnitsStay, NoAgreementIsNew};

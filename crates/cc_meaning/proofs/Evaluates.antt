@@ -1,6 +1,6 @@
 -- The instructions of each expression push its value: by recursion on the tree. What a call does is handed in.
 use Rattle.std.proofs.Common.{◌≡◌, ℕ, ◌+◌, ◌<◌, List, [], ◌∷◌, ◌++◌, length, reverse, refl, sym, subst, arith, length-append}
-use Rattle.cc_syntax.specs.Tree.{Name, Expr, Exprs, none, more, Number, Variable, Element, Call, Parenthesised, Unary, Cast, Binary, Conditional}
+use Rattle.cc_ast.specs.Tree.{Name, Expr, Exprs, none, more, Number, Variable, Element, Call, Parenthesised, Unary, Cast, Binary, Conditional}
 use Rattle.cc_typing.specs.Operators.{working_type, unary_word}
 use Rattle.cc_typing.specs.Scope.{found}
 use Rattle.cc_typing.specs.Types.{value_type}

@@ -4,10 +4,10 @@ use Rattle.std.proofs.lemmas.Bool.Decides.{leb_tells}
 use Rattle.std.proofs.Math.Dec.{eqb-suc-zero}
 use Rattle.cc_words.specs.Words.{truth_value}
 use Rattle.cc_tokens.specs.declared.scalar.Scalar.{Scalar}
-use Rattle.cc_syntax.specs.declared.ast.UnaryOperator.{UnaryOperator}
-use Rattle.cc_syntax.specs.declared.ast.UnaryOperator.TheVariants as unary
-use Rattle.cc_syntax.specs.declared.ast.BinaryOperator.{BinaryOperator}
-use Rattle.cc_syntax.specs.declared.ast.BinaryOperator.TheVariants.{LogicalAnd, LogicalOr}
+use Rattle.cc_ast.specs.declared.ast.UnaryOperator.{UnaryOperator}
+use Rattle.cc_ast.specs.declared.ast.UnaryOperator.TheVariants as unary
+use Rattle.cc_ast.specs.declared.ast.BinaryOperator.{BinaryOperator}
+use Rattle.cc_ast.specs.declared.ast.BinaryOperator.TheVariants.{LogicalAnd, LogicalOr}
 use Rattle.cc_typing.specs.Operators.{unary_word, binary_word, decided, is_true}
 use Rattle.cc_resolve.specs.declared.layout.Extent.{Extent}
 use Rattle.cc_resolve.specs.declared.operations.BinaryOperation.{BinaryOperation}

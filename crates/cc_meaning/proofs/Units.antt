@@ -1,7 +1,7 @@
 -- The resolved form of a typed unit means the unit.
 use Rattle.std.proofs.Common.{◌≡◌, ℕ, zero, suc, ◌+◌, Bool, true, false, true≢false, ◌||◌, if◌then◌else◌, List, [], ◌∷◌, ◌++◌, length, map, replicate, Some, slice_get, codes, refl, sym, ap, ◌∙◌, subst, arith, length-append, append_assoc}
 use Rattle.std.proofs.lemmas.List.{nil_from_length}
-use Rattle.cc_syntax.specs.Tree.{Object, External, Declaration, Definition, Objects}
+use Rattle.cc_ast.specs.Tree.{Object, External, Declaration, Definition, Objects}
 use Rattle.cc_typing.specs.Names.{same_name}
 use Rattle.cc_typing.specs.Scope.{FileScope, has_name, first_file_scope, with_objects, file_scope_behind, file_scope_behind_all, body_scope}
 use Rattle.cc_typing.specs.Types.{object_elements, object_width, initial_words}

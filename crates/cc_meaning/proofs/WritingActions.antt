@@ -1,6 +1,6 @@
 -- An assignment: the index of what is written, the right side, and the write, which stands after both.
 use Rattle.std.proofs.Common.{◌≡◌, ℕ, ◌+◌, ◌-◌, List, [], ◌∷◌, ◌++◌, length, set, Option, Result, Ok, Err, OnOk, refl, sym, ap, ◌∙◌, append_assoc}
-use Rattle.cc_syntax.specs.Tree.{Target, AtVariable, AtElement}
+use Rattle.cc_ast.specs.Tree.{Target, AtVariable, AtElement}
 use Rattle.cc_resolve.specs.Environment.{Environment}
 use Rattle.cc_meaning.specs.internal.Form.{assignment_code}
 use Rattle.cc_meaning.specs.internal.Emitted.{index_code, write_of}

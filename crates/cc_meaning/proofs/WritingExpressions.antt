@@ -1,10 +1,10 @@
 -- Instructions that are written before others.
 use Rattle.std.proofs.Common.{◌≡◌, ℕ, ◌+◌, ◌-◌, ◌≤◌, List, [], ◌∷◌, ◌++◌, length, set, refl, sym, ap, ◌∙◌, append_assoc, length-append, arith}
 use Rattle.std.proofs.lemmas.List.{set-append_right}
-use Rattle.cc_syntax.specs.declared.ast.BinaryOperator.{BinaryOperator}
-use Rattle.cc_syntax.specs.declared.ast.BinaryOperator.TheVariants as source
-use Rattle.cc_syntax.specs.Tree as tree
-use Rattle.cc_syntax.specs.Tree.{Name, Expr, Exprs}
+use Rattle.cc_ast.specs.declared.ast.BinaryOperator.{BinaryOperator}
+use Rattle.cc_ast.specs.declared.ast.BinaryOperator.TheVariants as source
+use Rattle.cc_ast.specs.Tree as tree
+use Rattle.cc_ast.specs.Tree.{Name, Expr, Exprs}
 use Rattle.cc_resolve.specs.Environment.{Environment}
 use Rattle.cc_meaning.specs.internal.Form.{call_of, joined, expression_code, arguments_code}
 use Rattle.cc_meaning.specs.internal.Emitted.{short_cut, some_code, operated}

@@ -2,11 +2,11 @@
 -- after each of its members is there when the member is written.
 use Rattle.std.proofs.Common.{◌≡◌, ℕ, ◌+◌, ◌-◌, ◌≤◌, List, [], ◌∷◌, ◌++◌, length, length-append, reverse, set, refl, sym, ap, ◌∙◌, append_assoc, arith}
 use Rattle.std.proofs.lemmas.List.{set-append_right}
-use Rattle.cc_syntax.specs.Erase.{optional_tree, declarator_trees, statement_tree, statements_of}
-use Rattle.cc_syntax.specs.Tree as tree
+use Rattle.cc_ast.specs.Erase.{optional_tree, declarator_trees, statement_tree, statements_of}
+use Rattle.cc_ast.specs.Tree as tree
 use Rattle.cc_tokens.specs.declared.scalar.Scalar.{Scalar}
-use Rattle.cc_syntax.specs.declared.ast.Declarator.{Declarator}
-use Rattle.cc_syntax.specs.declared.ast.Statement.{Statement}
+use Rattle.cc_ast.specs.declared.ast.Declarator.{Declarator}
+use Rattle.cc_ast.specs.declared.ast.Statement.{Statement}
 use Rattle.cc_meaning.specs.internal.Writing.{exits_of}
 use Rattle.cc_meaning.specs.internal.Form as code
 use Rattle.cc_resolve.specs.Environment.{Environment, with_local, with_locals, behind}

@@ -2,7 +2,7 @@
 use Rattle.std.proofs.Common.{◌≡◌, ℕ, ◌+◌, List, [], ◌∷◌, ◌++◌, length, length-append, append_assoc, refl, sym, ap, ◌∙◌, arith}
 use Rattle.std.proofs.lemmas.List.{append-nil}
 use Rattle.std.specs.Prelude.{codes}
-use Rattle.cc_syntax.specs.Tree.{Signature, External, Declaration, Definition, Objects}
+use Rattle.cc_ast.specs.Tree.{Signature, External, Declaration, Definition, Objects}
 use Rattle.cc_typing.specs.Bindings.{file_level, file_of}
 use Rattle.cc_typing.specs.Limits.{objects, locals}
 use Rattle.cc_typing.specs.Scope.{FileScope, first_file_scope, with_function, file_scope_behind}

@@ -3,19 +3,19 @@ use denote.Param.Send.{IsSend, IsSync, sendable, recorded_send, recorded_sync, v
 use denote.Struct.Declared.{shape}
 use denote.Enum.Declared.{shape as enum_shape}
 use Rattle.std.proofs.Crossing.{crosses, Arc-send, Vec-send, Vec-sync, Box-send, Box-sync}
-use Rattle.cc_syntax.proofs.ast.Expression.TheLaws.TheKnot.{send-Expression, sync-Expression}
-use Rattle.cc_syntax.proofs.ast.Statement.TheLaws.TheKnot.{send-Statement, sync-Statement}
-use Rattle.cc_syntax.specs.contracts.ast.Identifier as Identifier
-use Rattle.cc_syntax.specs.contracts.ast.Expression as Expression
-use Rattle.cc_syntax.specs.contracts.ast.Declarator as Declarator
-use Rattle.cc_syntax.specs.contracts.ast.Target as Target
-use Rattle.cc_syntax.specs.contracts.ast.Action as Action
-use Rattle.cc_syntax.specs.contracts.ast.Beginning as Beginning
-use Rattle.cc_syntax.specs.contracts.ast.Statement as Statement
-use Rattle.cc_syntax.specs.contracts.ast.Signature as Signature
-use Rattle.cc_syntax.specs.contracts.ast.Object as Object
-use Rattle.cc_syntax.specs.contracts.ast.External as External
-use Rattle.cc_syntax.specs.contracts.unit.Unit as Unit
+use Rattle.cc_ast.proofs.ast.Expression.TheLaws.TheKnot.{send-Expression, sync-Expression}
+use Rattle.cc_ast.proofs.ast.Statement.TheLaws.TheKnot.{send-Statement, sync-Statement}
+use Rattle.cc_ast.specs.contracts.ast.Identifier as Identifier
+use Rattle.cc_ast.specs.contracts.ast.Expression as Expression
+use Rattle.cc_ast.specs.contracts.ast.Declarator as Declarator
+use Rattle.cc_ast.specs.contracts.ast.Target as Target
+use Rattle.cc_ast.specs.contracts.ast.Action as Action
+use Rattle.cc_ast.specs.contracts.ast.Beginning as Beginning
+use Rattle.cc_ast.specs.contracts.ast.Statement as Statement
+use Rattle.cc_ast.specs.contracts.ast.Signature as Signature
+use Rattle.cc_ast.specs.contracts.ast.Object as Object
+use Rattle.cc_ast.specs.contracts.ast.External as External
+use Rattle.cc_ast.specs.contracts.unit.Unit as Unit
 use Rattle.cc_typing.specs.contracts.typed.TypedUnit as TypedUnit
 use Rattle.cc_typing.specs.contracts.typed.TypedUnit.TheInside as inside
 use Rattle.cc_ltl.specs.contracts.location.Register as Register

@@ -1,8 +1,8 @@
 -- A refusal names a function of a program's text: what `compile_function` says over the tree of a checked unit holds of its text.
 use Rattle.std.proofs.Common.{◌≡◌, ℕ, suc, ◌<◌, List, [], ◌∷◌, length, map, refl, ap, subst}
 use Rattle.std.proofs.Math.Logic.{∥∥₁_map}
-use Rattle.cc_syntax.specs.Tree.{Name, External, Source, Declaration, Definition, Objects}
-use Rattle.cc_syntax.specs.Parse.{SpellsText}
+use Rattle.cc_ast.specs.Tree.{Name, External, Source, Declaration, Definition, Objects}
+use Rattle.cc_ast.specs.Parse.{SpellsText}
 use Rattle.cc_typing.specs.Scope.{FileScope, first_file_scope, file_scope_behind}
 use Rattle.cc_typing.specs.Limits.{function_names}
 use Rattle.cc_typing.specs.Typed.{IsTyped, IsWithinLimits, defined_names}

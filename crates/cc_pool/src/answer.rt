@@ -2,7 +2,7 @@
 
 ghost use Rattle.std.specs.Prelude.{◌≡◌, ◌≢◌, ◌<◌, length, IfSome};
 ghost use Rattle.std.specs.Arc.{arc_value};
-ghost use Rattle.cc_syntax.specs.Source.{source};
+ghost use Rattle.cc_ast.specs.Source.{source};
 ghost use Rattle.cc_typing.specs.Typed.{defined_names};
 ghost use Rattle.cc_link.specs.Compile.{IsPieceRefusal};
 ghost use Rattle.cc_link.specs.declared.piece_fault.PieceFault.TheVariants.{OutOfMemory};
@@ -42,7 +42,7 @@ impl Drop for Refusal {
 
 impl Model for Refusal {
     ghost use Rattle.std.specs.Arc.{arc_value};
-    ghost use Rattle.cc_syntax.specs.Source.{source};
+    ghost use Rattle.cc_ast.specs.Source.{source};
     ghost use Rattle.cc_pool.specs.Fault.{IsRefusedAt};
     ghost use Rattle.cc_pool.specs.Answers.{FunctionRefusal};
 

@@ -2,7 +2,7 @@
 
 ghost use Rattle.std.specs.Prelude.{◌≡◌, ◌<◌, IfOk, length};
 ghost use Rattle.std.specs.Arc.{arc_value};
-ghost use Rattle.cc_syntax.specs.Source.{source};
+ghost use Rattle.cc_ast.specs.Source.{source};
 ghost use Rattle.cc_typing.specs.Typed.{defined_names};
 ghost use Rattle.cc_typing.specs.Limits.{most_functions};
 
@@ -33,7 +33,7 @@ pub struct Order {
 impl Model for Order {
     ghost use Rattle.std.specs.Prelude.{◌<◌, length};
     ghost use Rattle.std.specs.Arc.{arc_value};
-    ghost use Rattle.cc_syntax.specs.Source.{source};
+    ghost use Rattle.cc_ast.specs.Source.{source};
     ghost use Rattle.cc_typing.specs.Typed.{defined_names};
     ghost use Rattle.cc_typing.specs.Limits.{most_functions};
     ghost use Rattle.cc_pool.specs.Job.{Task};

@@ -2,7 +2,7 @@
 
 ghost use Rattle.std.specs.Prelude.{◌≡◌, length, All, IfOk, IfErr};
 ghost use Rattle.std.specs.Arc.{arc_value};
-ghost use Rattle.cc_syntax.specs.Source.{source};
+ghost use Rattle.cc_ast.specs.Source.{source};
 ghost use Rattle.cc_typing.specs.Typed.{defined_names};
 ghost use Rattle.cc_link.specs.Made.{IsCompiled};
 ghost use Rattle.cc_link.specs.Pieces.{AreFrom};
@@ -39,7 +39,7 @@ impl Drop for Ticket {
 impl Model for Ticket {
     ghost use Rattle.std.specs.Prelude.{length};
     ghost use Rattle.std.specs.Arc.{arc_value};
-    ghost use Rattle.cc_syntax.specs.Source.{source};
+    ghost use Rattle.cc_ast.specs.Source.{source};
     ghost use Rattle.cc_typing.specs.Typed.{defined_names};
     ghost use Rattle.cc_pool.specs.Job.{Job};
 

@@ -1,8 +1,8 @@
 -- A text's program: what `parse` and `check` say of a unit, said of the text.
 use Rattle.std.proofs.Common.{◌≡◌, ℕ, List, sym, subst}
-use Rattle.cc_syntax.specs.declared.unit.Unit.{Unit}
-use Rattle.cc_syntax.specs.Source.{source}
-use Rattle.cc_syntax.specs.Parse.{SpellsText}
+use Rattle.cc_ast.specs.declared.unit.Unit.{Unit}
+use Rattle.cc_ast.specs.Source.{source}
+use Rattle.cc_ast.specs.Parse.{SpellsText}
 use Rattle.cc_typing.specs.Typed.{IsTyped, IsWithinLimits}
 use Rattle.cc_program.specs.Answer.{IsProgram}
 

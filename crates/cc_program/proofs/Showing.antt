@@ -1,6 +1,6 @@
 -- Why stages are not shown: what `stages` says of a text's unit, said of the text.
 use Rattle.std.proofs.Common.{◌≡◌, ℕ, List, Option, Some, None, MatchOption, refl}
-use Rattle.cc_syntax.specs.Tree.{Source}
+use Rattle.cc_ast.specs.Tree.{Source}
 use Rattle.cc_stages.specs.Named.{IsDefined}
 use Rattle.cc_stages.specs.declared.fault.StagesFault.{StagesFault}
 use Rattle.cc_stages.specs.declared.fault.StagesFault.TheVariants as stages

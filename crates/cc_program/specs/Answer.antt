@@ -1,7 +1,7 @@
 -- What the program answers of a text.
 use Rattle.std.specs.Prelude.{ℕ, ◌≡◌, ◌⊎◌, List}
-use Rattle.cc_syntax.specs.Tree.{Source}
-use Rattle.cc_syntax.specs.Parse.{SpellsText, IsParseRefusal}
+use Rattle.cc_ast.specs.Tree.{Source}
+use Rattle.cc_ast.specs.Parse.{SpellsText, IsParseRefusal}
 use Rattle.cc_typing.specs.Typed.{IsTyped, IsWithinLimits, IsTypeRefusal}
 use Rattle.cc_typing.specs.declared.fault.TypeFault.{TypeFault}
 use Rattle.cc_typing.specs.declared.fault.TypeFault.TheVariants as type_fault

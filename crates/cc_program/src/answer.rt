@@ -1,7 +1,7 @@
 // The answer to a task for a text.
 
 ghost use Rattle.std.specs.Prelude.{◌≡◌, IfOk, IfErr};
-ghost use Rattle.cc_syntax.specs.Source.{source};
+ghost use Rattle.cc_ast.specs.Source.{source};
 ghost use Rattle.cc_link.specs.Agree.{Agree};
 ghost use Rattle.cc_program.specs.Answer.{IsProgram, IsAccepted, IsRan, IsRunOf, IsExecuted, IsListed, IsImage, Answers, IsRefused};
 

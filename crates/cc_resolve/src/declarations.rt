@@ -1,11 +1,11 @@
 // The names that declarations of locals bring into scope.
 
 ghost use Rattle.std.specs.Prelude.{◌≡◌, OnOk};
-ghost use Rattle.cc_syntax.specs.Erase.{declarator_trees, beginning_tree, statement_tree};
+ghost use Rattle.cc_ast.specs.Erase.{declarator_trees, beginning_tree, statement_tree};
 ghost use Rattle.cc_resolve.specs.Environment.{with_locals, behind, behind_beginning};
 
 use super::environment::Environment;
-use cc_syntax::{Beginning, Declarator, Scalar, Statement};
+use cc_ast::{Beginning, Declarator, Scalar, Statement};
 use std::alloc::AllocError;
 
 /// Brings the names of a declaration into scope.

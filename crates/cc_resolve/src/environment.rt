@@ -1,7 +1,7 @@
 // Where a statement stands: the names in scope with their types, the numbers of the locals in scope, and file scope.
 
 ghost use Rattle.std.specs.Prelude.{◌≡◌, ◌≤◌, [], ◌∷◌, length, drop, None, Some, IfOk, OnOk};
-ghost use Rattle.cc_syntax.specs.Erase.{parameter_tree};
+ghost use Rattle.cc_ast.specs.Erase.{parameter_tree};
 ghost use Rattle.cc_typing.specs.Scope.{parameter_declared, with_declared, first_file_scope, found};
 ghost use Rattle.cc_typing.specs.Entities.{entity_of};
 ghost use Rattle.cc_typing.specs.Bindings.{closed, file_level};
@@ -10,7 +10,7 @@ ghost use Rattle.cc_resolve.specs.Environment.{inner, number_in, with_local, typ
 ghost use Rattle.cc_resolve.specs.Layout.{callee, extent_of, object_number};
 
 use super::layout::{Callee, Extent, Layout};
-use cc_syntax::{Parameter, Scalar};
+use cc_ast::{Parameter, Scalar};
 use cc_typing::{Bindings, Entity, Scope};
 use std::alloc::{AllocError, Global};
 use std::marker::Model;

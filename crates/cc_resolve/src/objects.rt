@@ -1,8 +1,8 @@
 // The objects at file scope: their words before the run, where these are, and the objects' names.
 
 ghost use Rattle.std.specs.Prelude.{◌≡◌, ◌≤◌, ◌+◌, ◌%◌, ◌^◌, [], ◌∷◌, ◌++◌, Some, length, map, replicate, OnOk, IfOk};
-ghost use Rattle.cc_syntax.specs.Erase.{constant_tree, constant_trees, optional_constant, object_tree, object_trees};
-ghost use Rattle.cc_syntax.specs.Tree as tree;
+ghost use Rattle.cc_ast.specs.Erase.{constant_tree, constant_trees, optional_constant, object_tree, object_trees};
+ghost use Rattle.cc_ast.specs.Tree as tree;
 ghost use Rattle.cc_typing.specs.Bindings.{file_level, file_of};
 ghost use Rattle.cc_typing.specs.Limits.{object_name};
 ghost use Rattle.cc_resolve.specs.Layout.{laid_from, all_words};
@@ -12,7 +12,7 @@ ghost use Rattle.cc_typing.specs.Types.{initial_word, initial_words, object_elem
 
 use super::environment::Environment;
 use super::layout::{Extent, Layout};
-use cc_syntax::{ConstantExpression, Object, Scalar};
+use cc_ast::{ConstantExpression, Object, Scalar};
 use cc_typing::{Entity, array_length, constant_word, object_elements};
 use cc_words::Width;
 use std::alloc::AllocError;

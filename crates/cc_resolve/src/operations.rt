@@ -3,7 +3,7 @@
 ghost use Rattle.std.specs.Prelude.{◌≡◌};
 ghost use Rattle.cc_resolve.specs.Operations.{by_type, operation, unary_operation};
 
-use cc_syntax::{BinaryOperator, Scalar, UnaryOperator};
+use cc_ast::{BinaryOperator, Scalar, UnaryOperator};
 
 /// An operation on one word.
 #[derive(Clone, Copy)]

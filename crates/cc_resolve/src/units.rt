@@ -1,9 +1,9 @@
 // The functions and the objects of a unit: where they are, and the names that they bring into scope.
 
 ghost use Rattle.std.specs.Prelude.{◌≡◌, ◌<◌, ◌≤◌, [], ◌++◌, Some, length, slice_get, OnOk, IfOk};
-ghost use Rattle.cc_syntax.specs.Erase.{parameter_trees, signature_tree, external_tree, external_trees};
-ghost use Rattle.cc_syntax.specs.Source.{source};
-ghost use Rattle.cc_syntax.specs.Tree as tree;
+ghost use Rattle.cc_ast.specs.Erase.{parameter_trees, signature_tree, external_tree, external_trees};
+ghost use Rattle.cc_ast.specs.Source.{source};
+ghost use Rattle.cc_ast.specs.Tree as tree;
 ghost use Rattle.cc_typing.specs.Bindings.{file_level, file_of};
 ghost use Rattle.cc_typing.specs.internal.Counts.{defined_in, objects_in};
 ghost use Rattle.cc_typing.specs.Limits.{objects};
@@ -16,7 +16,7 @@ ghost use Rattle.cc_resolve.specs.internal.Laying.{offset_behind};
 use super::environment::Environment;
 use super::layout::Layout;
 use super::objects::{add_objects, declare_objects};
-use cc_syntax::{External, Parameter, Signature};
+use cc_ast::{External, Parameter, Signature};
 use cc_typing::{Entity, TypedUnit};
 use std::alloc::{AllocError, Global};
 

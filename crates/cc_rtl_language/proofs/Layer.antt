@@ -7,7 +7,7 @@ use Rattle.cc_runs.specs.Run.{Move, Goes, Calls, Returns, Fails, tried}
 use Rattle.cc_runs.specs.Cuts.{IsLayer}
 use Rattle.cc_runs.proofs.Behaving.{begins_refl}
 use Rattle.cc_runs.proofs.Following.{tracks_follow}
-use Rattle.cc_syntax.specs.Tree.{External}
+use Rattle.cc_ast.specs.Tree.{External}
 use Rattle.cc_rtl_language.specs.Rtl as rtl
 use Rattle.cc_rtl_language.specs.Rtl.{Configuration, Registers, Rtl, node_at, node_move, rtl_output, rtl_start}
 use Rattle.cc_rtl_language.specs.Pair.{KeepsUp, FollowsFunction}

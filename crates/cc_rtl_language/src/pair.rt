@@ -35,7 +35,7 @@ impl Drop for RtlPair {
 impl Model for RtlPair {
     ghost use Rattle.std.specs.Arc.{arc_value};
     ghost use Rattle.std.specs.Coded.{codes};
-    ghost use Rattle.cc_syntax.specs.contracts.unit.Unit as parsed;
+    ghost use Rattle.cc_ast.specs.contracts.unit.Unit as parsed;
     ghost use Rattle.cc_rtl_language.specs.Pair.{Pair, IsPair};
 
     ghost Value = { Pair };

@@ -1,6 +1,6 @@
 -- What the parts of a pair of Selected are, as the pass has them.
 use Rattle.std.proofs.Common.{◌≡◌, ℕ, List, sym, subst}
-use Rattle.cc_syntax.specs.declared.unit.Unit as parsed
+use Rattle.cc_ast.specs.declared.unit.Unit as parsed
 use Rattle.cc_ltl.specs.Ltl.{Ltl}
 use Rattle.cc_select.specs.declared.step.Step.{Step}
 use Rattle.cc_select.specs.Pair.{Pair, IsPair}

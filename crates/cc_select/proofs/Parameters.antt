@@ -1,7 +1,7 @@
 -- A function has at most eight parameters, in a unit that keeps the limits.
 use Rattle.std.proofs.Common.{◌≡◌, ℕ, zero, suc, ◌≤◌, Bool, true, false, cond, List, [], ◌∷◌, ◌++◌, length, map, unwrap_or, slice_get, nat_lt, refl, sym, ap, subst, arith}
 use Rattle.std.proofs.lemmas.Bool.Decides.{nat_tests}
-use Rattle.cc_syntax.specs.Tree.{Parameter, Signature, External, Declaration, Definition, Objects}
+use Rattle.cc_ast.specs.Tree.{Parameter, Signature, External, Declaration, Definition, Objects}
 use Rattle.cc_typing.specs.Limits.{too_many, most_parameters, parameter_excesses, external_excesses, externals_excesses}
 use Rattle.cc_typing.specs.Typed.{IsWithinLimits}
 use Rattle.cc_typing.specs.Scope.{FileScope, file_scope_behind, first_file_scope}

@@ -1,7 +1,7 @@
 -- From a pair of Linear to a pair of Selected: the run by the steps of a function's items keeps up with the function, at twice the
 -- rate that the items had, times how many steps there were before constants went, and again before comparisons were joined.
 use Rattle.std.proofs.Common.{ℕ, ◌≤◌, List, length}
-use Rattle.cc_syntax.specs.Tree.{External}
+use Rattle.cc_ast.specs.Tree.{External}
 use Rattle.cc_typing.specs.Typed.{IsWithinLimits}
 use Rattle.cc_semantics.specs.Meaning.{functions}
 use Rattle.cc_runs.specs.Meaning.{Meaning}

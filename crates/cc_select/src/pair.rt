@@ -30,7 +30,7 @@ pub struct SelectedPair {
 impl Model for SelectedPair {
     ghost use Rattle.std.specs.Arc.{arc_value};
     ghost use Rattle.std.specs.Coded.{codes};
-    ghost use Rattle.cc_syntax.specs.contracts.unit.Unit as parsed;
+    ghost use Rattle.cc_ast.specs.contracts.unit.Unit as parsed;
     ghost use Rattle.cc_select.specs.Pair.{Pair, IsPair};
 
     ghost Value = { Pair };

@@ -1,7 +1,7 @@
 //! The pass: the steps of a pair of Linear.
 
 ghost use Rattle.std.specs.Prelude.{◌≡◌, IfOk};
-ghost use Rattle.cc_syntax.specs.Source.{source};
+ghost use Rattle.cc_ast.specs.Source.{source};
 ghost use Rattle.cc_typing.specs.Typed.{IsWithinLimits};
 ghost use Rattle.cc_select.specs.Selection.{trimmed, selected};
 

@@ -7,9 +7,9 @@ use Rattle.cc_words.specs.declared.operators.Width.TheVariants.{Word}
 use Rattle.cc_tokens.specs.declared.scalar.Scalar.{Scalar}
 use Rattle.cc_tokens.specs.Token.{Lexeme}
 use Rattle.cc_tokens.specs.Tokens.{TokensAreOne}
-use Rattle.cc_syntax.specs.Tree.{Object, Single, Array, Bytes, External, Declaration, Definition, Objects}
-use Rattle.cc_syntax.specs.Grammar.{Measured, outside, SpellsRow, SpellsObject, SpellsExternal, SpellsExternals, SpellsUnit, plain_tokens, Spells}
-use Rattle.cc_syntax.specs.Limits.{TreesAreOne}
+use Rattle.cc_ast.specs.Tree.{Object, Single, Array, Bytes, External, Declaration, Definition, Objects}
+use Rattle.cc_ast.specs.Grammar.{Measured, outside, SpellsRow, SpellsObject, SpellsExternal, SpellsExternals, SpellsUnit, plain_tokens, Spells}
+use Rattle.cc_ast.specs.Limits.{TreesAreOne}
 use Rattle.cc_typing.specs.Names.{same_name}
 use Rattle.cc_typing.specs.Scope.{FileScope, first_file_scope, with_object, file_scope_behind}
 use Rattle.cc_typing.specs.Types.{array_length, object_width, object_words, initial_words}

@@ -5,7 +5,7 @@ use Rattle.std.proofs.lemmas.Bool.{lt-ltb}
 use Rattle.std.proofs.lemmas.Option.{slice_get-map}
 use Rattle.std.proofs.lemmas.Cmp.{nat_list_eq_equiv}
 use Rattle.cc_tokens.specs.declared.scalar.Scalar.{Scalar}
-use Rattle.cc_syntax.specs.Tree.{Object, Single, Array, Bytes, External, Declaration, Definition, Objects}
+use Rattle.cc_ast.specs.Tree.{Object, Single, Array, Bytes, External, Declaration, Definition, Objects}
 use Rattle.cc_typing.specs.Names.{same_name}
 use Rattle.cc_typing.specs.Scope.{FileScope, has_name, first_file_scope, with_object, with_objects, file_scope_behind, body_scope}
 use Rattle.cc_typing.specs.Rules.{broken_if, signature_errors, statements_errors, external_errors, externals_errors}

@@ -3,7 +3,7 @@ use Rattle.std.proofs.Common.{◌≡◌, ℕ, suc, ◌+◌, ◌<◌, Bool, true,
 use Rattle.std.proofs.lemmas.List.{length-map}
 use Rattle.std.proofs.lemmas.Option.{slice_get-map}
 use Rattle.std.specs.Cmp.Lexicographic.{same_text}
-use Rattle.cc_syntax.specs.Tree.{Name, Object, External, Declaration, Definition, Objects}
+use Rattle.cc_ast.specs.Tree.{Name, Object, External, Declaration, Definition, Objects}
 use Rattle.cc_typing.specs.Names.{same_name}
 use Rattle.cc_typing.specs.Scope.{FileScope, has_name, first_file_scope, file_scope_behind}
 use Rattle.cc_typing.specs.Types.{object_elements, object_width}

@@ -1,8 +1,8 @@
 -- In a typed unit each name in the body of a function leads to what the body needs.
 use Rattle.std.proofs.Common.{◌≡◌, ℕ, zero, suc, ◌<◌, false, if◌then◌else◌, List, [], ◌∷◌, ◌++◌, length, map, inl, inr, Option, Some, None, slice_get, codes, refl, sym, ap, ◌∙◌, subst, arith}
 use Rattle.cc_tokens.specs.declared.scalar.Scalar.{Scalar}
-use Rattle.cc_syntax.specs.Tree as tree
-use Rattle.cc_syntax.specs.Tree.{Expr, Exprs, none, more, Number, Variable, Element, Parenthesised, Unary, Cast, Binary, Conditional, Target, AtVariable, AtElement, Action, Assign, Step, Evaluate, Declarator, Beginning, Declares, Performs, Stmt, Stmts, end, next, Block, Perform, Return, Break, Continue, If, IfElse, While, DoWhile, For, Parameter, Signature, External, Declaration, Definition, Objects}
+use Rattle.cc_ast.specs.Tree as tree
+use Rattle.cc_ast.specs.Tree.{Expr, Exprs, none, more, Number, Variable, Element, Parenthesised, Unary, Cast, Binary, Conditional, Target, AtVariable, AtElement, Action, Assign, Step, Evaluate, Declarator, Beginning, Declares, Performs, Stmt, Stmts, end, next, Block, Perform, Return, Break, Continue, If, IfElse, While, DoWhile, For, Parameter, Signature, External, Declaration, Definition, Objects}
 use Rattle.cc_typing.specs.Names.{same_name}
 use Rattle.cc_typing.specs.Scope as scope
 use Rattle.cc_typing.specs.Scope.{found, Visible, in_scope, opened, scope_behind, scope_behind_beginning, FileScope, has_name, first_file_scope, with_objects, file_scope_behind, file_scope_behind_all, body_scope}

@@ -8,8 +8,8 @@ use Rattle.cc_resolve.specs.Environment.{Environment, types_in, inner, with_loca
 use Rattle.cc_resolve.specs.Layout.{Layout, extent_of}
 use Rattle.cc_semantics.specs.Resolved.{IsObject, IsOneWord}
 use Rattle.std.proofs.lemmas.List.{length-map}
-use Rattle.cc_syntax.specs.Tree as tree
-use Rattle.cc_syntax.specs.Tree.{Declarator, Stmt, Block, Perform, Return, Break, Continue, If, IfElse, While, DoWhile, For, Name, Parameter}
+use Rattle.cc_ast.specs.Tree as tree
+use Rattle.cc_ast.specs.Tree.{Declarator, Stmt, Block, Perform, Return, Break, Continue, If, IfElse, While, DoWhile, For, Name, Parameter}
 use Rattle.cc_typing.specs.Limits.{locals_of}
 
 -- a variable in scope is a local, or an object of one word

@@ -1,7 +1,7 @@
 -- What holds of every call and of the body of every function, whether the unit is typed or not: what a pass cites of the meaning.
 use Rattle.std.specs.Prelude.{◌≡◌, ℕ, ◌+◌, ◌<◌, List, [], ◌++◌, length, map, Some, slice_get, codes}
 use Rattle.cc_words.specs.declared.operators.Width.{Width}
-use Rattle.cc_syntax.specs.Tree.{External, Source}
+use Rattle.cc_ast.specs.Tree.{External, Source}
 use Rattle.cc_typing.specs.Typed.{IsTyped}
 use Rattle.cc_resolve.specs.Layout.{LaidObject, names_before, layout_of, callee}
 use Rattle.cc_resolve.specs.declared.layout.Callee.{Callee}

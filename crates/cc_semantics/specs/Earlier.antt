@@ -11,10 +11,10 @@ use Rattle.cc_tokens.specs.declared.token.Keyword.TheVariants as keyword
 use Rattle.cc_tokens.specs.declared.token.Punctuator.TheVariants as punctuator
 use Rattle.cc_tokens.specs.Token.{Lexeme}
 use Rattle.cc_tokens.specs.Tokens.{IsTokens}
-use Rattle.cc_syntax.specs.Tree.{Object, Single, Array, Bytes, ConstantExpr, External, Declaration, Definition, Objects}
-use Rattle.cc_syntax.specs.Grammar.{Measured, outside, identifier, Marks, IsKeyword, SpellsRow, SpellsType, SpellsConstantExpr, SpellsOptionalConstant, SpellsList, SpellsExternal, plain_tokens}
-use Rattle.cc_syntax.specs.Limits.{IsWithin}
-use Rattle.cc_syntax.specs.Parse.{SpellsText}
+use Rattle.cc_ast.specs.Tree.{Object, Single, Array, Bytes, ConstantExpr, External, Declaration, Definition, Objects}
+use Rattle.cc_ast.specs.Grammar.{Measured, outside, identifier, Marks, IsKeyword, SpellsRow, SpellsType, SpellsConstantExpr, SpellsOptionalConstant, SpellsList, SpellsExternal, plain_tokens}
+use Rattle.cc_ast.specs.Limits.{IsWithin}
+use Rattle.cc_ast.specs.Parse.{SpellsText}
 use Rattle.cc_typing.specs.Names.{same_name}
 use Rattle.cc_typing.specs.Scope.{FileScope, is_declared, first_file_scope, with_object, file_scope_behind}
 use Rattle.cc_typing.specs.Types.{array_length, initial_word}

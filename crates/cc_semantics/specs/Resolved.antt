@@ -4,8 +4,8 @@
 use Rattle.std.specs.Prelude.{◌≡◌, ℕ, ◌<◌, List, [], ◌∷◌, length, map, Option, Some, None, slice_get}
 use Rattle.cc_words.specs.declared.operators.Width.TheVariants.{Word}
 use Rattle.cc_tokens.specs.declared.scalar.Scalar.{Scalar}
-use Rattle.cc_syntax.specs.Tree as tree
-use Rattle.cc_syntax.specs.Tree.{Expr, Exprs, none, more, Number, Variable, Element, Parenthesised, Unary, Cast, Binary, Conditional, Target, AtVariable, AtElement, Action, Assign, Step, Evaluate, Declarator, Beginning, Declares, Performs, Stmt, Stmts, end, next, Block, Perform, Return, Break, Continue, If, IfElse, While, DoWhile, For, Parameter, Signature, External, Definition}
+use Rattle.cc_ast.specs.Tree as tree
+use Rattle.cc_ast.specs.Tree.{Expr, Exprs, none, more, Number, Variable, Element, Parenthesised, Unary, Cast, Binary, Conditional, Target, AtVariable, AtElement, Action, Assign, Step, Evaluate, Declarator, Beginning, Declares, Performs, Stmt, Stmts, end, next, Block, Perform, Return, Break, Continue, If, IfElse, While, DoWhile, For, Parameter, Signature, External, Definition}
 use Rattle.cc_typing.specs.Rules.{count_of}
 use Rattle.cc_typing.specs.Typed.{IsTyped, definitions}
 use Rattle.cc_resolve.specs.Layout.{object_number, extent_of, layout_of, callee}

@@ -1,7 +1,7 @@
 -- Why a text is not compiled by the workers.
 use Rattle.std.specs.Prelude.{◌≡◌, ◌⊎◌, ℕ, List, length}
-use Rattle.cc_syntax.specs.Tree.{External}
-use Rattle.cc_syntax.specs.Parse.{IsParseRefusal}
+use Rattle.cc_ast.specs.Tree.{External}
+use Rattle.cc_ast.specs.Parse.{IsParseRefusal}
 use Rattle.cc_semantics.specs.Meaning.{functions}
 use Rattle.cc_typing.specs.declared.fault.TypeFault.TheVariants as typing
 use Rattle.cc_link.specs.Compile.{IsProgramText, IsRefusedTree, IsTooLarge}

@@ -1,8 +1,8 @@
 // From a text to a compiled unit, by the workers of a pool. No lock is held here.
 ghost use Rattle.std.specs.Prelude.{◌≡◌, length, All, IfErr, IfOk};
 ghost use Rattle.std.specs.Arc.{arc_value};
-ghost use Rattle.cc_syntax.specs.Source.{source};
-ghost use Rattle.cc_syntax.specs.Parse.{SpellsText};
+ghost use Rattle.cc_ast.specs.Source.{source};
+ghost use Rattle.cc_ast.specs.Parse.{SpellsText};
 ghost use Rattle.cc_typing.specs.Typed.{defined_names};
 ghost use Rattle.cc_link.specs.Agree.{Agree};
 ghost use Rattle.cc_link.specs.Compile.{IsProgramText};

@@ -1,6 +1,6 @@
 -- Which names are those of functions.
 use Rattle.std.specs.Prelude.{ℕ, ◌≡◌, List, Some, slice_get}
-use Rattle.cc_syntax.specs.Tree.{Source}
+use Rattle.cc_ast.specs.Tree.{Source}
 use Rattle.cc_typing.specs.Typed.{defined_names}
 
 -- the unit defines a function of this name

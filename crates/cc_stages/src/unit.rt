@@ -2,7 +2,7 @@
 
 ghost use Rattle.std.specs.Prelude.{◌≡◌, ◌<◌, ℕ, Some, IsNone, IfSome, IfErr, IsErrOf, MatchOption, length, slice_get};
 ghost use Rattle.std.specs.Arc.{arc_value};
-ghost use Rattle.cc_syntax.specs.Source.{source};
+ghost use Rattle.cc_ast.specs.Source.{source};
 ghost use Rattle.cc_typing.specs.Typed.{defined_names};
 ghost use Rattle.cc_stages.specs.Named.{IsDefined};
 ghost use Rattle.cc_stages.specs.declared.fault.StagesFault.TheVariants.{UnknownFunction};

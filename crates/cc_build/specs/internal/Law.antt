@@ -1,7 +1,7 @@
 -- The laws that the trait asks of a build: each source has a plan, and a unit that all pieces of a source give is right.
 use Rattle.std.specs.Prelude.{ℕ, ◌≡◌, Bool, true, false, List, [], ◌∷◌, Result, Ok, Err, All, refl}
 use Rattle.std.proofs.Common.{sym, subst, ◌∙◌, cond, arith}
-use Rattle.cc_syntax.specs.Source.{source}
+use Rattle.cc_ast.specs.Source.{source}
 use Rattle.cc_unit.specs.declared.unit.StoredUnit.{StoredUnit}
 use Rattle.cc_emit.specs.Piece.{Piece}
 use Rattle.cc_link.specs.Agree.{Agree}

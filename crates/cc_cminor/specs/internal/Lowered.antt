@@ -1,6 +1,6 @@
 -- The code of a function that is resolved.
 use Rattle.std.specs.Prelude.{◌≡◌, ℕ, List}
-use Rattle.cc_syntax.specs.Tree.{External}
+use Rattle.cc_ast.specs.Tree.{External}
 use Rattle.cc_resolve.specs.Layout.{layout_of}
 use Rattle.cc_semantics.specs.Resolved.{IsResolved}
 use Rattle.cc_cminor.specs.Cminor.{Statement}

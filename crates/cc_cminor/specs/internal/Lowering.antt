@@ -8,11 +8,11 @@ use Rattle.cc_words.specs.declared.operators.Unary as unary
 use Rattle.cc_words.specs.declared.operators.Unary.TheVariants as one
 use Rattle.cc_words.specs.declared.operators.Binary as binary
 use Rattle.cc_words.specs.declared.operators.Binary.TheVariants as two
-use Rattle.cc_syntax.specs.declared.ast.BinaryOperator.{BinaryOperator}
-use Rattle.cc_syntax.specs.declared.ast.BinaryOperator.TheVariants as source
-use Rattle.cc_syntax.specs.declared.ast.UnaryOperator.{UnaryOperator}
-use Rattle.cc_syntax.specs.Tree as tree
-use Rattle.cc_syntax.specs.Tree.{Expr, Exprs, none, more, Number, Variable, Element, Parenthesised, Cast, Conditional, Target, AtVariable, AtElement, Action, Assign, Step, Evaluate, Declarator, Beginning, Declares, Performs, Stmt, Stmts, end, next, Perform, Break, Continue, IfElse, While, DoWhile, For}
+use Rattle.cc_ast.specs.declared.ast.BinaryOperator.{BinaryOperator}
+use Rattle.cc_ast.specs.declared.ast.BinaryOperator.TheVariants as source
+use Rattle.cc_ast.specs.declared.ast.UnaryOperator.{UnaryOperator}
+use Rattle.cc_ast.specs.Tree as tree
+use Rattle.cc_ast.specs.Tree.{Expr, Exprs, none, more, Number, Variable, Element, Parenthesised, Cast, Conditional, Target, AtVariable, AtElement, Action, Assign, Step, Evaluate, Declarator, Beginning, Declares, Performs, Stmt, Stmts, end, next, Perform, Break, Continue, IfElse, While, DoWhile, For}
 use Rattle.cc_typing.specs.Operators.{working_type, applied_operator, step_operator}
 use Rattle.cc_typing.specs.Types.{value_type, target_type}
 use Rattle.cc_resolve.specs.Layout.{Layout, object_number, extent_of, callee}

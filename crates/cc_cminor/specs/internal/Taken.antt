@@ -2,8 +2,8 @@
 use Rattle.std.specs.Prelude.{ℕ, suc, Bool, true, false, List, Option, None, Some, option_map}
 use Rattle.std.specs.Global.{Box}
 use Rattle.cc_tokens.specs.declared.scalar.Scalar.{Scalar}
-use Rattle.cc_syntax.specs.declared.ast.BinaryOperator.{BinaryOperator}
-use Rattle.cc_syntax.specs.Tree.{Expr, Target, AtVariable, AtElement}
+use Rattle.cc_ast.specs.declared.ast.BinaryOperator.{BinaryOperator}
+use Rattle.cc_ast.specs.Tree.{Expr, Target, AtVariable, AtElement}
 use Rattle.cc_typing.specs.Scope.{found}
 use Rattle.cc_typing.specs.Types.{variable_type, element_type}
 use Rattle.cc_resolve.specs.Layout.{Layout}

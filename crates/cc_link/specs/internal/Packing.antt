@@ -1,6 +1,6 @@
 -- What a list of bytes is, and the words that the objects of one external declaration have in an image.
 use Rattle.std.specs.Prelude.{ℕ, ◌^◌, ◌<◌, List, [], ◌∷◌}
-use Rattle.cc_syntax.specs.Tree.{External, Declaration, Definition, Objects}
+use Rattle.cc_ast.specs.Tree.{External, Declaration, Definition, Objects}
 use Rattle.cc_link.specs.Packed.{image_words}
 
 -- each is a byte

@@ -1,8 +1,8 @@
 -- What the code that writes instructions speaks of.
 use Rattle.std.specs.Prelude.{ℕ, ◌+◌, ◌-◌, List, [], ◌∷◌, length, slice_set, Option, Some, None}
-use Rattle.cc_syntax.specs.Tree.{Target, AtVariable, AtElement}
-use Rattle.cc_syntax.specs.declared.ast.BinaryOperator.{BinaryOperator}
-use Rattle.cc_syntax.specs.declared.ast.BinaryOperator.TheVariants.{LogicalAnd, LogicalOr}
+use Rattle.cc_ast.specs.Tree.{Target, AtVariable, AtElement}
+use Rattle.cc_ast.specs.declared.ast.BinaryOperator.{BinaryOperator}
+use Rattle.cc_ast.specs.declared.ast.BinaryOperator.TheVariants.{LogicalAnd, LogicalOr}
 use Rattle.cc_resolve.specs.Environment.{Environment}
 use Rattle.cc_meaning.specs.internal.Form.{expression_code, store_of, store_element_of}
 use Rattle.cc_resolve.specs.declared.operations.BinaryOperation.{BinaryOperation}

@@ -1,8 +1,8 @@
 // The instructions of actions: assignments, increments and decrements, and expressions whose value is not used.
 
 ghost use Rattle.std.specs.Prelude.{◌≡◌, ◌++◌, OnOk};
-ghost use Rattle.cc_syntax.specs.Tree as tree;
-ghost use Rattle.cc_syntax.specs.Erase.{expression_tree, target_tree, action_tree, optional_action};
+ghost use Rattle.cc_ast.specs.Tree as tree;
+ghost use Rattle.cc_ast.specs.Erase.{expression_tree, target_tree, action_tree, optional_action};
 ghost use Rattle.cc_typing.specs.Types.{target_type};
 ghost use Rattle.cc_resolve.specs.Environment.{types_in};
 ghost use Rattle.cc_meaning.specs.internal.Form.{applied, action_code, optional_action_code};
@@ -12,10 +12,10 @@ use super::access::{store, store_element};
 use super::expressions::expression;
 use crate::emitter::Emitter;
 use crate::form::Instruction;
-use cc_resolve::{BinaryOperation, Environment, operation};
-use cc_syntax::{
+use cc_ast::{
     Action, AssignmentOperator, BinaryOperator, Expression, Scalar, StepOperator, Target,
 };
+use cc_resolve::{BinaryOperation, Environment, operation};
 use cc_typing::{applied_operator, step_operator, working_type};
 use std::alloc::AllocError;
 

@@ -4,7 +4,7 @@
 // instructions are written, which then take them back one by one.
 
 ghost use Rattle.std.specs.Prelude.{◌≡◌, ◌∷◌, ◌++◌, length, OnOk};
-ghost use Rattle.cc_syntax.specs.Erase.{optional_tree, declarator_trees, beginning_tree};
+ghost use Rattle.cc_ast.specs.Erase.{optional_tree, declarator_trees, beginning_tree};
 ghost use Rattle.cc_tokens.specs.declared.scalar.Scalar.{Scalar};
 ghost use Rattle.cc_resolve.specs.Environment as resolve;
 ghost use Rattle.cc_resolve.specs.Environment.{with_local, with_locals, behind_beginning};
@@ -15,8 +15,8 @@ use super::actions::optional_action;
 use super::expressions::expression;
 use crate::emitter::Emitter;
 use crate::form::Instruction;
+use cc_ast::{Beginning, Declarator, Scalar};
 use cc_resolve::Environment;
-use cc_syntax::{Beginning, Declarator, Scalar};
 use std::alloc::AllocError;
 
 // Writes the newest local's initialiser, where it has one, and takes the local back.

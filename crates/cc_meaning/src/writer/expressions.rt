@@ -3,9 +3,9 @@
 // The recursion is as deep as the tree: at most 512 tokens of a full expression.
 
 ghost use Rattle.std.specs.Prelude.{◌≡◌, ◌-◌, ◌<◌, ◌≤◌, ◌∷◌, ◌++◌, length, IfOk, OnOk};
-ghost use Rattle.cc_syntax.specs.Erase.{name_tree, expression_tree, optional_tree};
-ghost use Rattle.cc_syntax.specs.internal.Arguments.{expressions_of};
-ghost use Rattle.cc_syntax.specs.Tree as tree;
+ghost use Rattle.cc_ast.specs.Erase.{name_tree, expression_tree, optional_tree};
+ghost use Rattle.cc_ast.specs.internal.Arguments.{expressions_of};
+ghost use Rattle.cc_ast.specs.Tree as tree;
 ghost use Rattle.cc_typing.specs.Operators.{working_type};
 ghost use Rattle.cc_typing.specs.Scope.{found};
 ghost use Rattle.cc_typing.specs.Types.{variable_type, element_type, result_type, or_int, value_type};
@@ -19,8 +19,8 @@ ghost use Rattle.cc_meaning.specs.declared.form.Instruction.TheVariants as instr
 use super::access::{call_instruction, load};
 use crate::emitter::Emitter;
 use crate::form::Instruction;
+use cc_ast::{BinaryOperator, Expression, Identifier, Scalar, UnaryOperator};
 use cc_resolve::{Environment, operation, unary_operation};
-use cc_syntax::{BinaryOperator, Expression, Identifier, Scalar, UnaryOperator};
 use cc_typing::{binary_type, common_type, unary_type, working_type};
 use std::alloc::AllocError;
 

@@ -4,8 +4,8 @@
 // its own names back. The recursion is as deep as the tree: at most 64 levels.
 
 ghost use Rattle.std.specs.Prelude.{◌≡◌, ◌≤◌, ◌<◌, ◌-◌, ◌∷◌, ◌++◌, List, length, OnOk};
-ghost use Rattle.cc_syntax.specs.Erase.{expression_tree, optional_tree, optional_action, beginning_tree, statement_tree, statements_of};
-ghost use Rattle.cc_syntax.specs.Tree as tree;
+ghost use Rattle.cc_ast.specs.Erase.{expression_tree, optional_tree, optional_action, beginning_tree, statement_tree, statements_of};
+ghost use Rattle.cc_ast.specs.Tree as tree;
 ghost use Rattle.cc_resolve.specs.Environment as resolve;
 ghost use Rattle.cc_meaning.specs.internal.Form as written;
 ghost use Rattle.cc_resolve.specs.Environment.{inner, behind};
@@ -19,8 +19,8 @@ use super::declarations::{beginning, declaration};
 use super::expressions::{condition, expression, value};
 use crate::emitter::Emitter;
 use crate::form::Instruction;
+use cc_ast::{Action, Beginning, Expression, Statement};
 use cc_resolve::{Environment, declare_beginning, declare_statement};
-use cc_syntax::{Action, Beginning, Expression, Statement};
 use std::alloc::AllocError;
 
 /// Where a break and a continue go: how many instructions of the function stand after that place.

@@ -1,7 +1,7 @@
 // Functions, external declarations, and the form of a unit.
 
 ghost use Rattle.std.specs.Prelude.{◌≡◌, ◌≤◌, [], ◌∷◌, ◌++◌, length, OnOk, IfOk};
-ghost use Rattle.cc_syntax.specs.Erase.{signature_tree, statements_of, external_tree, external_trees};
+ghost use Rattle.cc_ast.specs.Erase.{signature_tree, statements_of, external_tree, external_trees};
 ghost use Rattle.cc_typing.specs.Bindings.{file_level, file_of};
 ghost use Rattle.cc_meaning.specs.internal.FormErase.{form_tree, Resolves};
 ghost use Rattle.cc_meaning.specs.internal.Form.{function_code, functions_code, all_code, entries_from, unit_functions};
@@ -11,10 +11,10 @@ ghost use Rattle.cc_typing.specs.Scope.{first_file_scope, with_function, file_sc
 use super::statements::{Exits, statements};
 use crate::emitter::Emitter;
 use crate::form::{Entry, Form, Instruction};
+use cc_ast::{External, Signature, Statement};
 use cc_resolve::{
     Environment, declare_function, declare_objects, enter_function, lay_out, leave_function,
 };
-use cc_syntax::{External, Signature, Statement};
 use cc_typing::local_count;
 use std::alloc::{AllocError, Global};
 

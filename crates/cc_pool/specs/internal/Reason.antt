@@ -1,6 +1,6 @@
 -- Which piece is of a function, and what is told of one of which none came.
 use Rattle.std.specs.Prelude.{◌≡◌, ℕ, List}
-use Rattle.cc_syntax.specs.Source.{source}
+use Rattle.cc_ast.specs.Source.{source}
 use Rattle.cc_emit.specs.Piece as emit
 use Rattle.cc_pool.specs.Fault.{IsRefusedAt}
 use Rattle.cc_pool.specs.declared.fault.PoolFault.{PoolFault}

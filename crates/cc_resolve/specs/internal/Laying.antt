@@ -1,6 +1,6 @@
 -- What the code that lays objects out keeps.
 use Rattle.std.specs.Prelude.{ℕ, ◌+◌, List, [], ◌∷◌}
-use Rattle.cc_syntax.specs.Tree.{Object}
+use Rattle.cc_ast.specs.Tree.{Object}
 use Rattle.cc_typing.specs.Types.{object_elements}
 
 -- the offset after some objects, of which the first begins at an offset

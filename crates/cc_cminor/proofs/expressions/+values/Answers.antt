@@ -1,10 +1,10 @@
 -- Arguments one by one; calls, and operators on more than one operand.
 use Rattle.std.proofs.Common.{◌≡◌, ◌&&◌, true, suc, ◌+◌, ◌++◌, List, [], ◌∷◌, ◌∙◌, ap, sym, drop, arith}
 use Rattle.std.proofs.lemmas.List.{append_assoc}
-use Rattle.cc_syntax.specs.Tree as syntax
-use Rattle.cc_syntax.specs.Erase.{name_tree, expression_tree}
-use Rattle.cc_syntax.specs.internal.Arguments.{expressions_of}
-use Rattle.cc_syntax.specs.declared.ast.Expression as tree
+use Rattle.cc_ast.specs.Tree as syntax
+use Rattle.cc_ast.specs.Erase.{name_tree, expression_tree}
+use Rattle.cc_ast.specs.internal.Arguments.{expressions_of}
+use Rattle.cc_ast.specs.declared.ast.Expression as tree
 use Rattle.cc_resolve.specs.Layout as layout
 use Rattle.cc_resolve.specs.declared.layout.Callee.{Callee}
 use Rattle.cc_cminor.specs.Cminor as cminor

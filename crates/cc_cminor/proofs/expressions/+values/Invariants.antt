@@ -1,5 +1,5 @@
 use Rattle.std.proofs.Common.{◌≡◌, ◌++◌, drop, true}
-use Rattle.cc_syntax.specs.internal.Arguments.{expressions_of}
+use Rattle.cc_ast.specs.internal.Arguments.{expressions_of}
 use Rattle.cc_cminor.specs.Code as code
 use Rattle.cc_cminor.specs.internal.Statements as codes
 use Rattle.cc_cminor.specs.internal.Lowering.{are_plain, all_plain, put_all}

@@ -1,5 +1,5 @@
 use Rattle.std.proofs.Common.{◌≡◌, drop}
-use Rattle.cc_syntax.specs.internal.Arguments.{expressions_of}
+use Rattle.cc_ast.specs.internal.Arguments.{expressions_of}
 use Rattle.cc_cminor.specs.internal.Lowering.{are_plain}
 use Rattle.cc_cminor.proofs.expressions.are_plain.Given as goal
 

@@ -1,9 +1,9 @@
 -- What the pair's type keeps, from the laws of the meaning at this unit.
 use Rattle.std.proofs.Common.{subst}
 use Rattle.std.specs.Arc.{arc_value}
-use Rattle.cc_syntax.specs.Source.{source}
-use Rattle.cc_syntax.specs.declared.unit.Unit as parsed
-use Rattle.cc_syntax.specs.Parse.{SpellsText}
+use Rattle.cc_ast.specs.Source.{source}
+use Rattle.cc_ast.specs.declared.unit.Unit as parsed
+use Rattle.cc_ast.specs.Parse.{SpellsText}
 use Rattle.cc_typing.specs.Typed.{IsTyped, IsWithinLimits}
 use Rattle.cc_cminor.proofs.Pairs.{lowered_is_small, pair_is}
 use Rattle.cc_cminor.proofs.lower.paired.Goals as goal

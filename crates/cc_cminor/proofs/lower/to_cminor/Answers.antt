@@ -1,8 +1,8 @@
 -- The owner that is kept is of the unit that was handed in.
 use Rattle.std.proofs.Common.{◌≡◌, subst}
 use Rattle.std.specs.Arc.{arc_value}
-use Rattle.cc_syntax.specs.Source.{source}
-use Rattle.cc_syntax.specs.declared.unit.Unit as parsed
+use Rattle.cc_ast.specs.Source.{source}
+use Rattle.cc_ast.specs.declared.unit.Unit as parsed
 use Rattle.cc_cminor.specs.Code.{statement_of}
 use Rattle.cc_cminor.specs.internal.Lowered.{IsLowered}
 use Rattle.cc_cminor.proofs.lower.to_cminor.Goals as goal

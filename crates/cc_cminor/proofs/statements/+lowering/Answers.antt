@@ -1,8 +1,8 @@
 -- Scopes, which leave the names as they were, `for`, and lists statement by statement.
 use Rattle.std.proofs.Common.{◌≡◌, ◌+◌, ◌++◌, ◌∙◌, List, [], ◌∷◌, drop, rules, sym, ap, subst}
-use Rattle.cc_syntax.specs.Erase.{optional_tree, optional_action, beginning_tree, statement_tree, statements_of}
-use Rattle.cc_syntax.specs.Tree.{Block}
-use Rattle.cc_syntax.specs.declared.ast.Statement as tree
+use Rattle.cc_ast.specs.Erase.{optional_tree, optional_action, beginning_tree, statement_tree, statements_of}
+use Rattle.cc_ast.specs.Tree.{Block}
+use Rattle.cc_ast.specs.declared.ast.Statement as tree
 use Rattle.cc_cminor.specs.Cminor as cminor
 use Rattle.cc_cminor.specs.Code as code
 use Rattle.cc_cminor.specs.internal.Statements as codes

@@ -1,8 +1,8 @@
 -- The zero, then what the initialiser adds.
 use Rattle.std.proofs.Common.{◌≡◌, ◌++◌, ◌∷◌, [], List, ◌∙◌, ap}
 use Rattle.std.proofs.lemmas.List.{append_assoc}
-use Rattle.cc_syntax.specs.Erase.{optional_tree, declarator_trees}
-use Rattle.cc_syntax.specs.declared.ast.Declarator.{Declarator}
+use Rattle.cc_ast.specs.Erase.{optional_tree, declarator_trees}
+use Rattle.cc_ast.specs.declared.ast.Declarator.{Declarator}
 use Rattle.cc_resolve.specs.Environment.{Environment, with_local, with_locals}
 use Rattle.cc_cminor.specs.Cminor as cminor
 use Rattle.cc_cminor.specs.internal.Statements as codes

@@ -1,6 +1,6 @@
 use Rattle.std.proofs.Common.{◌≡◌, ◌++◌, ◌∷◌, [], Some, suc, ◌∙◌, sym, ap}
-use Rattle.cc_syntax.specs.Erase.{expression_tree, optional_tree}
-use Rattle.cc_syntax.specs.declared.ast.Expression as tree
+use Rattle.cc_ast.specs.Erase.{expression_tree, optional_tree}
+use Rattle.cc_ast.specs.declared.ast.Expression as tree
 use Rattle.cc_cminor.specs.Cminor as cminor
 use Rattle.cc_cminor.specs.internal.Statements as codes
 use Rattle.cc_cminor.specs.Code.{statement_of}

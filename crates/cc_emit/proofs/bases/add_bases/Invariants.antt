@@ -1,5 +1,5 @@
 use Rattle.std.proofs.Common.{drop}
-use Rattle.cc_syntax.specs.Erase.{object_trees}
+use Rattle.cc_ast.specs.Erase.{object_trees}
 use Rattle.cc_emit.proofs.Addresses.{Listing}
 use Rattle.cc_emit.proofs.bases.add_bases.Given as goal
 

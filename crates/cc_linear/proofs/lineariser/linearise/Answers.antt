@@ -1,6 +1,6 @@
 -- The type keeps that the run keeps up: a pair of LTL and what is made of its code are a pair of Linear.
 use Rattle.std.proofs.Common.{ap, sym, subst, ◌∙◌}
-use Rattle.cc_syntax.specs.declared.unit.Unit as parsed
+use Rattle.cc_ast.specs.declared.unit.Unit as parsed
 use Rattle.cc_ltl.specs.Ltl.{Ltl}
 use Rattle.cc_linear.specs.Pair.{Pair, IsPair}
 use Rattle.cc_linear.specs.Targets.{NoneIdle}

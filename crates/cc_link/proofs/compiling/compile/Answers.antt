@@ -1,5 +1,5 @@
 use Rattle.std.proofs.Common.{inl, inr, ℕ, List, subst}
-use Rattle.cc_syntax.specs.Source.{source}
+use Rattle.cc_ast.specs.Source.{source}
 use Rattle.cc_typing.specs.Typed.{IsTypeRefusal}
 use Rattle.cc_typing.specs.Verdict.{source_with}
 use Rattle.cc_link.proofs.compiling.compile.Goals as goal

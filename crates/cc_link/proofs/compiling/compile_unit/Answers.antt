@@ -1,8 +1,8 @@
 -- Pieces of one's own are refused for the size of the image alone.
 use Rattle.std.proofs.Common.{inl, inr, Err, ap, subst, ◌∙◌}
 use Rattle.std.specs.Arc.{arc_value}
-use Rattle.cc_syntax.specs.Source.{source}
-use Rattle.cc_syntax.specs.declared.unit.Unit as parsed
+use Rattle.cc_ast.specs.Source.{source}
+use Rattle.cc_ast.specs.declared.unit.Unit as parsed
 use Rattle.cc_typing.specs.Typed.{IsTyped, IsWithinLimits}
 use Rattle.cc_link.specs.declared.fault.LinkFault.{LinkFault}
 use Rattle.cc_link.proofs.Own.{only_large}

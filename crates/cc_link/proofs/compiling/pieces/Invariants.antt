@@ -2,7 +2,7 @@ use Rattle.std.proofs.Common.{◌≡◌, ℕ, ◌<◌, length}
 use Rattle.std.specs.Prelude.{All}
 use Rattle.cc_link.specs.Compile.{HasPiece}
 use Rattle.std.specs.Arc.{arc_value}
-use Rattle.cc_syntax.specs.Source.{source}
+use Rattle.cc_ast.specs.Source.{source}
 use Rattle.cc_link.specs.Made.{IsCompiled}
 use Rattle.cc_link.specs.Pieces.{AreFrom}
 use Rattle.cc_link.proofs.compiling.pieces.Given as goal

@@ -1,6 +1,6 @@
 use Rattle.std.proofs.Common.{rules, refl}
-use Rattle.cc_syntax.specs.Source.{source}
-use Rattle.cc_syntax.specs.Erase.{signature_tree, statements_of, name_tree}
+use Rattle.cc_ast.specs.Source.{source}
+use Rattle.cc_ast.specs.Erase.{signature_tree, statements_of, name_tree}
 use Rattle.cc_link.proofs.Names.{named}
 use Rattle.cc_link.proofs.function.name_of.Goals as goal
 

@@ -1,6 +1,6 @@
 use Rattle.std.proofs.Common.{arith}
 use Rattle.std.proofs.lemmas.Grind.{common_steps}
-use Rattle.cc_syntax.specs.Erase.{object_tree}
+use Rattle.cc_ast.specs.Erase.{object_tree}
 use Rattle.cc_link.proofs.Packing.{elements_are_bytes}
 use Rattle.cc_link.proofs.globals.add_object.Goals as goal
 

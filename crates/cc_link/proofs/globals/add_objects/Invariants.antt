@@ -1,5 +1,5 @@
 use Rattle.std.proofs.Common.{◌≡◌, ◌++◌, drop}
-use Rattle.cc_syntax.specs.Erase.{object_trees}
+use Rattle.cc_ast.specs.Erase.{object_trees}
 use Rattle.cc_link.specs.Packed.{image_words}
 use Rattle.cc_link.proofs.globals.add_objects.Given as goal
 

@@ -1,6 +1,6 @@
 -- One declaration more.
 use Rattle.std.proofs.Common.{◌≡◌, ◌+◌, ◌++◌, List, ℕ, drop, ap, subst, ◌∙◌}
-use Rattle.cc_syntax.specs.Erase.{external_tree, external_trees}
+use Rattle.cc_ast.specs.Erase.{external_tree, external_trees}
 use Rattle.cc_typing.specs.Limits.{objects}
 use Rattle.cc_typing.proofs.SameTypes.{drop-item}
 use Rattle.cc_link.specs.Packed.{image_words}

@@ -1,7 +1,7 @@
 -- A typed unit's objects have 65,536 words in an image at most.
 use Rattle.std.proofs.Common.{◌≡◌, ℕ, List, length, false, true, ap, ◌∙◌, arith}
-use Rattle.cc_syntax.specs.Source.{source}
-use Rattle.cc_syntax.specs.Tree as tree
+use Rattle.cc_ast.specs.Source.{source}
+use Rattle.cc_ast.specs.Tree as tree
 use Rattle.cc_typing.specs.Limits.{objects}
 use Rattle.cc_link.specs.Packed.{image_words}
 use Rattle.cc_link.proofs.Sizes.{few_globals}

@@ -1,10 +1,10 @@
 use Rattle.std.proofs.Common.{◌≡◌, ap, subst, ◌∙◌}
-use Rattle.cc_syntax.specs.Parse.{SpellsText}
+use Rattle.cc_ast.specs.Parse.{SpellsText}
 use Rattle.cc_typing.specs.Checked.{IsChecked}
 use Rattle.cc_emit.specs.Piece.{IsPieceOfUnit}
 use Rattle.cc_link.specs.Made.{IsCompiled}
-use Rattle.cc_syntax.specs.Source.{source}
-use Rattle.cc_syntax.specs.declared.unit.Unit as parsed
+use Rattle.cc_ast.specs.Source.{source}
+use Rattle.cc_ast.specs.declared.unit.Unit as parsed
 use Rattle.cc_link.proofs.Ordering.{stranger_next, kept_next}
 use Rattle.cc_link.proofs.order.stranger.Goals as goal
 

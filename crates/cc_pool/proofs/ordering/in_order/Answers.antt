@@ -1,9 +1,9 @@
 use Rattle.std.proofs.Common.{arith, ◌≡◌, List, [], ◌∷◌, ◌++◌, length, sym, ap, subst, ◌∙◌, length-append, rules}
 use Rattle.std.proofs.lemmas.List.Elements.{All-nil, All-push}
 use Rattle.std.specs.Prelude.{All}
-use Rattle.cc_syntax.specs.Parse.{SpellsText}
-use Rattle.cc_syntax.specs.Source.{source}
-use Rattle.cc_syntax.specs.declared.unit.Unit as parsed
+use Rattle.cc_ast.specs.Parse.{SpellsText}
+use Rattle.cc_ast.specs.Source.{source}
+use Rattle.cc_ast.specs.declared.unit.Unit as parsed
 use Rattle.cc_typing.specs.Checked.{IsChecked}
 use Rattle.cc_emit.specs.Piece.{Piece}
 use Rattle.cc_link.specs.Made.{IsCompiled}

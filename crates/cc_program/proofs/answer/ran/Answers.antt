@@ -1,4 +1,4 @@
-use Rattle.cc_syntax.specs.Source.{source}
+use Rattle.cc_ast.specs.Source.{source}
 use Rattle.cc_program.proofs.answer.ran.Goals as goal
 
 pub returns-in-Ok-outcome-clause-answer : goal.returns-in-Ok-outcome-clause-answer

@@ -1,8 +1,8 @@
 -- 59 comes from the stages of the text's unit.
 use Rattle.std.proofs.Common.{◌≡◌, Err, sym, ap, subst}
 use Rattle.std.specs.Arc.{arc_value}
-use Rattle.cc_syntax.specs.declared.unit.Unit.{Unit}
-use Rattle.cc_syntax.specs.Source.{source}
+use Rattle.cc_ast.specs.declared.unit.Unit.{Unit}
+use Rattle.cc_ast.specs.Source.{source}
 use Rattle.cc_stages.specs.declared.fault.StagesFault.TheVariants as stages
 use Rattle.cc_program.specs.Answer.{IsProgram}
 use Rattle.cc_program.proofs.Showing.{unknown_stage, unknown_in}

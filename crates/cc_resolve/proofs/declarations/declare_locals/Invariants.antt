@@ -1,5 +1,5 @@
 use Rattle.std.proofs.Common.{◌≡◌, drop}
-use Rattle.cc_syntax.specs.Erase.{declarator_trees}
+use Rattle.cc_ast.specs.Erase.{declarator_trees}
 use Rattle.cc_resolve.specs.Environment.{with_locals}
 use Rattle.cc_resolve.proofs.declarations.declare_locals.Given as goal
 

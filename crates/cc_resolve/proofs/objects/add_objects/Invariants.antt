@@ -1,5 +1,5 @@
 use Rattle.std.proofs.Common.{drop}
-use Rattle.cc_syntax.specs.Erase.{object_trees}
+use Rattle.cc_ast.specs.Erase.{object_trees}
 use Rattle.cc_resolve.proofs.Behind.{Placing}
 use Rattle.cc_resolve.proofs.objects.add_objects.Given as goal
 

@@ -1,5 +1,5 @@
 use Rattle.std.proofs.Common.{drop}
-use Rattle.cc_syntax.specs.Erase.{object_trees}
+use Rattle.cc_ast.specs.Erase.{object_trees}
 use Rattle.cc_resolve.proofs.Behind.{Naming}
 use Rattle.cc_resolve.proofs.objects.declare_objects.Given as goal
 

@@ -1,5 +1,5 @@
 use Rattle.std.proofs.Common.{drop}
-use Rattle.cc_syntax.specs.Erase.{parameter_trees}
+use Rattle.cc_ast.specs.Erase.{parameter_trees}
 use Rattle.cc_resolve.proofs.Behind.{Declaring}
 use Rattle.cc_resolve.proofs.units.declare_parameters.Given as goal
 

@@ -1,6 +1,6 @@
 -- The functions of the unit, one by one.
 use Rattle.std.proofs.Common.{◌+◌, ◌-◌, drop, refl, subst, ap, ◌∙◌, arith}
-use Rattle.cc_syntax.specs.Erase.{signature_tree, statements_of, object_trees, external_trees}
+use Rattle.cc_ast.specs.Erase.{signature_tree, statements_of, object_trees, external_trees}
 use Rattle.cc_typing.specs.Bindings.{file_level, file_of}
 use Rattle.cc_typing.specs.Scope.{with_objects}
 use Rattle.cc_typing.proofs.SameTypes.{drop-item}

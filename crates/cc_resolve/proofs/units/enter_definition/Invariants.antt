@@ -1,5 +1,5 @@
 use Rattle.std.proofs.Common.{drop}
-use Rattle.cc_syntax.specs.Erase.{external_trees}
+use Rattle.cc_ast.specs.Erase.{external_trees}
 use Rattle.cc_resolve.proofs.Entering.{Entering}
 use Rattle.cc_resolve.proofs.units.enter_definition.Given as goal
 

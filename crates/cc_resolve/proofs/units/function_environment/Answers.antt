@@ -1,7 +1,7 @@
 -- There are as many definitions as names of them.
 use Rattle.std.proofs.Common.{◌≡◌, length, ap, ◌∙◌, arith}
-use Rattle.cc_syntax.specs.Source.{source}
-use Rattle.cc_syntax.specs.Erase.{external_trees}
+use Rattle.cc_ast.specs.Source.{source}
+use Rattle.cc_ast.specs.Erase.{external_trees}
 use Rattle.cc_typing.specs.Typed.{definitions, defined_names}
 use Rattle.cc_typing.proofs.Definitions.{length-definitions}
 use Rattle.cc_resolve.proofs.units.function_environment.Goals as goal

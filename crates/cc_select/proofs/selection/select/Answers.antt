@@ -1,7 +1,7 @@
 -- The pair's parts are those that the lemma on pairs of Linear speaks of.
 use Rattle.std.proofs.Common.{ap, ◌∙◌, subst}
-use Rattle.cc_syntax.specs.Source.{source}
-use Rattle.cc_syntax.specs.declared.unit.Unit as parsed
+use Rattle.cc_ast.specs.Source.{source}
+use Rattle.cc_ast.specs.declared.unit.Unit as parsed
 use Rattle.cc_typing.specs.Typed.{IsWithinLimits}
 use Rattle.cc_linear.specs.Pair as above
 use Rattle.cc_select.specs.Pair.{Pair}

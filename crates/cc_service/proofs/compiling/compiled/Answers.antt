@@ -1,6 +1,6 @@
 use Rattle.std.proofs.Common.{◌≡◌, inl, inr, ℕ, List, ap, ◌∙◌, subst}
 use Rattle.std.specs.Arc.{arc_value}
-use Rattle.cc_syntax.specs.Source.{source}
+use Rattle.cc_ast.specs.Source.{source}
 use Rattle.cc_typing.specs.Typed.{IsTypeRefusal}
 use Rattle.cc_typing.specs.Verdict.{source_with}
 use Rattle.cc_service.specs.Compiling.{HasSentFor}

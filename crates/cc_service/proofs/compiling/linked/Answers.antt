@@ -1,8 +1,8 @@
 -- There is one piece of each function, so linking refuses them for the size of the image alone.
 use Rattle.std.proofs.Common.{◌≡◌, ◌⊎◌, inl, inr, length, List, Result, Err, sym, ap, ◌∙◌}
 use Rattle.std.specs.Arc.{arc_value}
-use Rattle.cc_syntax.specs.Source.{source}
-use Rattle.cc_syntax.specs.Tree.{Source}
+use Rattle.cc_ast.specs.Source.{source}
+use Rattle.cc_ast.specs.Tree.{Source}
 use Rattle.cc_semantics.specs.Meaning.{functions}
 use Rattle.cc_unit.specs.declared.unit.StoredUnit.{StoredUnit}
 use Rattle.cc_emit.specs.Piece.{Piece}

@@ -1,8 +1,8 @@
 -- The pass has sent the first functions of one job: those of the text's program, whose tree is the unit's.
 use Rattle.std.proofs.Common.{◌≡◌, ℕ, length, inr, List, subst, rules}
 use Rattle.std.specs.Arc.{arc_value}
-use Rattle.cc_syntax.specs.Source.{source}
-use Rattle.cc_syntax.specs.Tree.{Source}
+use Rattle.cc_ast.specs.Source.{source}
+use Rattle.cc_ast.specs.Tree.{Source}
 use Rattle.cc_typing.specs.Typed.{defined_names}
 use Rattle.cc_link.specs.Compile.{IsProgramText}
 use Rattle.cc_link.proofs.Deciding.{defined_long}

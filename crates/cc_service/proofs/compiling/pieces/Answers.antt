@@ -1,6 +1,6 @@
 use Rattle.std.proofs.Common.{◌≡◌, ℕ, List, subst}
 use Rattle.std.specs.Arc.{arc_value}
-use Rattle.cc_syntax.specs.Source.{source}
+use Rattle.cc_ast.specs.Source.{source}
 use Rattle.cc_pool.specs.Fault.{IsJobRefusal}
 use Rattle.cc_pool.specs.declared.fault.PoolFault.{PoolFault}
 use Rattle.cc_pool.specs.declared.fault.PoolFault.TheVariants as pool

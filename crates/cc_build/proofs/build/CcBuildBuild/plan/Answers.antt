@@ -1,6 +1,6 @@
 use Rattle.std.proofs.Common.{ℕ, ◌∙◌, length, Ok, sym, ap, subst, arith}
-use Rattle.cc_syntax.specs.Source.{source}
-use Rattle.cc_syntax.specs.declared.unit.Unit.{Unit as Parsed}
+use Rattle.cc_ast.specs.Source.{source}
+use Rattle.cc_ast.specs.declared.unit.Unit.{Unit as Parsed}
 use Rattle.cc_typing.specs.Typed.{defined_names}
 use Rattle.cc_core.specs.declared.fault.BuildFault.{BuildFault}
 use Rattle.cc_core.specs.Fault.{RefusesPlan}

@@ -1,6 +1,6 @@
 use Rattle.std.proofs.Common.{◌+◌, [], drop, ap, ◌∙◌, subst}
 use Rattle.std.proofs.lemmas.List.{drop_all}
-use Rattle.cc_syntax.specs.Erase.{external_trees, object_trees}
+use Rattle.cc_ast.specs.Erase.{external_trees, object_trees}
 use Rattle.cc_typing.specs.Limits.{objects}
 use Rattle.cc_typing.proofs.SameTypes.{drop-item}
 use Rattle.cc_rv32.specs.Machine.{globals_from}

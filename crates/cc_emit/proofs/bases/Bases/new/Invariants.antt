@@ -1,5 +1,5 @@
 use Rattle.std.proofs.Common.{drop, []}
-use Rattle.cc_syntax.specs.Erase.{external_trees}
+use Rattle.cc_ast.specs.Erase.{external_trees}
 use Rattle.cc_typing.specs.Limits.{objects}
 use Rattle.cc_rv32.specs.Machine.{globals_from}
 use Rattle.cc_emit.proofs.Addresses.{Listing}

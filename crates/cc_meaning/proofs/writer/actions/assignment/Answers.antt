@@ -1,7 +1,7 @@
 -- The write takes the place of what stood for it.
 use Rattle.std.proofs.Common.{◌≡◌, ◌∙◌, ◌++◌, ap}
 use Rattle.cc_tokens.specs.declared.scalar.Scalar.{Scalar}
-use Rattle.cc_syntax.specs.Erase.{expression_tree, target_tree}
+use Rattle.cc_ast.specs.Erase.{expression_tree, target_tree}
 use Rattle.cc_meaning.specs.internal.Emitted.{write_of}
 use Rattle.cc_typing.specs.Operators.{applied_operator}
 use Rattle.cc_resolve.specs.Environment.{types_in}

@@ -1,10 +1,10 @@
 -- A call after its arguments, and an operator after its operands.
 use Rattle.std.proofs.Common.{◌≡◌, ◌∙◌, ◌++◌, ap, sym, List}
-use Rattle.cc_syntax.specs.declared.ast.Expression.{Expression}
+use Rattle.cc_ast.specs.declared.ast.Expression.{Expression}
 use Rattle.cc_tokens.specs.declared.scalar.Scalar.{Scalar}
-use Rattle.cc_syntax.specs.Erase.{name_tree, expression_tree}
-use Rattle.cc_syntax.specs.internal.Arguments.{expressions_of}
-use Rattle.cc_syntax.specs.Tree as tree
+use Rattle.cc_ast.specs.Erase.{name_tree, expression_tree}
+use Rattle.cc_ast.specs.internal.Arguments.{expressions_of}
+use Rattle.cc_ast.specs.Tree as tree
 use Rattle.cc_meaning.specs.internal.Emitted.{short_cut, operated}
 use Rattle.cc_typing.specs.Operators.{working_type}
 use Rattle.cc_resolve.specs.Environment.{types_in}

@@ -1,6 +1,6 @@
 use Rattle.std.proofs.Common.{max, ◌+◌, ◌*◌, ◌≡◌, ◌≤◌, ◌++◌, length, drop}
-use Rattle.cc_syntax.proofs.ast.Expression.TheLaws.{the_size}
-use Rattle.cc_syntax.specs.internal.Arguments.{expressions_of}
+use Rattle.cc_ast.proofs.ast.Expression.TheLaws.{the_size}
+use Rattle.cc_ast.specs.internal.Arguments.{expressions_of}
 use Rattle.cc_meaning.specs.internal.Form.{arguments_code}
 use Rattle.cc_meaning.proofs.writer.expressions.+expressions.Given as goal
 

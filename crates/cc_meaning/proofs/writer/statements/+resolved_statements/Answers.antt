@@ -3,8 +3,8 @@ use Rattle.std.proofs.Common.{◌≡◌, ◌+◌, ◌-◌, ◌++◌, ◌∙◌, 
 use Rattle.std.proofs.lemmas.Iterator.Adapters.{YieldsList-from_rev_slice}
 use Rattle.std.proofs.lemmas.Iterator.Consumers.{YieldsList-turn, YieldsList-end}
 use Rattle.std.proofs.lemmas.List.{drop_all, length_push}
-use Rattle.cc_syntax.specs.Erase.{expression_tree, optional_tree, optional_action, beginning_tree, statement_tree, statements_of}
-use Rattle.cc_syntax.specs.Tree.{Block, While, DoWhile, For}
+use Rattle.cc_ast.specs.Erase.{expression_tree, optional_tree, optional_action, beginning_tree, statement_tree, statements_of}
+use Rattle.cc_ast.specs.Tree.{Block, While, DoWhile, For}
 use Rattle.cc_meaning.specs.internal.Writing.{exits_of}
 use Rattle.cc_resolve.specs.Environment.{inner}
 use Rattle.cc_meaning.specs.internal.Form.{statement_code, statements_code}

@@ -1,5 +1,5 @@
 -- After a function the scope is file scope again.
-use Rattle.cc_syntax.specs.Erase.{signature_tree}
+use Rattle.cc_ast.specs.Erase.{signature_tree}
 use Rattle.cc_typing.specs.Bindings.{file_of}
 use Rattle.cc_typing.proofs.Walks.{on_ok}
 use Rattle.cc_meaning.proofs.WritingUnits.{function-names}

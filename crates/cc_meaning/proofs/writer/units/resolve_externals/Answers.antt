@@ -1,7 +1,7 @@
 -- One external declaration after the other.
 use Rattle.std.proofs.Common.{refl, subst, ap, arith}
 use Rattle.std.proofs.lemmas.List.{drop_all}
-use Rattle.cc_syntax.specs.Erase.{external_tree, external_trees}
+use Rattle.cc_ast.specs.Erase.{external_tree, external_trees}
 use Rattle.cc_resolve.specs.Layout.{layout_of}
 use Rattle.cc_meaning.specs.internal.Form.{unit_functions}
 use Rattle.cc_typing.proofs.SameTypes.{drop-item}

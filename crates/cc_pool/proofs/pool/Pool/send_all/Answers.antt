@@ -1,7 +1,7 @@
 use Rattle.std.proofs.Common.{rules, arith, ◌≡◌, ◌<◌, ◌++◌, ◌∷◌, [], length, ap, ◌∙◌, sym, subst, append_assoc}
 use Rattle.std.specs.Arc.{arc_value}
-use Rattle.cc_syntax.specs.Source.{source}
-use Rattle.cc_syntax.specs.declared.unit.Unit.{Unit}
+use Rattle.cc_ast.specs.Source.{source}
+use Rattle.cc_ast.specs.declared.unit.Unit.{Unit}
 use Rattle.cc_typing.specs.Typed.{IsWithinLimits, defined_names}
 use Rattle.cc_pool.specs.declared.item.Item.TheVariants.{Piece}
 use Rattle.cc_pool.specs.Shared.{piece_of, pieces_of}
