@@ -14,4 +14,3 @@ pub mod Kept
 pub mod Mains
 pub mod Resolving
 pub mod ByNumber
-pub mod Earlier

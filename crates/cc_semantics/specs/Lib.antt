@@ -10,6 +10,4 @@ pub mod Resolved
 pub mod Calls
 -- the same by number, as the passes speak of it
 pub mod Numbered
--- what stays of texts without arrays of `unsigned char`
-pub mod Earlier
 pub mod rows

@@ -1,13 +1,12 @@
 // What holds of the meaning of every program.
 
 ghost use Rattle.cc_semantics.specs.Calls.{BodiesGoOn, BodiesKeepObjects, CallsAreEffects, CallsGoOn, CallsKeepObjects, FunctionsAreNumbered, ObjectsAreNumbered, ObjectsAreSized, ProgramsCallMain, TypedUnitsHaveMain};
-ghost use Rattle.cc_semantics.specs.Earlier.{EarlierTreesStay, NoTreeIsNew, EarlierRulesStay, EarlierMeaningStays};
 ghost use Rattle.cc_semantics.specs.Function.{TypedUnitsHaveMeaning, RunsGoOn};
 ghost use Rattle.cc_semantics.specs.Numbered.{CallsAreNumbered, ProgramsAreNumbered, TypedUnitsHaveMeanings};
 ghost use Rattle.cc_semantics.specs.Resolved.{FunctionsAreResolved};
 ghost use Rattle.cc_typing.specs.Verdict.{VerdictsAreOne, TextsHaveVerdicts};
 
-use cc_syntax::{parse_is_determined, tokens_are_determined, trees_are_determined};
+use cc_syntax::parse_is_determined;
 
 /// Each function of a typed unit has its meaning: a call with no step left is unfinished; where 1,024 calls are open a call
 /// spends a step and goes wrong; below that it is its body with one step less.
@@ -58,18 +57,6 @@ pub fn programs_call_main()
 pub fn functions_are_resolved()
     ensures { FunctionsAreResolved }
 {}
-
-/// A text that had a tree before there were arrays of `unsigned char` has it now, and no other; it keeps the rules and limits that it
-/// kept, and each clause of the meaning does what it did. A text without the word `char` has no tree that it had not.
-pub fn earlier_texts_stay()
-    ensures trees { EarlierTreesStay }
-    ensures none_new { NoTreeIsNew }
-    ensures rules { EarlierRulesStay }
-    ensures meaning { EarlierMeaningStays }
-{
-    tokens_are_determined();
-    trees_are_determined();
-}
 
 /// What `parse` and then `check` answer is a function of the text, lack of memory set aside.
 pub fn verdicts_are_determined()

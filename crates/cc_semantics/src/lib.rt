@@ -10,7 +10,7 @@ mod laws;
 
 pub use cause::Cause;
 pub use laws::{
-    calls_are_effects, calls_go_on, calls_keep_objects, earlier_texts_stay, functions_are_resolved,
+    calls_are_effects, calls_go_on, calls_keep_objects, functions_are_resolved,
     functions_have_meaning, names_have_numbers, programs_call_main, runs_go_on,
     units_have_meanings, verdicts_are_determined,
 };

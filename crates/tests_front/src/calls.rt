@@ -2,9 +2,8 @@
 
 use cc_meaning::{
     MeaningFault, Stop, Words, calls_are_effects, calls_go_on, calls_keep_objects,
-    earlier_texts_stay, functions_are_resolved, functions_have_meaning, interpret,
-    names_have_numbers, programs_call_main, runs_go_on, units_have_meanings,
-    verdicts_are_determined,
+    functions_are_resolved, functions_have_meaning, interpret, names_have_numbers,
+    programs_call_main, runs_go_on, units_have_meanings, verdicts_are_determined,
 };
 use cc_syntax::{
     Expression, External, Keyword, Place, Punctuator, Scalar, Statement, SyntaxFault,
@@ -215,7 +214,6 @@ fn laws() {
     calls_are_effects();
     calls_go_on();
     calls_keep_objects();
-    earlier_texts_stay();
     names_have_numbers();
     programs_call_main();
     functions_are_resolved();
