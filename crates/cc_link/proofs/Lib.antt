@@ -20,5 +20,3 @@ pub mod Short
 pub mod Certified
 pub mod Confirming
 pub mod Packing
-pub mod EarlierRuns
-pub mod Earlier

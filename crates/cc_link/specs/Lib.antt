@@ -16,10 +16,6 @@ pub mod Pieces
 pub mod Made
 -- what an audit says
 pub mod Audit
--- what a program did before there were arrays of `unsigned char`
-pub mod EarlierMeaning
--- that a text of before has its unit, does what it did and agrees with the images that it agreed with
-pub mod Earlier
 -- the numbers of the faults
 pub mod Fault
 -- why a function has no piece, and why a text has no image

@@ -4,12 +4,9 @@ ghost use Rattle.cc_tokens.specs.Tokens.{TokensAreOne};
 ghost use Rattle.cc_ast.specs.Limits.{TreesAreOne};
 ghost use Rattle.cc_semantics.specs.Calls.{ObjectsAreSized, TypedUnitsHaveMain};
 ghost use Rattle.cc_semantics.specs.Numbered.{ProgramsAreNumbered, TypedUnitsHaveMeanings};
-ghost use Rattle.cc_link.specs.Earlier.{EarlierImagesAgree, EarlierProgramsStay, EarlierUnitsStay, NoAgreementIsNew};
 ghost use Rattle.cc_link.specs.Laws.{LinkedUnitsAgree, MadeUnitsAreCertified};
 
-use cc_semantics::{
-    earlier_texts_stay, names_have_numbers, programs_call_main, units_have_meanings,
-};
+use cc_semantics::{names_have_numbers, programs_call_main, units_have_meanings};
 use cc_syntax::trees_are_determined;
 use cc_tokens::tokens_are_determined;
 
@@ -42,16 +39,4 @@ pub fn made_units_are_certified()
     ensures { MadeUnitsAreCertified }
 {
     unit_laws();
-}
-
-/// A text that had a typed unit before there were arrays of `unsigned char` has it now, and its program does what it did; an image that
-/// agreed with the text agrees with it, and none agrees with a text without the word `char` that did not.
-pub fn earlier_images_agree()
-    ensures units { EarlierUnitsStay }
-    ensures programs { EarlierProgramsStay }
-    ensures images { EarlierImagesAgree }
-    ensures none_new { NoAgreementIsNew }
-{
-    tokens_are_determined();
-    earlier_texts_stay();
 }

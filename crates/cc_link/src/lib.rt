@@ -24,6 +24,6 @@ pub use compiled::CompiledUnit;
 pub use compiling::compile;
 pub use fault::LinkFault;
 pub use function::compile_function;
-pub use laws::{earlier_images_agree, linked_units_agree, made_units_are_certified};
+pub use laws::{linked_units_agree, made_units_are_certified};
 pub use linking::{link, link_lent};
 pub use piece_fault::PieceFault;
