@@ -79,7 +79,7 @@ impl Graph {
 fn empty_rows(alloc: Global, nodes: usize) -> Result<Vec<Vec<usize>>, AllocError>
     ensures { IfOk result (λ rows. rows_of rows.items ≡ replicate nodes []) }
 {
-    let mut rows = Vec::new(alloc);
+    let mut rows = Vec::with_capacity(alloc, nodes)?;
     for made in 0..nodes {
         let _made = made;
         rows.push(Vec::new(alloc))?;

@@ -69,7 +69,7 @@ fn least_facts<F: Facts>(alloc: Global, nodes: usize) -> Result<Vec<F>, AllocErr
     ensures long { IfOk result (λ facts. length facts.items ≡ nodes) }
     ensures least { IfOk result (λ facts. (node : ℕ) → facts_at F.bottom facts.items node ≡ F.bottom) }
 {
-    let mut facts = Vec::new(alloc);
+    let mut facts = Vec::with_capacity(alloc, nodes)?;
     for made in 0..nodes {
         let _made = made;
         facts.push(F::least(alloc)?)?;

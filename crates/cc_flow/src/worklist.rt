@@ -33,7 +33,7 @@ impl Worklist {
     {
         Ok(Worklist {
             waits: vec![in alloc; false; nodes]?,
-            queue: BinaryHeap::new(alloc),
+            queue: BinaryHeap::with_capacity(alloc, nodes)?,
         })
     }
 
