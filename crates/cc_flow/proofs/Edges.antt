@@ -1,6 +1,6 @@
 -- An edge more in both directions.
-use Rattle.std.proofs.Common.{◌≡◌, ℕ, zero, suc, ◌<◌, List, [], ◌∷◌, ◌++◌, refl, sym, ap, ◌∙◌, subst, ◌⊎◌, inl, inr, ◌≢◌, length, set, get_or, Vec, All, Contains, arith}
-use Rattle.std.specs.declared.alloc.Global.{Global}
+use Rattle.std.proofs.Common.{◌≡◌, ℕ, zero, suc, ◌<◌, List, [], ◌∷◌, ◌++◌, refl, sym, ap, ◌∙◌, subst, ◌⊎◌, inl, inr, ◌≢◌, length, set, get_or, All, Contains, arith}
+use Rattle.smallvec.specs.SmallVec.{SmallVec}
 use Rattle.std.proofs.lemmas.Bool.{cases_eq}
 use Rattle.std.proofs.lemmas.List.{get_or-set_same, get_or-set_other, length-set, set-get_or}
 use Rattle.std.proofs.lemmas.List.Elements.{All-set, All-push, All-get_or, Contains-append_left, Contains-push, Contains-push_cases}
@@ -8,22 +8,22 @@ use Rattle.cc_flow.specs.Flow.{successors_of, rows_of}
 use Rattle.cc_flow.specs.internal.Edges.{AreEdges}
 
 -- a row as a list
-pub row_is : (rows : List (Vec ℕ Global)) (i : ℕ) (d : Vec ℕ Global) → i < length rows → (get_or rows i d).items ≡ successors_of (rows_of rows) i
+pub row_is : (rows : List (SmallVec ℕ)) (i : ℕ) (d : SmallVec ℕ) → i < length rows → (get_or rows i d).items ≡ successors_of (rows_of rows) i
 row_is [] i d h = absurd (omega arith)
 row_is (row ∷ rows) zero d h = refl
 row_is (row ∷ rows) (suc i) d h = row_is rows i d (omega arith)
 
 -- one row set
-pub row_set : (rows : List (Vec ℕ Global)) (at : ℕ) (new : Vec ℕ Global) (row : List ℕ) → new.items ≡ row → rows_of (set rows at new) ≡ set (rows_of rows) at row
+pub row_set : (rows : List (SmallVec ℕ)) (at : ℕ) (new : SmallVec ℕ) (row : List ℕ) → new.items ≡ row → rows_of (set rows at new) ≡ set (rows_of rows) at row
 row_set rows at new row h = map-set' rows at new ∙ ap (set (rows_of rows) at) h
   where
-    map-set' : (rs : List (Vec ℕ Global)) (i : ℕ) (v : Vec ℕ Global) → rows_of (set rs i v) ≡ set (rows_of rs) i v.items
+    map-set' : (rs : List (SmallVec ℕ)) (i : ℕ) (v : SmallVec ℕ) → rows_of (set rs i v) ≡ set (rows_of rs) i v.items
     map-set' [] i v = refl
     map-set' (r ∷ rs) zero v = refl
     map-set' (r ∷ rs) (suc i) v = ap (λ xs. r.items ∷ xs) (map-set' rs i v)
 
 -- to what it was
-pub row_kept : (rows : List (Vec ℕ Global)) (at : ℕ) (new : Vec ℕ Global) → new.items ≡ successors_of (rows_of rows) at → rows_of (set rows at new) ≡ rows_of rows
+pub row_kept : (rows : List (SmallVec ℕ)) (at : ℕ) (new : SmallVec ℕ) → new.items ≡ successors_of (rows_of rows) at → rows_of (set rows at new) ≡ rows_of rows
 row_kept rows at new h = row_set rows at new (successors_of (rows_of rows) at) h ∙ set-get_or (rows_of rows) at []
 
 -- a row with a node more

@@ -1,9 +1,9 @@
 -- Facts at the nodes of a graph, carried backward. A graph is the list of its nodes' successors; nodes are numbers from 0.
-use Rattle.std.specs.Prelude.{ℕ, ◌<◌, List, [], ◌∷◌, get_or, map, All, length, Vec}
-use Rattle.std.specs.declared.alloc.Global.{Global}
+use Rattle.std.specs.Prelude.{ℕ, ◌<◌, List, [], ◌∷◌, get_or, map, All, length}
+use Rattle.smallvec.specs.SmallVec.{SmallVec}
 
 -- a graph of the rows that are held, one for each node
-abbrev pub rows_of : List (Vec ℕ Global) → List (List ℕ)
+abbrev pub rows_of : List (SmallVec ℕ) → List (List ℕ)
 rows_of rows = map (λ row. row.items) rows
 
 -- the nodes that a node leads to, none where there is no such node

@@ -3,15 +3,19 @@
 ghost use Rattle.std.specs.Prelude.{◌≡◌, ℕ, ◌<◌, ◌++◌, ◌∷◌, [], All, Contains, length, replicate, slice_set, set, IfOk, IfErr};
 ghost use Rattle.cc_flow.specs.Flow.{successors_of, rows_of};
 
+use smallvec::SmallVec;
 use std::alloc::{AllocError, Global};
 use std::marker::Model;
+
+// Where a node leads: to two nodes at most where it is no switch, so most rows take no memory of their own.
+type Row = SmallVec<usize, 2>;
 
 /// A graph: for each node, numbered from 0, the nodes that it leads to. Contracts see it as the list of these rows.
 #[derive(Drop)]
 pub struct Graph {
-    successors: Vec<Vec<usize>>,
+    successors: Vec<Row>,
     // For each node at least those that lead to it.
-    predecessors: Vec<Vec<usize>>,
+    predecessors: Vec<Row>,
 }
 
 impl Model for Graph {
@@ -76,19 +80,19 @@ impl Graph {
 }
 
 /// So many empty rows.
-fn empty_rows(alloc: Global, nodes: usize) -> Result<Vec<Vec<usize>>, AllocError>
+fn empty_rows(alloc: Global, nodes: usize) -> Result<Vec<Row>, AllocError>
     ensures { IfOk result (λ rows. rows_of rows.items ≡ replicate nodes []) }
 {
     let mut rows = Vec::with_capacity(alloc, nodes)?;
     for made in 0..nodes {
         let _made = made;
-        rows.push(Vec::new(alloc))?;
+        rows.push(SmallVec::new(alloc))?;
     }
     Ok(rows)
 }
 
 /// One row.
-fn row_at(rows: &[Vec<usize>], at: usize) -> &[usize]
+fn row_at(rows: &[Row], at: usize) -> &[usize]
     requires { at < length rows.now }
     ensures { result.now ≡ successors_of (rows_of rows.now) at }
 {
@@ -96,7 +100,7 @@ fn row_at(rows: &[Vec<usize>], at: usize) -> &[usize]
 }
 
 /// Puts a node last in one row.
-fn push_in(rows: &mut Vec<Vec<usize>>, at: usize, node: usize) -> Result<(), AllocError>
+fn push_in(rows: &mut Vec<Row>, at: usize, node: usize) -> Result<(), AllocError>
     requires { at < length rows.old.items }
     ensures added { IfOk result (λ _. rows_of rows.new.items ≡ set (rows_of rows.old.items) at (successors_of (rows_of rows.old.items) at ++ node ∷ [])) }
     ensures leaves { IfErr result (λ _. rows_of rows.new.items ≡ rows_of rows.old.items) }
