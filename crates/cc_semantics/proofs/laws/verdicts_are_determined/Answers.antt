@@ -1,5 +1,5 @@
 use Rattle.cc_typing.proofs.Determined.{verdicts_are_one, texts_have_verdicts}
-use Rattle.cc_meaning.proofs.laws.verdicts_are_determined.Goals as goal
+use Rattle.cc_semantics.proofs.laws.verdicts_are_determined.Goals as goal
 
 pub returns-clause-one_verdict : goal.returns-clause-one_verdict
 returns-clause-one_verdict c = verdicts_are_one c.parse_is_determined.ensures.one
