@@ -1,3 +1,5 @@
+-- A word of a row that is written through its slice.
+pub mod Written
 -- What a row holds when one of its words has changed, and where one row's words lie within another's.
 pub mod Bits
 -- Numbers of the bits of a table.

@@ -5,13 +5,17 @@ ghost use Rattle.std.specs.Int.{bit_at};
 ghost use Rattle.cc_rows.specs.Rows.{holds, AreRows, moved as moved_of, column_moved, most_words};
 ghost use Rattle.cc_rows.specs.internal.Holding.{bit as bit_of};
 
+use smallvec::SmallVec;
 use std::alloc::{AllocError, Global};
 use std::marker::Model;
+
+// The words of a row: one is kept in place, so a set of numbers below 64 takes no memory of its own.
+type Words = SmallVec<u64, 1>;
 
 /// A set of numbers. Contracts see its words.
 #[derive(Drop)]
 pub struct BitRow {
-    words: Vec<u64>,
+    words: Words,
 }
 
 impl Model for BitRow {
@@ -31,7 +35,7 @@ impl BitRow {
         ensures { result ≡ [] }
     {
         BitRow {
-            words: Vec::new(alloc),
+            words: SmallVec::new(alloc),
         }
     }
 
@@ -61,7 +65,7 @@ impl BitRow {
     pub fn copy(&self, alloc: Global) -> Result<BitRow, AllocError>
         ensures { IfOk result (λ made. made ≡ self.now) }
     {
-        let mut words = Vec::new(alloc);
+        let mut words = SmallVec::new(alloc);
         words.extend_from_slice(self.words.as_slice())?;
         Ok(BitRow { words })
     }
@@ -72,7 +76,7 @@ impl BitRow {
         ensures { IfOk result (λ made. made ≡ self.now) }
     {
         let own = self.words.as_slice();
-        let mut words = Vec::with_capacity(alloc, own.len() + room)?;
+        let mut words = SmallVec::with_capacity(alloc, own.len() + room)?;
         words.extend_from_slice(own)?;
         Ok(BitRow { words })
     }
@@ -196,7 +200,7 @@ fn word_at(words: &[u64], at: usize) -> u64
 }
 
 /// Makes a row no shorter than this many words. Without memory it stays as it was.
-fn grow(words: &mut Vec<u64>, least: usize) -> Result<(), AllocError>
+fn grow(words: &mut Words, least: usize) -> Result<(), AllocError>
     ensures same { (k : ℕ) → slice_index words.new.items k ≡ slice_index words.old.items k }
     ensures long { IfOk result (λ _. least ≤ length words.new.items) }
     ensures few { (most : ℕ) → length words.old.items ≤ most → least ≤ most → length words.new.items ≤ most }
@@ -224,7 +228,7 @@ fn lies_within(some: &[u64], all: &[u64]) -> bool
 }
 
 /// Puts what one row holds into another. Without memory that one stays as it was.
-fn put_words(into: &mut Vec<u64>, from: &[u64]) -> Result<(), AllocError>
+fn put_words(into: &mut Words, from: &[u64]) -> Result<(), AllocError>
     ensures both { IfOk result (λ _. (k : ℕ) → holds into.new.items k ≡ (holds into.old.items k || holds from.now k)) }
     ensures few { (most : ℕ) → length into.old.items ≤ most → length from.now ≤ most → length into.new.items ≤ most }
     ensures leaves { IfErr result (λ _. into.new.items ≡ into.old.items) }
@@ -239,7 +243,7 @@ fn put_words(into: &mut Vec<u64>, from: &[u64]) -> Result<(), AllocError>
 }
 
 /// Puts what one row holds into another that is no shorter.
-fn put_all(into: &mut Vec<u64>, from: &[u64])
+fn put_all(into: &mut Words, from: &[u64])
     requires { length from.now ≤ length into.old.items }
     ensures long { length into.new.items ≡ length into.old.items }
     ensures both { (k : ℕ) → holds into.new.items k ≡ (holds into.old.items k || holds from.now k) }
