@@ -77,3 +77,20 @@ pub struct Function<'a> {
     pub parameters: usize,
     pub variables: usize,
 }
+
+/// What a unit becomes: the instructions of its functions one behind the other, and its functions in the order of their first
+/// declarations.
+#[derive(Drop)]
+pub struct Code<'a> {
+    pub instructions: Vec<Instruction<'a>>,
+    pub functions: Vec<Function<'a>>,
+}
+
+impl<'a> Code<'a> {
+    /// The number of the function of a name.
+    pub fn function(&self, name: &[u8]) -> Option<usize> {
+        self.functions
+            .iter()
+            .position(|function| function.name.bytes.as_slice() == name)
+    }
+}

@@ -5,13 +5,11 @@
 // only a mend has made wrong. Each turn checks the copy once and walks over the text, and there are 20 turns at most.
 
 use super::declarations::{Declaration, declarations, first_of, named_at};
-use super::diagnostic::Diagnostic;
 use super::mended::Mended;
-use super::message::words;
-use super::offset::offset_in;
 use super::typing::{noted, told_of, word_at};
 use super::walk::{Note, Use};
 use cc_syntax::{SyntaxFault, Unit, parse};
+use cc_syntax_diagnostic::{Diagnostic, offset_in, words};
 use cc_typing::{TypeFault, check};
 use std::alloc::{AllocError, Global};
 use std::mem::replace;

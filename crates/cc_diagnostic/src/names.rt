@@ -1,7 +1,7 @@
 // The names in scope, with where each was declared and where it leads.
 
-use super::near::near_name;
 use cc_resolve::Extent;
+use cc_syntax_diagnostic::near_name;
 use cc_typing::{Bindings, Entity, READ_WORD, WRITE_WORD};
 use std::alloc::{AllocError, Global};
 

@@ -5,14 +5,12 @@ ghost use Rattle.cc_typing.specs.Fault.{fault_place};
 
 use super::constant::{Cause, why};
 use super::declarations::{Declaration, Declared, declarations, first_of, named_at};
-use super::diagnostic::{Diagnostic, Related};
-use super::left_out::{FOREIGN, said_of};
-use super::message::{Part, message, words};
 use super::names::Standing;
-use super::near::near_keyword;
-use super::offset::offset_in;
 use super::walk::{Note, Use, Walk};
 use cc_syntax::{Object, Signature, Unit, parse};
+use cc_syntax_diagnostic::{
+    Diagnostic, Part, Related, message, near_keyword, offset_in, said_of_foreign, words,
+};
 use cc_tokens::{Place, SyntaxFault, place_at};
 use cc_typing::{
     Entity, MOST_FUNCTIONS, MOST_LOCALS, MOST_PARAMETERS, MOST_WORDS, TypeFault, array_length,
@@ -145,7 +143,7 @@ fn misused(alloc: Global, view: &View<'_>) -> Result<String, AllocError> {
 // A name that is declared nowhere: what is said of it, or what could be meant.
 fn not_declared(alloc: Global, view: &View<'_>) -> Result<String, AllocError> {
     let what = Part::Words(" is not declared");
-    if let Some(said) = said_of(&FOREIGN, view.word) {
+    if let Some(said) = said_of_foreign(view.word) {
         let parts = [view.word(), what, Part::Words(": "), Part::Words(said)];
         return message(alloc, &parts);
     }

@@ -11,12 +11,14 @@ mod expressions;
 mod statements;
 mod units;
 
-use super::code::{Element, Function, Instruction};
+use super::code::{Code, Element, Function, Instruction};
 use super::names::{Names, Standing};
+use super::operators::operators;
 use super::warning::Warning;
 use cc_resolve::UnaryOperation;
-use cc_syntax::{Identifier, Signature};
+use cc_syntax::{Identifier, Signature, Unit};
 use std::alloc::{AllocError, Global};
+use std::mem::replace;
 
 /// What is done at an offset.
 #[derive(Clone, Copy)]
@@ -205,11 +207,36 @@ impl<'a> Walk<'a> {
         self.taken = self.taken.saturating_add(1);
         at
     }
+}
 
-    /// The number of the function of a name.
-    pub fn function(&self, name: &[u8]) -> Option<usize> {
-        self.functions
-            .iter()
-            .position(|function| function.name.bytes.as_slice() == name)
+// What a walk over a unit writes, with operators at these offsets that can go wrong.
+fn written<'a>(
+    alloc: Global,
+    unit: &'a Unit,
+    operators: Vec<usize>,
+) -> Result<Code<'a>, AllocError> {
+    let mut walk = Walk::new(alloc, operators, None)?;
+    let walked = walk.externals(unit.externals());
+    let code = Code {
+        instructions: replace(&mut walk.code, Vec::new(alloc)),
+        functions: replace(&mut walk.functions, Vec::new(alloc)),
+    };
+    drop(walk);
+    match walked {
+        Ok(()) => Ok(code),
+        Err(error) => {
+            drop(code);
+            Err(error)
+        }
+    }
+}
+
+/// What the tree of a unit becomes to be run once more. Nothing for a text without tokens, which no unit has.
+///
+/// `AllocError` where memory for it runs out.
+pub fn code_of(alloc: Global, unit: &Unit) -> Result<Option<Code<'_>>, AllocError> {
+    match operators(alloc, unit.text())? {
+        Some(operators) => Ok(Some(written(alloc, unit, operators)?)),
+        None => Ok(None),
     }
 }

@@ -3,10 +3,9 @@
 // The walk finds what stands in expressions and statements; here are what is read off the tokens, and the messages.
 
 use super::code::Element;
-use super::diagnostic::Diagnostic;
-use super::message::{Part, message};
 use super::walk::Walk;
 use cc_syntax::{Identifier, SyntaxFault, Unit, parse};
+use cc_syntax_diagnostic::{Diagnostic, Part, message};
 use cc_tokens::{Next, Token, next_token};
 use std::alloc::{AllocError, Global};
 

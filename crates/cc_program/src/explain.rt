@@ -2,11 +2,10 @@
 
 use super::fault::Fault;
 use cc_command_line::Task;
-use cc_diagnostic::{
-    Diagnostic, further_of_typing, of_name, of_syntax, of_typing, of_wrong, warnings,
-};
+use cc_diagnostic::{Diagnostic, further_of_typing, of_name, of_syntax, of_typing, warnings};
 use cc_link::{BuildFault, LinkFault, PieceFault};
 use cc_meaning::Cause;
+use cc_run_diagnostic::of_wrong;
 use std::alloc::{AllocError, Global};
 use std::io::{self, Write};
 

@@ -1,7 +1,8 @@
 // What is told of a text, as it is written.
 
-use cc_diagnostic::{Diagnostic, further_of_typing, of_syntax, of_typing, of_wrong, warnings};
+use cc_diagnostic::{Diagnostic, further_of_typing, of_syntax, of_typing, warnings};
 use cc_meaning::{Stop, interpret};
+use cc_run_diagnostic::of_wrong;
 use cc_syntax::{Unit, parse};
 use cc_typing::{TypeFault, check};
 use std::alloc::{AllocError, Global};

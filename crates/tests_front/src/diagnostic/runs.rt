@@ -1,8 +1,8 @@
 // What is told of runs that go wrong.
 
 use super::helpers::told_of_run;
-use cc_diagnostic::of_wrong;
 use cc_meaning::Cause;
+use cc_run_diagnostic::of_wrong;
 use std::alloc::Global;
 
 // Texts, the words of the input, and what is told of a run of each: the place, the values and the function.

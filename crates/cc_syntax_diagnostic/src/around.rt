@@ -3,7 +3,7 @@
 // The tokens before it are the beginning of a text, so their brackets are nested as they should be.
 
 use super::diagnostic::Related;
-use super::message::Part;
+use super::parts::Part;
 use cc_tokens::{Token, TokenKind};
 
 /// A text, its tokens up to one and from it on, and the offset of that one.

@@ -25,6 +25,11 @@ pub fn said_of_prefix(table: &[Entry], bytes: &[u8]) -> Option<&'static str> {
     None
 }
 
+/// What is said of a word of another language, of C's headers or of its libraries, where something is.
+pub fn said_of_foreign(word: &[u8]) -> Option<&'static str> {
+    said_of(&FOREIGN, word)
+}
+
 /// The keywords of C99 (6.4.1) that no text of this C has; `char` stands in declarations of byte arrays alone.
 pub static KEYWORDS: [Entry; 26] = [
     ("auto", "there is no auto in this C; leave it out"),
@@ -159,8 +164,8 @@ pub static ACTIONS: [Entry; 13] = [
     ),
 ];
 
-/// Words of other languages, of C's headers and of its libraries.
-pub static FOREIGN: [Entry; 37] = [
+// Words of other languages, of C's headers and of its libraries.
+static FOREIGN: [Entry; 37] = [
     ("and", "write &&"),
     ("or", "write ||"),
     ("not", "write !"),

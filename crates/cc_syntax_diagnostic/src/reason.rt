@@ -2,8 +2,9 @@
 
 use super::around::Around;
 use super::left_out::{
-    ACTIONS, ARRAY_PARAMETERS, COMMA, DESIGNATORS, FOREIGN, INNER_FUNCTIONS, KEYWORDS, LABELS,
-    LISTS, LOCAL_ARRAYS, NO_TARGET, POINTERS, ROWS, SINGLE_BYTES, STRUCTURES, VOID_CASTS, said_of,
+    ACTIONS, ARRAY_PARAMETERS, COMMA, DESIGNATORS, INNER_FUNCTIONS, KEYWORDS, LABELS, LISTS,
+    LOCAL_ARRAYS, NO_TARGET, POINTERS, ROWS, SINGLE_BYTES, STRUCTURES, VOID_CASTS, said_of,
+    said_of_foreign,
 };
 use super::near::near_keyword;
 use cc_tokens::{Token, TokenKind};
@@ -226,7 +227,7 @@ fn of_name<'a>(around: &Around<'a>, name: Option<Token>) -> Option<Reason<'a>> {
     if !is_name(Some(name)) || around.stands_before(found, name.from) || is_declared(around, name) {
         return None;
     }
-    match said_of(&FOREIGN, found) {
+    match said_of_foreign(found) {
         Some(said) => Some(plain(name.from, found, said)),
         None => Some(meant(name.from, found, near_keyword(found)?)),
     }

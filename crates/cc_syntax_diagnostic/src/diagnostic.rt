@@ -1,7 +1,7 @@
 // What is told of a text, and how it is written.
 
 use super::excerpt::write_excerpt;
-use super::message::{Part, message};
+use super::parts::{Part, message};
 use cc_tokens::{Place, place_at};
 use std::alloc::{AllocError, Global};
 use std::io::{self, Write};

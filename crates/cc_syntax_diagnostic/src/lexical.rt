@@ -1,7 +1,7 @@
 // What is told of a byte, a comment or a number that is no token.
 
 use super::left_out::{BYTES, CHARACTERS, FLOATING, said_of_prefix};
-use super::message::{Part, message, words};
+use super::parts::{Part, message, words};
 use std::alloc::{AllocError, Global};
 
 // Whether a backslash stands here directly before the end of a line.

@@ -1,52 +1,11 @@
 // What is told of a run that went wrong.
 
-use super::code::{Element, Operation};
-use super::diagnostic::Diagnostic;
-use super::message::{Part, message};
 use super::replay::{Replay, Trouble, Wrong};
-use super::walk::Walk;
+use cc_diagnostic::{Code, Diagnostic, Element, Operation, Part, code_of, message};
 use cc_meaning::{Cause, MOST_OPEN};
 use cc_resolve::lay_out;
 use cc_syntax::{BinaryOperator, Identifier, SyntaxFault, Unit, parse};
-use cc_tokens::{Punctuator, Scalar, Token, TokenKind, tokens};
 use std::alloc::{AllocError, Global};
-
-// The operators that can go wrong are these punctuators.
-fn can_go_wrong(token: Token) -> bool {
-    match token.kind {
-        TokenKind::Punctuator(punctuator) => matches!(
-            punctuator,
-            Punctuator::Slash
-                | Punctuator::Percent
-                | Punctuator::ShiftLeft
-                | Punctuator::ShiftRight
-                | Punctuator::SlashAssign
-                | Punctuator::PercentAssign
-                | Punctuator::ShiftLeftAssign
-                | Punctuator::ShiftRightAssign
-        ),
-        TokenKind::Identifier | TokenKind::Keyword(_) | TokenKind::Number(_, _) => false,
-    }
-}
-
-// The offsets of the operators that can go wrong in a text that has tokens.
-fn operators(alloc: Global, text: &[u8]) -> Result<Option<Vec<usize>>, AllocError> {
-    match tokens(alloc, text) {
-        Ok(tokens) => {
-            let offsets = tokens
-                .iter()
-                .filter(|token| can_go_wrong(**token))
-                .map(|token| token.from)
-                .collect(alloc);
-            drop(tokens);
-            Ok(Some(offsets?))
-        }
-        Err(fault) => {
-            drop(fault);
-            Ok(None)
-        }
-    }
-}
 
 fn of_index<'a>(
     alloc: Global,
@@ -195,38 +154,21 @@ fn of_replay(
     }
 }
 
-// What a walk over a unit writes, with operators at these offsets that can go wrong.
-fn walked<'a>(
-    alloc: Global,
-    unit: &'a Unit,
-    operators: Vec<usize>,
-) -> Result<Walk<'a>, AllocError> {
-    let mut walk = Walk::new(alloc, operators, None)?;
-    match walk.externals(unit.externals()) {
-        Ok(()) => Ok(walk),
-        Err(error) => {
-            drop(walk);
-            Err(error)
-        }
-    }
-}
-
-// What is told of a run of a unit with operators at these offsets that can go wrong.
-fn of_operators(
+// What is told of a run of a unit that becomes this code.
+fn of_code(
     alloc: Global,
     unit: &Unit,
-    operators: Vec<usize>,
+    code: &Code<'_>,
     run: Run<'_>,
 ) -> Result<Option<Diagnostic>, AllocError> {
     let words = words(alloc, unit)?;
-    let walk = walked(alloc, unit, operators)?;
-    let Some(main) = walk.function(b"main") else {
+    let Some(main) = code.function(b"main") else {
         return Ok(None);
     };
     let replay = Replay::new(
         alloc,
-        walk.code.as_slice(),
-        walk.functions.as_slice(),
+        code.instructions.as_slice(),
+        code.functions.as_slice(),
         run.input,
         words,
         run.steps,
@@ -236,10 +178,12 @@ fn of_operators(
 
 // What goes wrong in a run of a unit.
 fn of_unit(alloc: Global, unit: &Unit, run: Run<'_>) -> Result<Option<Diagnostic>, AllocError> {
-    match operators(alloc, unit.text())? {
-        Some(operators) => of_operators(alloc, unit, operators, run),
-        None => Ok(None),
-    }
+    let Some(code) = code_of(alloc, unit)? else {
+        return Ok(None);
+    };
+    let told = of_code(alloc, unit, &code, run);
+    drop(code);
+    told
 }
 
 /// What is told of a text's run on the words of an input, within `steps` steps, that `interpret` answers to go wrong for a cause: the

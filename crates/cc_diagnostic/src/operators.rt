@@ -1,0 +1,41 @@
+// The operators of a text that can go wrong, by their tokens.
+
+use cc_tokens::{Punctuator, Token, TokenKind, tokens};
+use std::alloc::{AllocError, Global};
+
+// The operators that can go wrong are these punctuators.
+fn can_go_wrong(token: Token) -> bool {
+    match token.kind {
+        TokenKind::Punctuator(punctuator) => matches!(
+            punctuator,
+            Punctuator::Slash
+                | Punctuator::Percent
+                | Punctuator::ShiftLeft
+                | Punctuator::ShiftRight
+                | Punctuator::SlashAssign
+                | Punctuator::PercentAssign
+                | Punctuator::ShiftLeftAssign
+                | Punctuator::ShiftRightAssign
+        ),
+        TokenKind::Identifier | TokenKind::Keyword(_) | TokenKind::Number(_, _) => false,
+    }
+}
+
+/// The offsets of the operators that can go wrong in a text that has tokens, in its order.
+pub fn operators(alloc: Global, text: &[u8]) -> Result<Option<Vec<usize>>, AllocError> {
+    match tokens(alloc, text) {
+        Ok(tokens) => {
+            let offsets = tokens
+                .iter()
+                .filter(|token| can_go_wrong(**token))
+                .map(|token| token.from)
+                .collect(alloc);
+            drop(tokens);
+            Ok(Some(offsets?))
+        }
+        Err(fault) => {
+            drop(fault);
+            Ok(None)
+        }
+    }
+}
