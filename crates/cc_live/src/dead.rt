@@ -27,8 +27,9 @@ pub fn drop_dead(alloc: Global, pair: &mut RtlPair, live: &Liveness) -> Result<(
 }
 
 /// Makes nops of all nodes that nobody needs: pure ones whose result only such nodes read, if any. All else of the pair stays, and its
-/// run still keeps up with the function. Afterwards no node is dead. Without memory the pair stays as it was.
-pub fn drop_faint(alloc: Global, pair: &mut RtlPair) -> Result<(), AllocError>
+/// run still keeps up with the function. Afterwards no node is dead. It answers the least live sets of what is left, as `liveness` would
+/// find them; no clause says so. Without memory the pair stays as it was.
+pub fn drop_faint(alloc: Global, pair: &mut RtlPair) -> Result<Liveness, AllocError>
     ensures unit { pair.new.unit ≡ pair.old.unit }
     ensures function { pair.new.function ≡ pair.old.function }
     ensures without { IfOk result (λ _. IsWithoutFaint pair.old.rtl pair.new.rtl) }
@@ -37,7 +38,7 @@ pub fn drop_faint(alloc: Global, pair: &mut RtlPair) -> Result<(), AllocError>
 {
     let live = solve(alloc, pair.code(), true)?;
     drop_by(alloc, pair, live.as_slice())?;
-    Ok(())
+    Ok(Liveness::new(live))
 }
 
 /// Makes nops of the nodes that are dead by strongly live sets, as any live sets are.
