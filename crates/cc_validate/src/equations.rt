@@ -226,6 +226,9 @@ fn is_entry_row(bits: &BitRows, parameters: u32, r: usize) -> bool
     ensures all { IsTrue result → (c : ℕ) → IsTrue (has bits.now r c) → IsEntryBit parameters r c }
     ensures other { IsFalse result → (c : ℕ) × IsTrue (has bits.now r c) × (IsEntryBit parameters r c → ⊥) }
 {
+    if bits.is_row_empty(r) {
+        return true;
+    }
     for c in 0..bits.columns() {
         if bits.contains(r, c) && !is_entry_bit(parameters, r, c) {
             return false;
