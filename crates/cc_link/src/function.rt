@@ -14,7 +14,7 @@ use cc_cminor::{CminorPair, to_cminor};
 use cc_colour::{colour, spill_all};
 use cc_emit::{Piece, emit};
 use cc_linear::linearise;
-use cc_live::{drop_faint, liveness};
+use cc_live::{Liveness, drop_faint};
 use cc_ltl::Ltl;
 use cc_rtl::{Rtl, RtlFault, RtlPair, to_rtl};
 use cc_typing::TypedUnit;
@@ -31,6 +31,13 @@ fn name_of(unit: &TypedUnit, function: usize) -> (usize, usize)
     (name.at, name.bytes.len())
 }
 
+// The RTL of a function, once the nodes that nobody needs have gone, and which registers are live where. Nothing rests on these sets.
+#[derive(Drop)]
+struct Pruned {
+    rtl: RtlPair,
+    live: Liveness,
+}
+
 /// The RTL of a function, once the nodes that nobody needs have gone.
 pub(crate) fn prepared(
     alloc: Global,
@@ -42,34 +49,53 @@ pub(crate) fn prepared(
     ensures function { IfOk result (λ pair. pair.function ≡ function) }
     ensures large { IfErr result (λ fault. fault ≡ FunctionTooLarge → IsLong (source (arc_value unit.now)).externals function) }
 {
+    match with_live_sets(alloc, unit, function) {
+        Ok(Pruned { rtl, live }) => {
+            drop(live);
+            Ok(rtl)
+        }
+        Err(fault) => Err(fault),
+    }
+}
+
+// The same with its live sets.
+fn with_live_sets(alloc: Global, unit: &Arc<TypedUnit>, function: usize) -> Result<Pruned, RtlFault>
+    requires { function < length (defined_names (source (arc_value unit.now))) }
+    ensures unit { IfOk result (λ made. made.rtl.unit ≡ arc_value unit.now) }
+    ensures function { IfOk result (λ made. made.rtl.function ≡ function) }
+    ensures large { IfErr result (λ fault. fault ≡ FunctionTooLarge → IsLong (source (arc_value unit.now)).externals function) }
+{
     match to_cminor(alloc, unit, function) {
         Ok(pair) => pruned(alloc, pair),
         Err(_) => Err(RtlFault::OutOfMemory),
     }
 }
 
-// The RTL of a function in Cminor, once the nodes that nobody needs have gone.
-fn pruned(alloc: Global, pair: CminorPair) -> Result<RtlPair, RtlFault>
+// The same of a function in Cminor.
+fn pruned(alloc: Global, pair: CminorPair) -> Result<Pruned, RtlFault>
     requires { AtMostTwelveAToken (source pair.unit).externals pair.function (code_of pair) }
-    ensures unit { IfOk result (λ made. made.unit ≡ pair.unit) }
-    ensures function { IfOk result (λ made. made.function ≡ pair.function) }
+    ensures unit { IfOk result (λ made. made.rtl.unit ≡ pair.unit) }
+    ensures function { IfOk result (λ made. made.rtl.function ≡ pair.function) }
     ensures large { IfErr result (λ fault. fault ≡ FunctionTooLarge → IsLong (source pair.unit).externals pair.function) }
 {
     let mut rtl = match to_rtl(alloc, pair) {
         Ok(rtl) => rtl,
         Err(fault) => return Err(fault),
     };
-    if drop_faint(alloc, &mut rtl).is_err() {
-        drop(rtl);
-        return Err(RtlFault::OutOfMemory);
+    match drop_faint(alloc, &mut rtl) {
+        Ok(live) => Ok(Pruned { rtl, live }),
+        Err(_) => {
+            drop(rtl);
+            Err(RtlFault::OutOfMemory)
+        }
     }
-    Ok(rtl)
 }
 
-// LTL by registers.
-fn coloured(alloc: Global, rtl: &Rtl) -> Result<Ltl, AllocError> {
-    let live = liveness(alloc, rtl)?;
-    colour(alloc, rtl, &live)
+// LTL by registers, of which these are live.
+fn coloured(alloc: Global, rtl: &Rtl, live: Liveness) -> Result<Ltl, AllocError> {
+    let ltl = colour(alloc, rtl, &live);
+    drop(live);
+    ltl
 }
 
 // Validated LTL in which each pseudo-register has a slot of its own.
@@ -93,11 +119,12 @@ fn spilled(alloc: Global, pair: RtlPair) -> Result<LtlPair, ValidateFault>
 }
 
 // LTL that the validator accepts: by registers, and with a slot for each value only where it refuses that.
-fn allocated(alloc: Global, pair: RtlPair) -> Result<LtlPair, ValidateFault>
-    ensures unit { IfOk result (λ made. made.unit ≡ pair.unit) }
-    ensures function { IfOk result (λ made. made.function ≡ pair.function) }
+fn allocated(alloc: Global, pruned: Pruned) -> Result<LtlPair, ValidateFault>
+    ensures unit { IfOk result (λ made. made.unit ≡ pruned.rtl.unit) }
+    ensures function { IfOk result (λ made. made.function ≡ pruned.rtl.function) }
 {
-    match coloured(alloc, pair.code()) {
+    let Pruned { rtl: pair, live } = pruned;
+    match coloured(alloc, pair.code(), live) {
         Ok(ltl) => match validate(alloc, pair, ltl) {
             Ok(made) => Ok(made),
             Err(
@@ -135,13 +162,13 @@ pub(crate) fn emitted(alloc: Global, pair: LtlPair) -> Result<Piece, AllocError>
 }
 
 // The piece of a function in RTL, whose name stands there.
-fn finished(alloc: Global, rtl: RtlPair, at: usize, length: usize) -> Result<Piece, PieceFault>
-    requires { IsNameAt (source rtl.unit).externals rtl.function at length }
-    ensures unit { IfOk result (λ piece. piece.unit ≡ rtl.unit) }
-    ensures function { IfOk result (λ piece. piece.function ≡ rtl.function) }
-    ensures refused { IfErr result (λ fault. IsPieceRefusal (source rtl.unit).externals rtl.function fault) }
+fn finished(alloc: Global, pruned: Pruned, at: usize, length: usize) -> Result<Piece, PieceFault>
+    requires { IsNameAt (source pruned.rtl.unit).externals pruned.rtl.function at length }
+    ensures unit { IfOk result (λ piece. piece.unit ≡ pruned.rtl.unit) }
+    ensures function { IfOk result (λ piece. piece.function ≡ pruned.rtl.function) }
+    ensures refused { IfErr result (λ fault. IsPieceRefusal (source pruned.rtl.unit).externals pruned.rtl.function fault) }
 {
-    let ltl = match allocated(alloc, rtl) {
+    let ltl = match allocated(alloc, pruned) {
         Ok(ltl) => ltl,
         Err(ValidateFault::Unvalidated { label }) => {
             return Err(PieceFault::Unvalidated { at, length, label });
@@ -170,8 +197,8 @@ pub fn compile_function(
     ensures refused { IfErr result (λ fault. IsPieceRefusal (source (arc_value unit.now)).externals function fault) }
 {
     let (at, length) = name_of(unit, function);
-    match prepared(alloc, unit, function) {
-        Ok(rtl) => finished(alloc, rtl, at, length),
+    match with_live_sets(alloc, unit, function) {
+        Ok(pruned) => finished(alloc, pruned, at, length),
         Err(RtlFault::FunctionTooLarge) => Err(PieceFault::FunctionTooLarge { at, length }),
         Err(RtlFault::OutOfMemory) => Err(PieceFault::OutOfMemory),
     }
