@@ -1,6 +1,6 @@
 -- A function whose dead nodes became nops: live sets of it, the labels of these nodes, and that by the least strongly live sets no node is
 -- dead any more.
-use Rattle.std.proofs.Common.{◌≡◌, ◌≢◌, ℕ, zero, suc, ◌<◌, List, [], ◌∷◌, refl, sym, ap, ◌∙◌, subst, Bool, true, false, ◌==◌, ◌&&◌, ◌||◌, not, if◌then◌else◌, IsTrue, arith, inl, inr, Contains, All}
+use Rattle.std.proofs.Common.{◌≡◌, ◌≢◌, ℕ, zero, suc, ◌<◌, List, [], ◌∷◌, get_or, refl, sym, ap, ◌∙◌, subst, Bool, true, false, ◌==◌, ◌&&◌, ◌||◌, not, if◌then◌else◌, IsTrue, arith, inl, inr, Contains, All}
 use Rattle.std.specs.Prelude.{Some, None, IsSome}
 use Rattle.std.proofs.lemmas.Bool.{or_cases, or_right, not-true, and_parts, and_from, ne_eqb, eq-eqb}
 use Rattle.std.proofs.lemmas.List.Elements.{All-weaker, All-contains_itself}
@@ -10,6 +10,8 @@ use Rattle.cc_rtl_language.specs.Live.{Sets, in_some, live_behind, Carries, AreL
 use Rattle.cc_rtl_language.specs.Positions.{position_of}
 use Rattle.cc_rtl_language.proofs.Nops.{Which, turned, these, node_turned, turned_from, successors_turned, same_turned}
 use Rattle.cc_rtl_language.proofs.Places.{placed}
+use Rattle.cc_rows.specs.Rows.{holds}
+use Rattle.cc_live.specs.Rows.{rows_at}
 use Rattle.cc_live.specs.Liveness.{LieWithin, AreLeastLive, CarriesStrongly, AreStronglyLive, AreLeastStronglyLive, without_dead, IsWithoutFaint, NothingIsDead}
 use Rattle.cc_live.specs.internal.Dead.{dead_labels}
 use Rattle.cc_live.specs.internal.Facts.{AreLeastAs}
@@ -183,6 +185,36 @@ is_without_faint old new live h e = record {
   is = e;
   least = subst (λ (r : Rtl). AreLeastLive r.nodes live) (sym e) (least_without old.nodes live (least_strongly old.nodes live h));
 }
+
+-- ---- its live sets as rows
+
+-- nodes that become nops keep their positions
+position_without : (which : Which) (ns : List Labelled) (label : ℕ) → position_of (with_nops which ns) label ≡ position_of ns label
+position_without which [] label = refl
+position_without which (n ∷ ns) label = ap (λ p. if n.label == label then 0 else suc p) (position_without which ns label)
+
+-- sets that hold the same are least live where one of them is
+same_least : (ns : List Labelled) (live same : Sets) → LieWithin live same → LieWithin same live → AreLeastLive ns live → AreLeastLive ns same
+same_least ns live same there back h = record {
+  are_live = λ label node e. let c = h.are_live label node e in record {
+    needed = λ r i. there label r (c.needed r i);
+    inherited = λ r i d. there label r (c.inherited r (behind_less same live back node r i) d);
+  };
+  least = λ other after label r held. h.least other after label r (back label r held);
+}
+
+-- the rows of the strongly live sets, beside the nodes that are left
+pub least_rows : (old new : Rtl) (rows : List (List ℕ)) → AreLeastAs true old.nodes (rows_at old.nodes rows) → new ≡ without_dead (rows_at old.nodes rows) old → AreLeastLive new.nodes (rows_at new.nodes rows)
+least_rows old new rows h e = subst (λ (r : Rtl). AreLeastLive r.nodes (rows_at r.nodes rows)) (sym e) (same_least left live (rows_at left rows) (λ label r i. at label r ∙ i) (λ label r i. sym (at label r) ∙ i) (least_without old.nodes live (least_strongly old.nodes live h)))
+  where
+    live : Sets
+    live = rows_at old.nodes rows
+
+    left : List Labelled
+    left = with_nops (dead live) old.nodes
+
+    at : (label r : ℕ) → rows_at left rows label r ≡ live label r
+    at label r = ap (λ p. holds (get_or rows p []) r) (position_without (dead live) old.nodes label)
 
 -- no node of it is dead
 pub nothing_dead : (old new : Rtl) → IsWithoutFaint old new → NothingIsDead new

@@ -1,12 +1,12 @@
 //! A function without its dead nodes.
 
-ghost use Rattle.std.specs.Prelude.{◌≡◌, [], get_or, All, IsSome, IfOk, IfErr};
+ghost use Rattle.std.specs.Prelude.{◌≡◌, [], get_or, length, All, IsSome, IfOk, IfErr};
 ghost use Rattle.cc_rtl_language.specs.Rtl.{node_at, successors};
 ghost use Rattle.cc_rtl_language.specs.Code.{node_of};
 ghost use Rattle.cc_rtl_language.specs.Live.{AreLive, is_dead as is_dead_by};
 ghost use Rattle.cc_rows.specs.Rows.{holds};
 ghost use Rattle.cc_live.specs.Rows.{rows_at};
-ghost use Rattle.cc_live.specs.Liveness.{AreStronglyLive, without_dead, IsWithoutFaint, NothingIsDead};
+ghost use Rattle.cc_live.specs.Liveness.{AreLeastLive, AreStronglyLive, without_dead, IsWithoutFaint, NothingIsDead};
 ghost use Rattle.cc_live.specs.internal.Dead.{dead_labels as dead_labels_of};
 
 use crate::set::{Liveness, RegisterSet};
@@ -27,13 +27,15 @@ pub fn drop_dead(alloc: Global, pair: &mut RtlPair, live: &Liveness) -> Result<(
 }
 
 /// Makes nops of all nodes that nobody needs: pure ones whose result only such nodes read, if any. All else of the pair stays, and its
-/// run still keeps up with the function. Afterwards no node is dead. It answers the least live sets of what is left, as `liveness` would
-/// find them; no clause says so. Without memory the pair stays as it was.
+/// run still keeps up with the function. Afterwards no node is dead. It answers the least live sets of what is left, as `liveness` of it
+/// does. Without memory the pair stays as it was.
 pub fn drop_faint(alloc: Global, pair: &mut RtlPair) -> Result<Liveness, AllocError>
     ensures unit { pair.new.unit ≡ pair.old.unit }
     ensures function { pair.new.function ≡ pair.old.function }
     ensures without { IfOk result (λ _. IsWithoutFaint pair.old.rtl pair.new.rtl) }
     ensures nothing_dead { IfOk result (λ _. NothingIsDead pair.new.rtl) }
+    ensures long { IfOk result (λ live. length live ≡ length pair.new.rtl.nodes) }
+    ensures live { IfOk result (λ live. AreLeastLive pair.new.rtl.nodes (rows_at pair.new.rtl.nodes live)) }
     ensures leaves { IfErr result (λ _. pair.new ≡ pair.old) }
 {
     let live = solve(alloc, pair.code(), true)?;

@@ -1,11 +1,13 @@
 -- By the least strongly live sets what is dropped is all that nobody needs.
-use Rattle.std.proofs.Common.{◌≡◌, true, ap, sym, subst, List, ℕ}
+use Rattle.std.proofs.Common.{◌≡◌, ◌∙◌, true, ap, sym, subst, List, ℕ, length}
 use Rattle.cc_rtl_language.specs.Rtl.{Rtl}
 use Rattle.cc_rtl_language.specs.Pair.{Pair}
+use Rattle.cc_rtl_language.proofs.Nops.{length_turned}
 use Rattle.cc_live.specs.Rows.{rows_at}
 use Rattle.cc_live.specs.internal.Facts.{AreLeastAs}
 use Rattle.cc_live.proofs.Solved.{strongly}
-use Rattle.cc_live.proofs.Dropped.{is_without_faint, nothing_dead}
+use Rattle.cc_live.specs.Liveness.{AreLeastLive}
+use Rattle.cc_live.proofs.Dropped.{dead, is_without_faint, least_rows, nothing_dead}
 use Rattle.cc_live.proofs.dead.drop_faint.Goals as goal
 
 -- the sets as `drop_by` takes them
@@ -28,3 +30,20 @@ returns-clause-without c =
 
 pub returns-clause-nothing_dead : goal.returns-clause-nothing_dead
 returns-clause-nothing_dead c = nothing_dead c.args.pair.now.rtl c.drop_by.new.pair.rtl (returns-clause-without c)
+
+pub returns-clause-long : goal.returns-clause-long
+returns-clause-long c =
+    let nodes = c.args.pair.now.rtl.nodes in
+    let rows = c.as_slice.result.now in
+    ap (λ (rows : List (List ℕ)). length rows) (c.new.ensures ∙ sym c.as_slice.ensures.value)
+    ∙ (ap (λ (rows : List (List ℕ)). length rows) c.as_slice.ensures.value ∙ (c.in_ok-live.ensures.long ∙ (ap (λ (r : Rtl). length r.nodes) c.code.ensures.code
+    ∙ (sym (length_turned (dead (rows_at nodes rows)) nodes) ∙ sym (ap (λ (p : Pair). length p.rtl.nodes) c.in_ok-drop_by.ensures.dropped)))))
+
+pub returns-clause-live : goal.returns-clause-live
+returns-clause-live c =
+    let nodes = c.args.pair.now.rtl.nodes in
+    let left = c.drop_by.new.pair.rtl.nodes in
+    subst (λ (rows : List (List ℕ)). AreLeastLive left (rows_at left rows)) (c.as_slice.ensures.value ∙ sym c.new.ensures)
+    (least_rows c.args.pair.now.rtl c.drop_by.new.pair.rtl c.as_slice.result.now
+    (least c.args.pair.now.rtl c.code.result.now c.as_slice.result.now c.in_ok-live.live.items c.code.ensures.code c.as_slice.ensures.value c.in_ok-live.ensures.least)
+    (ap (λ (p : Pair). p.rtl) c.in_ok-drop_by.ensures.dropped))

@@ -1,8 +1,8 @@
 -- Inside, the position's node carries; past the end nothing is made.
-use Rattle.std.proofs.Common.{◌≡◌, sym, subst, IfOk}
+use Rattle.std.proofs.Common.{sym, subst, IfOk}
 use Rattle.cc_flow.specs.Lattice.{Equivalent}
 use Rattle.cc_rtl_language.specs.Code.{node_of}
-use Rattle.cc_live.specs.internal.Facts.{Below, nothing, live_before, carries}
+use Rattle.cc_live.specs.internal.Facts.{Below, live_before}
 use Rattle.cc_live.proofs.Nodes.{carries_at, carries_past, least_same, same_both_ways}
 use Rattle.cc_live.proofs.transfer.CodeTransferRegisterSet.apply.Goals as goal
 
