@@ -10,6 +10,8 @@ mod build;
 #[cfg(test)]
 mod comparisons;
 #[cfg(test)]
+mod earlier;
+#[cfg(test)]
 mod helpers;
 #[cfg(test)]
 mod limits;

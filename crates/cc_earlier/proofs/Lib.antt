@@ -1,0 +1,3 @@
+mod Texts
+mod Runs
+mod Images

@@ -1,0 +1,60 @@
+-- A text that had a typed unit before there were arrays of `unsigned char` has the same unit and the same behavior, and an image that agreed
+-- with it agrees. What was is said by clauses as they stood: of the grammar, the rules and the limits by those of `Texts`, of a run by
+-- `Meaning`. What is left to reading is that each other clause that they lead to has its text, as those pages say, and that the machine
+-- and `Follows` have theirs.
+use Rattle.std.specs.Prelude.{◌≡◌, ℕ, true, List, []}
+use Rattle.cc_rv32.specs.declared.image.Image.{Image}
+use Rattle.cc_tokens.specs.Token.{Lexeme}
+use Rattle.cc_tokens.specs.Tokens.{IsTokens}
+use Rattle.cc_ast.specs.Tree.{External, Source}
+use Rattle.cc_ast.specs.Parse.{SpellsText}
+use Rattle.cc_typing.specs.Scope.{first_file_scope}
+use Rattle.cc_typing.specs.Rules.{defines_main, undefined_calls}
+use Rattle.cc_typing.specs.Checked.{IsChecked}
+use Rattle.cc_typing.specs.Verdict.{source_with}
+use Rattle.cc_semantics.specs.Meaning.{source_behavior}
+use Rattle.cc_semantics.specs.Numbered.{without_cause}
+use Rattle.cc_runs.specs.Behavior.{AreWords, Outcome, Follows}
+use Rattle.cc_link.specs.Agree.{image_behavior, Agree}
+use Rattle.cc_earlier.specs.Texts.{HasNoChar, EarlierText, earlier_externals_errors, earlier_excesses}
+use Rattle.cc_earlier.specs.Meaning as earlier
+
+-- a tree broke no rule, defined main, and defined each function that it called
+abbrev pub EarlierTyped : List External → Type 0
+EarlierTyped tree = (earlier_externals_errors tree first_file_scope ≡ []) × (defines_main tree ≡ true) × (undefined_calls tree ≡ [])
+
+-- what a program did on an input, within a number of steps
+abbrev pub earlier_program_behavior : Source → (input : List ℕ) → ℕ → Outcome ℕ
+earlier_program_behavior source input n = without_cause (earlier.source_behavior source input n)
+
+-- the tree that the text had, and that the image's run followed its run
+pub record EarlierAgreement (text : List ℕ) (image : Image) : Type 0 where
+  pub tree : List External
+  pub spelled : EarlierText text tree
+  pub typed : EarlierTyped tree
+  pub follows : (input : List ℕ) → AreWords input → Follows (earlier_program_behavior (source_with text tree) input) (image_behavior image input)
+
+-- they agreed
+abbrev pub EarlierAgree : List ℕ → Image → Type 0
+EarlierAgree text image = ∥ EarlierAgreement text image ∥₁
+
+-- a text that had a typed unit within the limits has it
+abbrev pub EarlierUnitsStay : Type 0
+EarlierUnitsStay =
+    (text : List ℕ) (tree : List External) → EarlierText text tree → EarlierTyped tree → earlier_excesses tree ≡ []
+    → SpellsText text tree × IsChecked (source_with text tree)
+
+-- the program of a text that had a tree does what it did, on each input within each number of steps
+abbrev pub EarlierProgramsStay : Type 0
+EarlierProgramsStay =
+    (text : List ℕ) (tree : List External) → EarlierText text tree
+    → (input : List ℕ) (n : ℕ) → source_behavior (source_with text tree) input n ≡ earlier.source_behavior (source_with text tree) input n
+
+-- an image that agreed with a text agrees with it
+abbrev pub EarlierImagesAgree : Type 0
+EarlierImagesAgree = (text : List ℕ) (image : Image) → EarlierAgree text image → Agree text image
+
+-- and no image agrees with a text without the word `char` that did not
+abbrev pub NoAgreementIsNew : Type 0
+NoAgreementIsNew =
+    (text : List ℕ) (tokens : List Lexeme) (image : Image) → IsTokens text tokens → HasNoChar tokens → Agree text image → EarlierAgree text image

@@ -1,0 +1,31 @@
+// What holds of the texts of before, by the clauses as they stood and as they stand.
+
+ghost use Rattle.cc_earlier.specs.Texts.{EarlierTreesStay, NoTreeIsNew, EarlierRulesStay, EarlierMeaningStays};
+ghost use Rattle.cc_earlier.specs.Images.{EarlierImagesAgree, EarlierProgramsStay, EarlierUnitsStay, NoAgreementIsNew};
+
+use cc_syntax::trees_are_determined;
+use cc_tokens::tokens_are_determined;
+
+/// A text that had a tree before there were arrays of `unsigned char` has it now, and no other; it keeps the rules and limits that it
+/// kept, and each clause of the meaning does what it did. A text without the word `char` has no tree that it had not.
+pub fn earlier_texts_stay()
+    ensures trees { EarlierTreesStay }
+    ensures none_new { NoTreeIsNew }
+    ensures rules { EarlierRulesStay }
+    ensures meaning { EarlierMeaningStays }
+{
+    tokens_are_determined();
+    trees_are_determined();
+}
+
+/// A text that had a typed unit before there were arrays of `unsigned char` has it now, and its program does what it did; an image that
+/// agreed with the text agrees with it, and none agrees with a text without the word `char` that did not.
+pub fn earlier_images_agree()
+    ensures units { EarlierUnitsStay }
+    ensures programs { EarlierProgramsStay }
+    ensures images { EarlierImagesAgree }
+    ensures none_new { NoAgreementIsNew }
+{
+    tokens_are_determined();
+    earlier_texts_stay();
+}
