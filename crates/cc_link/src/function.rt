@@ -33,7 +33,7 @@ fn name_of(unit: &TypedUnit, function: usize) -> (usize, usize)
 
 // The RTL of a function, once the nodes that nobody needs have gone, and which registers are live where. Nothing rests on these sets.
 #[derive(Drop)]
-struct Pruned {
+struct Colourable {
     rtl: RtlPair,
     live: Liveness,
 }
@@ -50,7 +50,7 @@ pub(crate) fn prepared(
     ensures large { IfErr result (λ fault. fault ≡ FunctionTooLarge → IsLong (source (arc_value unit.now)).externals function) }
 {
     match with_live_sets(alloc, unit, function) {
-        Ok(Pruned { rtl, live }) => {
+        Ok(Colourable { rtl, live }) => {
             drop(live);
             Ok(rtl)
         }
@@ -59,7 +59,11 @@ pub(crate) fn prepared(
 }
 
 // The same with its live sets.
-fn with_live_sets(alloc: Global, unit: &Arc<TypedUnit>, function: usize) -> Result<Pruned, RtlFault>
+fn with_live_sets(
+    alloc: Global,
+    unit: &Arc<TypedUnit>,
+    function: usize,
+) -> Result<Colourable, RtlFault>
     requires { function < length (defined_names (source (arc_value unit.now))) }
     ensures unit { IfOk result (λ made. made.rtl.unit ≡ arc_value unit.now) }
     ensures function { IfOk result (λ made. made.rtl.function ≡ function) }
@@ -72,7 +76,7 @@ fn with_live_sets(alloc: Global, unit: &Arc<TypedUnit>, function: usize) -> Resu
 }
 
 // The same of a function in Cminor.
-fn pruned(alloc: Global, pair: CminorPair) -> Result<Pruned, RtlFault>
+fn pruned(alloc: Global, pair: CminorPair) -> Result<Colourable, RtlFault>
     requires { AtMostTwelveAToken (source pair.unit).externals pair.function (code_of pair) }
     ensures unit { IfOk result (λ made. made.rtl.unit ≡ pair.unit) }
     ensures function { IfOk result (λ made. made.rtl.function ≡ pair.function) }
@@ -83,7 +87,7 @@ fn pruned(alloc: Global, pair: CminorPair) -> Result<Pruned, RtlFault>
         Err(fault) => return Err(fault),
     };
     match drop_faint(alloc, &mut rtl) {
-        Ok(live) => Ok(Pruned { rtl, live }),
+        Ok(live) => Ok(Colourable { rtl, live }),
         Err(_) => {
             drop(rtl);
             Err(RtlFault::OutOfMemory)
@@ -119,11 +123,11 @@ fn spilled(alloc: Global, pair: RtlPair) -> Result<LtlPair, ValidateFault>
 }
 
 // LTL that the validator accepts: by registers, and with a slot for each value only where it refuses that.
-fn allocated(alloc: Global, pruned: Pruned) -> Result<LtlPair, ValidateFault>
-    ensures unit { IfOk result (λ made. made.unit ≡ pruned.rtl.unit) }
-    ensures function { IfOk result (λ made. made.function ≡ pruned.rtl.function) }
+fn allocated(alloc: Global, colourable: Colourable) -> Result<LtlPair, ValidateFault>
+    ensures unit { IfOk result (λ made. made.unit ≡ colourable.rtl.unit) }
+    ensures function { IfOk result (λ made. made.function ≡ colourable.rtl.function) }
 {
-    let Pruned { rtl: pair, live } = pruned;
+    let Colourable { rtl: pair, live } = colourable;
     match coloured(alloc, pair.code(), live) {
         Ok(ltl) => match validate(alloc, pair, ltl) {
             Ok(made) => Ok(made),
@@ -162,13 +166,18 @@ pub(crate) fn emitted(alloc: Global, pair: LtlPair) -> Result<Piece, AllocError>
 }
 
 // The piece of a function in RTL, whose name stands there.
-fn finished(alloc: Global, pruned: Pruned, at: usize, length: usize) -> Result<Piece, PieceFault>
-    requires { IsNameAt (source pruned.rtl.unit).externals pruned.rtl.function at length }
-    ensures unit { IfOk result (λ piece. piece.unit ≡ pruned.rtl.unit) }
-    ensures function { IfOk result (λ piece. piece.function ≡ pruned.rtl.function) }
-    ensures refused { IfErr result (λ fault. IsPieceRefusal (source pruned.rtl.unit).externals pruned.rtl.function fault) }
+fn finished(
+    alloc: Global,
+    colourable: Colourable,
+    at: usize,
+    length: usize,
+) -> Result<Piece, PieceFault>
+    requires { IsNameAt (source colourable.rtl.unit).externals colourable.rtl.function at length }
+    ensures unit { IfOk result (λ piece. piece.unit ≡ colourable.rtl.unit) }
+    ensures function { IfOk result (λ piece. piece.function ≡ colourable.rtl.function) }
+    ensures refused { IfErr result (λ fault. IsPieceRefusal (source colourable.rtl.unit).externals colourable.rtl.function fault) }
 {
-    let ltl = match allocated(alloc, pruned) {
+    let ltl = match allocated(alloc, colourable) {
         Ok(ltl) => ltl,
         Err(ValidateFault::Unvalidated { label }) => {
             return Err(PieceFault::Unvalidated { at, length, label });
@@ -198,7 +207,7 @@ pub fn compile_function(
 {
     let (at, length) = name_of(unit, function);
     match with_live_sets(alloc, unit, function) {
-        Ok(pruned) => finished(alloc, pruned, at, length),
+        Ok(colourable) => finished(alloc, colourable, at, length),
         Err(RtlFault::FunctionTooLarge) => Err(PieceFault::FunctionTooLarge { at, length }),
         Err(RtlFault::OutOfMemory) => Err(PieceFault::OutOfMemory),
     }
