@@ -4,7 +4,8 @@
 //! history of its calls, `entering` puts an entry into it, `book` the value of the lock round it, whose type keeps the tie to the
 //! crash theorem, `laws` what a call is on the protocol core, `closing` the end. `compiling` is the way from a text to a unit by the
 //! workers, `desk` makes the clients, `answers` is what looks answer, `service` the whole.
-//! It hands out `Service`, `Named`, `Fresh`, `Client`, `Found`, `Listing`, `Closed`, `ServiceFault`, and the book with `close` and the laws.
+//! It hands out `Service`, `Named`, `Fresh`, `Client`, `Found`, `Listing`, `Closed`, `ServiceFault`, and the book with `close` and the laws;
+//! and the gate of `cc_pool` that a service takes.
 #![tactic(auto)]
 
 mod answers;
@@ -22,6 +23,7 @@ mod service;
 
 pub use answers::{Found, Listing};
 pub use book::Book;
+pub use cc_pool::{Gate, NoGate};
 pub use client::Client;
 pub use closing::{Closed, close};
 pub use fault::{BookFault, ServiceFault};

@@ -9,7 +9,7 @@ use crate::end::SessionEnd;
 use crate::serving::{Served, serve};
 use crate::steward::Steward;
 use cc_disk::Disk;
-use cc_pool::NoGate;
+use cc_service::NoGate;
 use cc_spool::Spool;
 use std::alloc::Global;
 use std::io::Write;

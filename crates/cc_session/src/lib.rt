@@ -7,7 +7,7 @@
 //! `words` has what a person is told of a fault, `end` is how a session ended. Which commands a script has is the matter of `cc_script`,
 //! where scripts come from that of `cc_spool`.
 //! It hands out `session`, `session_and_explain`, `serve`, `serve_on`, `Served`, `attend`, `play` and `SessionEnd`; `Bounds`, `BOUNDS`,
-//! `Meter`; `Steward`, `NoSteward`, `Generation`, `GenerationEnd`; and what writes and explains a fault of the disk.
+//! `Meter`; `Steward`, `NoSteward`, `Generation`, `GenerationEnd`; `Gate`, `NoGate`; and what writes and explains a fault of the disk.
 #![tactic(auto)]
 
 mod attending;
@@ -25,6 +25,7 @@ mod words;
 
 pub use attending::{attend, play};
 pub use bounds::{BOUNDS, Bounds, Meter};
+pub use cc_service::{Gate, NoGate};
 pub use end::SessionEnd;
 pub use generations::serve_on;
 pub use running::{session, session_and_explain};

@@ -6,8 +6,7 @@ use crate::spools::{
     spool_of, without_numbers,
 };
 use cc_disk::MemoryDisk;
-use cc_pool::NoGate;
-use cc_session::{BOUNDS, NoSteward, Served, SessionEnd, serve, session};
+use cc_session::{BOUNDS, NoGate, NoSteward, Served, SessionEnd, serve, session};
 use cc_spool::MemorySpool;
 use std::alloc::{AllocError, Global};
 use std::io;
