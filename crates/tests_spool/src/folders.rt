@@ -1,13 +1,11 @@
 // A spool in a real folder: which things in `new` are scripts, what a start makes of what a kill left, and when an answer gives way to 54.
 
-use cc_spool::{
-    FolderSpool, Held, Layout, Recovered, Spool, Submission, clear_old, count_entries, recover,
-    submit, take_folder,
+use crate::helpers::{
+    End, Folder, Meanwhile, answer, answer_one, clears, counts, done, ends_so, must, recovered,
+    renumber_one, second,
 };
-use std::fs::{self, OpenOptions, Permissions};
-use std::io::{self, Read, Write};
-use std::os::unix::fs::{MetadataExt, PermissionsExt, symlink};
-use std::test::Fail;
+use cc_spool::{FolderSpool, Layout, Recovered, Spool};
+use std::io::{self, Write};
 use std::thread;
 use std::time::Duration;
 
@@ -29,7 +27,7 @@ struct Row {
     is_script: bool,
 }
 
-const ROWS: [Row; 10] = [
+static ROWS: [Row; 10] = [
     Row {
         name: "plain",
         thing: Thing::File("list\n"),
@@ -82,85 +80,47 @@ const ROWS: [Row; 10] = [
     },
 ];
 
-// The path of a file in a part of a folder.
-fn path_in(rt: &HostRuntime, folder: &str, part: &str, name: &str) -> io::Result<String> {
-    Ok(format!(in rt.alloc(); "{folder}/{part}/{name}")?)
-}
-
-// A new folder with its parts, and its lock.
-fn made(rt: &HostRuntime, folder: &str) -> io::Result<(Layout, Held)> {
-    let mut layout = Layout::new(*rt, rt.alloc(), folder)?;
-    match take_folder(&mut layout, 1)? {
-        Some(held) => Ok((layout, held)),
-        None => Err(io::Error::from(io::ErrorKind::WouldBlock)),
-    }
-}
-
-fn put(rt: &HostRuntime, folder: &str, row: Row) -> io::Result<()> {
-    let path = path_in(rt, folder, "new", row.name)?;
+// Puts a row's thing into `new`.
+fn put(folder: Folder, row: &Row) -> bool {
     match row.thing {
-        Thing::File(text) => fs::write(rt, path.as_str(), text),
-        Thing::Sparse(bytes) => OpenOptions::new()
-            .write(true)
-            .create_new(true)
-            .open(rt, path.as_str())?
-            .set_len(bytes),
-        Thing::Link => symlink(rt, "/etc/hostname", path.as_str()),
-        Thing::Directory => fs::create_dir(rt, path.as_str()),
+        Thing::File(text) => folder.write("new", row.name, text),
+        Thing::Sparse(bytes) => {
+            folder.write("new", row.name, "") && folder.set_length("new", row.name, bytes)
+        }
+        Thing::Link => folder.link("new", row.name, "/etc/hostname"),
+        Thing::Directory => folder.make("new", row.name),
     }
 }
 
-fn is_there(rt: &HostRuntime, folder: &str, part: &str, name: &str) -> io::Result<bool> {
-    let path = path_in(rt, folder, part, name)?;
-    Ok(fs::symlink_metadata(rt, path.as_str()).is_ok())
-}
-
-// Takes what waits, and answers each; how many scripts that were.
-fn done(spool: &mut FolderSpool) -> io::Result<usize> {
-    for count in 0..20 {
-        let Some((script, mut answer)) = spool.next() else {
-            return Ok(count);
-        };
-        answer.write_all(b"ok\n")?;
-        spool.deliver(script, answer, None);
-    }
-    Ok(20)
+// Puts a script into `new`.
+fn put_plain(folder: Folder) -> bool {
+    folder.write("new", "plain", "list\n")
 }
 
 // Whether a row is as it should be behind the server: answered, or untouched.
-fn is_right(rt: &HostRuntime, folder: &str, row: Row) -> io::Result<bool> {
-    let is_answered = is_there(rt, folder, "done", row.name)?;
-    let is_waiting = is_there(rt, folder, "new", row.name)?;
-    Ok(is_answered == row.is_script && is_waiting != row.is_script)
+fn is_right(folder: Folder, row: &Row) -> bool {
+    folder.is_there("done", row.name) == row.is_script
+        && folder.is_there("new", row.name) != row.is_script
 }
 
 #[test]
-fn which_things_are_scripts(rt: HostRuntime) -> Result<(), Fail> {
-    let folder = "which_things_are_scripts.spool";
-    let (layout, held) = made(&rt, folder)?;
-    for row in ROWS {
-        put(&rt, folder, row)?;
+fn which_things_are_scripts(rt: HostRuntime) {
+    let path = "which_things_are_scripts.spool";
+    let folder = Folder { rt, path };
+    let (layout, held) = folder.take().expect(&rt, "a folder");
+    for row in &ROWS {
+        must(&rt, put(folder, row), row.name);
     }
     let mut spool = FolderSpool::new(layout, 100);
-    assert!(rt; done(&mut spool)? == 4);
-    assert!(rt; spool.answered() == 4);
-    for row in ROWS {
-        assert!(rt; is_right(&rt, folder, row)?);
+    must(&rt, done(folder, &mut spool) == 4, "four are scripts");
+    must(&rt, spool.answered() == 4, "four are answered");
+    for row in &ROWS {
+        must(&rt, is_right(folder, row), row.name);
     }
-    assert!(rt; !spool.is_over());
-    let stop = format!(in rt.alloc(); "{folder}/stop")?;
-    fs::write(&rt, stop.as_str(), "")?;
-    assert!(rt; spool.is_over());
-    drop(spool);
-    drop(held);
-    fs::remove_dir_all(&rt, folder)?;
-    Ok(())
-}
-
-// What stands at a path in `done`.
-fn answer_of(rt: &HostRuntime, folder: &str, name: &str) -> io::Result<String> {
-    let path = path_in(rt, folder, "done", name)?;
-    fs::read_to_string(rt, path.as_str())
+    must(&rt, !spool.is_over(), "it goes on");
+    must(&rt, folder.write(".", "stop", ""), "a stop");
+    must(&rt, spool.is_over(), "it is stopped");
+    must(&rt, folder.end_spool(spool, held), "its end");
 }
 
 // A state of `cur` that a kill leaves, and what the next start hands over.
@@ -172,7 +132,7 @@ struct State {
     handed: Option<&'static str>,
 }
 
-const STATES: [State; 7] = [
+static STATES: [State; 7] = [
     State {
         name: "not-claimed",
         is_claimed: false,
@@ -217,174 +177,142 @@ const STATES: [State; 7] = [
     },
 ];
 
-fn leave(rt: &HostRuntime, folder: &str, state: State) -> io::Result<()> {
-    if state.is_claimed {
-        let path = path_in(rt, folder, "cur", state.name)?;
-        fs::write(rt, path.as_str(), "list\n")?;
+// Leaves a state of `cur`.
+fn leave(folder: Folder, state: &State) -> bool {
+    let Ok(answer) = format!(in folder.rt.alloc(); "{}.answer", state.name) else {
+        return false;
+    };
+    let is_claimed = !state.is_claimed || folder.write("cur", state.name, "list\n");
+    match state.answer {
+        Some(text) => is_claimed && folder.write("cur", answer.as_str(), text),
+        None => is_claimed,
     }
-    if let Some(text) = state.answer {
-        let path = format!(in rt.alloc(); "{folder}/cur/{}.answer", state.name)?;
-        fs::write(rt, path.as_str(), text)?;
-    }
-    Ok(())
 }
 
-fn is_recovered(rt: &HostRuntime, folder: &str, state: State) -> io::Result<bool> {
+// Whether a start handed over what it should.
+fn is_recovered(folder: Folder, state: &State) -> bool {
     match state.handed {
-        Some(text) => Ok(answer_of(rt, folder, state.name)?.as_str() == text),
-        None => Ok(!is_there(rt, folder, "done", state.name)?),
+        Some(text) => folder.has_text("done", state.name, text),
+        None => !folder.is_there("done", state.name),
     }
-}
-
-fn is_empty(rt: &HostRuntime, folder: &str, part: &str) -> io::Result<bool> {
-    let path = format!(in rt.alloc(); "{folder}/{part}")?;
-    Ok(fs::read_dir(rt, path.as_str())?.next().is_none())
 }
 
 #[test]
-fn what_a_kill_left(rt: HostRuntime) -> Result<(), Fail> {
-    let folder = "what_a_kill_left.spool";
-    let (layout, held) = made(&rt, folder)?;
-    for state in STATES {
-        leave(&rt, folder, state)?;
+fn what_a_kill_left(rt: HostRuntime) {
+    let path = "what_a_kill_left.spool";
+    let folder = Folder { rt, path };
+    let (layout, held) = folder.take().expect(&rt, "a folder");
+    for state in &STATES {
+        must(&rt, leave(folder, state), state.name);
     }
-    let Recovered { begun, kept } = recover(&layout)?;
-    assert!(rt; begun == 5 && kept.is_empty());
-    for state in STATES {
-        assert!(rt; is_recovered(&rt, folder, state)?);
+    let Recovered { begun, kept } = recovered(&layout).expect(&rt, "a start");
+    must(&rt, begun == 5 && kept.is_empty(), "five were begun");
+    for state in &STATES {
+        must(&rt, is_recovered(folder, state), state.name);
     }
-    assert!(rt; is_empty(&rt, folder, "cur")?);
-    drop(layout);
-    drop(held);
-    fs::remove_dir_all(&rt, folder)?;
-    Ok(())
+    must(&rt, folder.has("cur", 0), "nothing is left");
+    must(&rt, folder.end(layout, held), "its end");
 }
 
-// When the answer of a script in `cur` was last written.
-fn written(rt: &HostRuntime, folder: &str, name: &str) -> io::Result<(i64, i64)> {
-    let path = format!(in rt.alloc(); "{folder}/cur/{name}.answer")?;
-    let found = fs::symlink_metadata(rt, path.as_str())?;
-    Ok((found.mtime(), found.mtime_nsec()))
+// Whether three looks find nothing to do, nor hand over what is kept.
+fn is_idle(folder: Folder, spool: &mut FolderSpool) -> bool {
+    for _ in 0..3 {
+        if done(folder, spool) != 0 {
+            return false;
+        }
+    }
+    spool.answered() == 0 && spool.kept() == 3
 }
 
 #[test]
-fn what_a_start_could_not_hand_over(rt: HostRuntime) -> Result<(), Fail> {
-    let folder = "what_a_start_could_not_hand_over.spool";
-    let (layout, held) = made(&rt, folder)?;
+fn what_a_start_could_not_hand_over(rt: HostRuntime) {
+    let path = "what_a_start_could_not_hand_over.spool";
+    let folder = Folder { rt, path };
+    let (layout, held) = folder.take().expect(&rt, "a folder");
     // Three that were begun.
     for state in &STATES[1..4] {
-        leave(&rt, folder, *state)?;
-        fs::create_dir(&rt, path_in(&rt, folder, "done", state.name)?.as_str())?;
+        let is_left = leave(folder, state) && folder.make("done", state.name);
+        must(&rt, is_left, state.name);
     }
-    let Recovered { begun, kept } = recover(&layout)?;
-    assert!(rt; begun == 0 && kept.len() == 3);
+    let Recovered { begun, kept } = recovered(&layout).expect(&rt, "a start");
+    must(&rt, begun == 0 && kept.len() == 3, "three are kept");
     let mut spool = FolderSpool::new(layout, 100);
     spool.keep(kept);
-    for _ in 0..3 {
-        assert!(rt; done(&mut spool)? == 0);
-    }
-    assert!(rt; spool.answered() == 0 && spool.kept() == 3);
+    must(&rt, is_idle(folder, &mut spool), "none is handed over");
     // An answer that is whole is not written again.
-    let moment = written(&rt, folder, STATES[2].name)?;
+    let answer = "in-a-line.answer";
+    let before = folder.see("cur", answer);
     thread::sleep(&rt, Duration::from_millis(20));
-    for _ in 0..3 {
-        assert!(rt; done(&mut spool)? == 0);
-    }
-    assert!(rt; written(&rt, folder, STATES[2].name)? == moment);
+    must(&rt, is_idle(folder, &mut spool), "nor later");
+    must(&rt, folder.is_as_seen("cur", answer, before), answer);
     for state in &STATES[1..4] {
-        fs::remove_dir(&rt, path_in(&rt, folder, "done", state.name)?.as_str())?;
+        must(&rt, folder.unmake("done", state.name), state.name);
     }
     // They go together.
-    assert!(rt; done(&mut spool)? == 0);
-    assert!(rt; spool.answered() == 3 && spool.kept() == 0);
+    must(&rt, done(folder, &mut spool) == 0, "no script is done");
+    let is_over = spool.answered() == 3 && spool.kept() == 0;
+    must(&rt, is_over, "three are handed over");
     for state in &STATES[1..4] {
-        assert!(rt; is_recovered(&rt, folder, *state)?);
+        must(&rt, is_recovered(folder, state), state.name);
     }
-    drop(spool);
-    drop(held);
-    fs::remove_dir_all(&rt, folder)?;
-    Ok(())
+    must(&rt, folder.end_spool(spool, held), "its end");
 }
 
 #[test]
-fn a_script_under_both_names(rt: HostRuntime) -> Result<(), Fail> {
-    let folder = "a_script_under_both_names.spool";
-    let (layout, held) = made(&rt, folder)?;
-    put(&rt, folder, ROWS[0])?;
-    let waiting = path_in(&rt, folder, "new", "plain")?;
-    let claimed = path_in(&rt, folder, "cur", "plain")?;
-    fs::hard_link(&rt, waiting.as_str(), claimed.as_str())?;
-    drop(recover(&layout)?);
-    assert!(rt; is_empty(&rt, folder, "new")? && is_empty(&rt, folder, "cur")?);
-    drop(layout);
-    drop(held);
-    fs::remove_dir_all(&rt, folder)?;
-    Ok(())
+fn a_script_under_both_names(rt: HostRuntime) {
+    let path = "a_script_under_both_names.spool";
+    let folder = Folder { rt, path };
+    let (layout, held) = folder.take().expect(&rt, "a folder");
+    must(&rt, put_plain(folder), "a script");
+    must(&rt, folder.link_hard("new", "cur", "plain"), "a claim");
+    must(&rt, recovered(&layout).is_some(), "a start");
+    must(&rt, folder.has("new", 0), "`new` is empty");
+    must(&rt, folder.has("cur", 0), "`cur` is empty");
+    must(&rt, folder.end(layout, held), "its end");
 }
 
 #[test]
-fn an_answer_over_its_limit(rt: HostRuntime) -> Result<(), Fail> {
-    let folder = "an_answer_over_its_limit.spool";
-    let (layout, held) = made(&rt, folder)?;
-    put(&rt, folder, ROWS[0])?;
+fn an_answer_over_its_limit(rt: HostRuntime) {
+    let path = "an_answer_over_its_limit.spool";
+    let folder = Folder { rt, path };
+    let (layout, held) = folder.take().expect(&rt, "a folder");
+    must(&rt, put_plain(folder), "a script");
     let mut spool = FolderSpool::new(layout, 1);
-    let taken = spool.next();
-    assert!(rt; taken.is_some());
-    if let Some((script, mut answer)) = taken {
-        let piece = [b'1'; 4096];
-        for _ in 0..4096 {
-            answer.write_all(&piece)?;
-        }
-        assert!(rt; answer.write(b"1").is_err());
-        // What was refused stays so, and a later line is not written behind the gap.
-        assert!(rt; answer.write(b"").is_err() && answer.flush().is_err());
-        spool.deliver(script, answer, None);
-    }
-    assert!(rt; answer_of(&rt, folder, "plain")?.as_str() == "fault 54 WriteFault\n");
-    assert!(rt; spool.is_over());
-    drop(spool);
-    drop(held);
-    fs::remove_dir_all(&rt, folder)?;
-    Ok(())
+    let is_filled = answer(folder, &mut spool, "", Meanwhile::Filled) == Some(true);
+    must(&rt, is_filled, "a byte over the limit is refused");
+    let is_told = folder.has_text("done", "plain", "fault 54 WriteFault\n");
+    must(&rt, is_told, "the answer gives way");
+    must(&rt, spool.is_over(), "it took all that it may");
+    must(&rt, folder.end_spool(spool, held), "its end");
+}
+
+// Whether a script that no server takes is taken back.
+fn is_not_taken(folder: Folder, layout: &Layout) -> bool {
+    ends_so(folder, layout, &mut io::sink(), Some(1), End::NotTaken, "")
 }
 
 #[test]
-fn a_script_that_nobody_takes(rt: HostRuntime) -> Result<(), Fail> {
-    let folder = "a_script_that_nobody_takes.spool";
-    let (layout, held) = made(&rt, folder)?;
-    let mut written = Vec::new(rt.alloc());
-    let mut script = b"list\n".as_slice();
-    let end = submit(
-        &layout,
-        1,
-        b"",
-        &mut script,
-        &mut written,
-        &mut io::sink(),
-        Some(1),
-    )?;
-    assert!(rt; matches!(&end, Submission::NotTaken) && written.is_empty());
-    assert!(rt; is_empty(&rt, folder, "new")? && is_empty(&rt, folder, "tmp")?);
-    drop(layout);
-    drop(held);
-    fs::remove_dir_all(&rt, folder)?;
-    Ok(())
+fn a_script_that_nobody_takes(rt: HostRuntime) {
+    let path = "a_script_that_nobody_takes.spool";
+    let folder = Folder { rt, path };
+    let (layout, held) = folder.take().expect(&rt, "a folder");
+    must(&rt, is_not_taken(folder, &layout), "it is taken back");
+    must(&rt, folder.has("new", 0), "`new` is empty");
+    must(&rt, folder.has("tmp", 0), "`tmp` is empty");
+    must(&rt, folder.end(layout, held), "its end");
 }
 
 // A server that answers when its client says that it waits.
 #[derive(Drop)]
 struct Server {
+    folder: Folder,
     spool: FolderSpool,
     text: &'static str,
 }
 
 impl Write for Server {
     fn write(&mut self, bytes: &[u8]) -> io::Result<usize> {
-        if let Some((script, mut answer)) = self.spool.next() {
-            let written = answer.write_all(self.text.as_bytes());
-            self.spool.deliver(script, answer, None);
-            written?;
-        }
+        let _ = answer(self.folder, &mut self.spool, self.text, Meanwhile::Nothing);
         Ok(bytes.len())
     }
 
@@ -393,112 +321,51 @@ impl Write for Server {
     }
 }
 
-// Claims the script that comes, gives its place in `new` to another one, and answers two seconds later.
-fn claims_and_replaces(rt: HostRuntime, folder: &str, spool: &mut FolderSpool) -> io::Result<()> {
-    for _ in 0..1000 {
-        let Some((script, mut answer)) = spool.next() else {
-            continue;
-        };
-        let claimed = format!(in rt.alloc(); "{folder}/cur")?;
-        for entry in fs::read_dir(&rt, claimed.as_str())? {
-            let new = path_in(&rt, folder, "new", entry?.file_name())?;
-            fs::write(&rt, new.as_str(), "list\n")?;
-        }
-        thread::sleep(&rt, Duration::from_millis(2000));
-        answer.write_all(b"ok 1\n")?;
-        spool.deliver(script, answer, None);
-        return Ok(());
-    }
-    Err(io::Error::from(io::ErrorKind::TimedOut))
+// Whether a script is answered by the server that claims it.
+fn is_served(folder: Folder, layout: &Layout) -> bool {
+    let end = End::Answered(None);
+    ends_so(folder, layout, &mut io::sink(), Some(1), end, "ok 1\n")
 }
 
 #[test]
-fn another_script_in_the_place_of_a_claimed_one(rt: HostRuntime) -> Result<(), Fail> {
-    let folder = "another_script_in_the_place_of_a_claimed_one.spool";
-    let (layout, held) = made(&rt, folder)?;
-    let mut spool = FolderSpool::new(layout.again()?, 1);
-    let mut written = Vec::new(rt.alloc());
-    let mut script = b"list\n".as_slice();
-    let (end, served) = thread::join(
+fn another_script_in_the_place_of_a_claimed_one(rt: HostRuntime) {
+    let path = "another_script_in_the_place_of_a_claimed_one.spool";
+    let folder = Folder { rt, path };
+    let (layout, held) = folder.take().expect(&rt, "a folder");
+    let mut spool = second(&layout, 1).expect(&rt, "a client");
+    let (is_right, is_done) = thread::join(
         &rt,
-        || {
-            submit(
-                &layout,
-                1,
-                b"",
-                &mut script,
-                &mut written,
-                &mut io::sink(),
-                Some(1),
-            )
-        },
-        || claims_and_replaces(rt, folder, &mut spool),
+        || is_served(folder, &layout),
+        || answer_one(folder, &mut spool, "ok 1\n", Meanwhile::Replaced),
     );
-    served?;
+    must(&rt, is_done, "it is claimed");
     // It waited for the answer, and left the other one where it is.
-    assert!(rt;
-        matches!(&end?, Submission::Answered(None)) && written.as_slice() == b"ok 1\n".as_slice()
-    );
-    assert!(rt; !is_empty(&rt, folder, "new")? && is_empty(&rt, folder, "done")?);
-    drop(spool);
+    must(&rt, is_right, "it is answered");
+    must(&rt, folder.has("new", 1), "the other one waits");
+    must(&rt, folder.has("done", 0), "`done` is empty");
     drop(layout);
-    drop(held);
-    fs::remove_dir_all(&rt, folder)?;
-    Ok(())
-}
-
-// Puts another file with the same text and time in the place of the script that comes, as where a file's number belongs to its path.
-fn renumbers(rt: HostRuntime, folder: &str) -> io::Result<()> {
-    let part = format!(in rt.alloc(); "{folder}/new")?;
-    let copy = path_in(&rt, folder, "tmp", "copy")?;
-    for _ in 0..1000 {
-        thread::sleep(&rt, Duration::from_millis(1));
-        let Some(entry) = fs::read_dir(&rt, part.as_str())?.next() else {
-            continue;
-        };
-        let new = path_in(&rt, folder, "new", entry?.file_name())?;
-        let time = fs::symlink_metadata(&rt, new.as_str())?.modified()?;
-        fs::write(&rt, copy.as_str(), "list\n")?;
-        let file = OpenOptions::new().write(true).open(&rt, copy.as_str())?;
-        file.set_modified(time)?;
-        return fs::rename(&rt, copy.as_str(), new.as_str());
-    }
-    Err(io::Error::from(io::ErrorKind::TimedOut))
+    must(&rt, folder.end_spool(spool, held), "its end");
 }
 
 #[test]
-fn a_script_that_has_another_number(rt: HostRuntime) -> Result<(), Fail> {
-    let folder = "a_script_that_has_another_number.spool";
-    let (layout, held) = made(&rt, folder)?;
-    let mut written = Vec::new(rt.alloc());
-    let mut script = b"list\n".as_slice();
-    let (end, renumbered) = thread::join(
+fn a_script_that_has_another_number(rt: HostRuntime) {
+    let path = "a_script_that_has_another_number.spool";
+    let folder = Folder { rt, path };
+    let (layout, held) = folder.take().expect(&rt, "a folder");
+    let (is_right, is_done) = thread::join(
         &rt,
-        || {
-            submit(
-                &layout,
-                1,
-                b"",
-                &mut script,
-                &mut written,
-                &mut io::sink(),
-                Some(1),
-            )
-        },
-        || renumbers(rt, folder),
+        || is_not_taken(folder, &layout),
+        || renumber_one(folder),
     );
-    renumbered?;
+    must(&rt, is_done, "it has another number");
     // It is known as the script that was left, and taken back.
-    assert!(rt; matches!(&end?, Submission::NotTaken) && written.is_empty());
-    assert!(rt; is_empty(&rt, folder, "new")?);
-    drop(layout);
-    drop(held);
-    fs::remove_dir_all(&rt, folder)?;
-    Ok(())
+    must(&rt, is_right, "it is taken back");
+    must(&rt, folder.has("new", 0), "`new` is empty");
+    must(&rt, folder.end(layout, held), "its end");
 }
 
 // An answer, and the number of the fault that it tells last, if it tells one.
-const ANSWERS: [(&str, Option<u32>); 6] = [
+static ANSWERS: [(&str, Option<u32>); 6] = [
     ("", None),
     ("ok 1\nfault 11 Unknown at 4:5\n", Some(11)),
     ("fault 50 BadLine\nok 2\n", Some(50)),
@@ -507,268 +374,238 @@ const ANSWERS: [(&str, Option<u32>); 6] = [
     ("fault 4294967296 Large", Some(4_294_967_295)),
 ];
 
-#[test]
-fn which_fault_an_answer_tells(rt: HostRuntime) -> Result<(), Fail> {
-    let folder = "which_fault_an_answer_tells.spool";
-    let (layout, held) = made(&rt, folder)?;
-    for (text, number) in ANSWERS {
-        let spool = FolderSpool::new(layout.again()?, 1);
-        let mut server = Server { spool, text };
-        let mut written = Vec::new(rt.alloc());
-        let mut script = b"list\n".as_slice();
-        let end = submit(
-            &layout,
-            1,
-            b"",
-            &mut script,
-            &mut written,
-            &mut server,
-            None,
-        )?;
-        drop(server);
-        assert!(rt; matches!(&end, Submission::Answered(found) if *found == number));
-        assert!(rt; written.as_slice() == text.as_bytes());
-        drop(written);
-        drop(end);
-        assert!(rt; is_empty(&rt, folder, "done")?);
-    }
-    drop(layout);
-    drop(held);
-    fs::remove_dir_all(&rt, folder)?;
-    Ok(())
-}
-
-#[test]
-fn how_many_entries(rt: HostRuntime) -> Result<(), Fail> {
-    let folder = "how_many_entries.spool";
-    let (layout, held) = made(&rt, folder)?;
-    assert!(rt; count_entries(&layout, 10)? == 0);
-    for row in ROWS {
-        put(&rt, folder, row)?;
-    }
-    assert!(rt; count_entries(&layout, 100)? == 10);
-    assert!(rt; count_entries(&layout, 9)? == 9);
-    drop(layout);
-    drop(held);
-    fs::remove_dir_all(&rt, folder)?;
-    Ok(())
-}
-
-#[test]
-fn names_that_hide_no_script(rt: HostRuntime) -> Result<(), Fail> {
-    let folder = "names_that_hide_no_script.spool";
-    let (layout, held) = made(&rt, folder)?;
-    for number in 1000..2024 {
-        let path = format!(in rt.alloc(); "{folder}/new/0-{number}")?;
-        fs::create_dir(&rt, path.as_str())?;
-    }
-    put(&rt, folder, ROWS[0])?;
-    let mut spool = FolderSpool::new(layout, 100);
-    // As many as a client keeps, none of which can be claimed: the next look is behind them.
-    assert!(rt; done(&mut spool)? == 0);
-    assert!(rt; done(&mut spool)? == 1);
-    // Then it begins anew.
-    let first = Row {
-        name: "0",
-        thing: Thing::File(""),
-        is_script: true,
+// Whether this number is told of an answer, which is written on as it is and then taken away.
+fn tells(folder: Folder, layout: &Layout, text: &'static str, number: Option<u32>) -> bool {
+    let Some(spool) = second(layout, 1) else {
+        return false;
     };
-    put(&rt, folder, first)?;
-    assert!(rt; done(&mut spool)? == 0);
-    assert!(rt; done(&mut spool)? == 1);
-    drop(spool);
-    drop(held);
-    fs::remove_dir_all(&rt, folder)?;
-    Ok(())
+    let mut server = Server {
+        folder,
+        spool,
+        text,
+    };
+    let end = End::Answered(number);
+    ends_so(folder, layout, &mut server, None, end, text) && folder.has("done", 0)
 }
 
 #[test]
-fn a_folder_that_is_no_spool(rt: HostRuntime) -> Result<(), Fail> {
-    let folder = "a_folder_that_is_no_spool";
-    let kept = path_in(&rt, folder, "tmp", "notes")?;
-    let part = format!(in rt.alloc(); "{folder}/tmp")?;
-    fs::create_dir_all(&rt, part.as_str())?;
-    fs::write(&rt, kept.as_str(), "text")?;
-    assert!(rt; made(&rt, folder).is_err());
-    assert!(rt; is_there(&rt, folder, "tmp", "notes")? && !is_there(&rt, folder, ".", "lock")?);
-    fs::remove_dir_all(&rt, folder)?;
-    Ok(())
+fn which_fault_an_answer_tells(rt: HostRuntime) {
+    let path = "which_fault_an_answer_tells.spool";
+    let folder = Folder { rt, path };
+    let (layout, held) = folder.take().expect(&rt, "a folder");
+    for (text, number) in &ANSWERS {
+        must(&rt, tells(folder, &layout, text, *number), text);
+    }
+    must(&rt, folder.end(layout, held), "its end");
 }
 
 #[test]
-fn what_is_cleared(rt: HostRuntime) -> Result<(), Fail> {
-    let folder = "what_is_cleared.spool";
-    let (layout, held) = made(&rt, folder)?;
-    for name in ["old", ".hidden", "notes.txt", "link"] {
-        let path = path_in(&rt, folder, "tmp", name)?;
-        if name == "link" {
-            symlink(&rt, "/etc/hostname", path.as_str())?;
-        } else {
-            fs::write(&rt, path.as_str(), "text")?;
+fn how_many_entries(rt: HostRuntime) {
+    let path = "how_many_entries.spool";
+    let folder = Folder { rt, path };
+    let (layout, held) = folder.take().expect(&rt, "a folder");
+    must(&rt, counts(&layout, 10, 0), "none at first");
+    for row in &ROWS {
+        must(&rt, put(folder, row), row.name);
+    }
+    must(&rt, counts(&layout, 100, 10), "ten, whatever they are");
+    must(&rt, counts(&layout, 9, 9), "as many as are asked for");
+    must(&rt, folder.end(layout, held), "its end");
+}
+
+// Makes as many directories as a client keeps names.
+fn fill_with_directories(folder: Folder) -> bool {
+    for number in 1000..2024 {
+        match format!(in folder.rt.alloc(); "0-{number}") {
+            Ok(name) if folder.make("new", name.as_str()) => {}
+            _ => return false,
         }
     }
-    // A script that waits, one that was claimed, and what a start that was killed tried these parts with.
-    for (part, name) in [
-        ("new", "waits"),
-        ("cur", "claimed"),
-        ("new", ".try-1"),
-        ("cur", ".try-2"),
-    ] {
-        fs::write(&rt, path_in(&rt, folder, part, name)?.as_str(), "text")?;
+    true
+}
+
+#[test]
+fn names_that_hide_no_script(rt: HostRuntime) {
+    let path = "names_that_hide_no_script.spool";
+    let folder = Folder { rt, path };
+    let (layout, held) = folder.take().expect(&rt, "a folder");
+    must(&rt, fill_with_directories(folder), "directories");
+    must(&rt, put_plain(folder), "a script");
+    let mut spool = FolderSpool::new(layout, 100);
+    // As many as a client keeps, none of which can be claimed: the next look is behind them.
+    must(&rt, done(folder, &mut spool) == 0, "none of the first");
+    must(&rt, done(folder, &mut spool) == 1, "the one behind them");
+    // Then it begins anew.
+    must(&rt, folder.write("new", "0", ""), "one before them");
+    must(&rt, done(folder, &mut spool) == 0, "none behind them");
+    must(&rt, done(folder, &mut spool) == 1, "the one before them");
+    must(&rt, folder.end_spool(spool, held), "its end");
+}
+
+#[test]
+fn a_folder_that_is_no_spool(rt: HostRuntime) {
+    let path = "a_folder_that_is_no_spool";
+    let folder = Folder { rt, path };
+    must(&rt, folder.make("tmp", ""), "a folder");
+    must(&rt, folder.write("tmp", "notes", "text"), "a file");
+    must(&rt, folder.is_refused(), "it is no spool");
+    must(&rt, folder.is_there("tmp", "notes"), "the file is there");
+    must(&rt, !folder.is_there(".", "lock"), "no lock is made");
+    must(&rt, folder.remove_all(), "its end");
+}
+
+// What stands in a folder before it is cleared: a part, a name, and whether that is taken away.
+static OLD: [(&str, &str, bool); 8] = [
+    ("tmp", "old", true),
+    ("tmp", ".hidden", false),
+    ("tmp", "notes.txt", false),
+    ("tmp", "link", false),
+    // A script that waits, and one that was claimed.
+    ("new", "waits", false),
+    ("cur", "claimed", false),
+    // What a start that was killed tried these parts with.
+    ("new", ".try-1", true),
+    ("cur", ".try-2", true),
+];
+
+#[test]
+fn what_is_cleared(rt: HostRuntime) {
+    let path = "what_is_cleared.spool";
+    let folder = Folder { rt, path };
+    let (layout, held) = folder.take().expect(&rt, "a folder");
+    must(&rt, folder.link("tmp", "link", "/etc/hostname"), "a link");
+    for (part, name, _) in &OLD {
+        let is_made = folder.is_there(part, name) || folder.write(part, name, "text");
+        must(&rt, is_made, name);
     }
     thread::sleep(&rt, Duration::from_millis(1100));
-    assert!(rt; clear_old(&layout, 1)? == 0);
-    assert!(rt; clear_old(&layout, 0)? == 3);
-    assert!(rt; !is_there(&rt, folder, "tmp", "old")?);
-    assert!(rt; is_there(&rt, folder, "new", "waits")? && is_there(&rt, folder, "cur", "claimed")?);
-    assert!(rt;
-        !is_there(&rt, folder, "new", ".try-1")? && !is_there(&rt, folder, "cur", ".try-2")?
-    );
-    for name in [".hidden", "notes.txt", "link"] {
-        assert!(rt; is_there(&rt, folder, "tmp", name)?);
+    must(&rt, clears(&layout, 1, 0), "none is a day old");
+    must(&rt, clears(&layout, 0, 3), "three are taken away");
+    for (part, name, is_old) in &OLD {
+        must(&rt, folder.is_there(part, name) != *is_old, name);
     }
-    drop(layout);
-    drop(held);
-    fs::remove_dir_all(&rt, folder)?;
-    Ok(())
+    must(&rt, folder.end(layout, held), "its end");
 }
 
 #[test]
-fn a_link_in_the_place_of_a_part(rt: HostRuntime) -> Result<(), Fail> {
-    let folder = "a_link_in_the_place_of_a_part.spool";
-    fs::create_dir(&rt, folder)?;
-    let victim = format!(in rt.alloc(); "{folder}/victim")?;
-    let link = format!(in rt.alloc(); "{folder}/.making-new")?;
-    fs::create_dir(&rt, victim.as_str())?;
-    fs::set_permissions(&rt, victim.as_str(), Permissions::from_mode(0o700))?;
-    symlink(&rt, "victim", link.as_str())?;
-    assert!(rt; made(&rt, folder).is_err());
-    assert!(rt; mode_of(&rt, folder, "victim")? == 0o700);
-    fs::remove_dir_all(&rt, folder)?;
-    Ok(())
+fn a_link_in_the_place_of_a_part(rt: HostRuntime) {
+    let path = "a_link_in_the_place_of_a_part.spool";
+    let folder = Folder { rt, path };
+    must(&rt, folder.make("victim", ""), "a directory");
+    must(&rt, folder.set_rights("victim", 0o700), "its rights");
+    must(&rt, folder.link(".", ".making-new", "victim"), "a link");
+    must(&rt, folder.is_refused(), "it is refused");
+    must(&rt, folder.has_rights("victim", 0o700), "the same rights");
+    must(&rt, folder.remove_all(), "its end");
+}
+
+// Whether a spool whose folder was moved finds nothing, and another client of it goes on unless the folder counts as lost.
+fn goes_on(folder: Folder, spool: &mut FolderSpool, busy: &mut FolderSpool) -> bool {
+    !spool.is_over()
+        && answer(folder, spool, "", Meanwhile::Nothing).is_none()
+        && (spool.has_failed() || !busy.is_over())
 }
 
 #[test]
-fn a_folder_that_was_moved(rt: HostRuntime) -> Result<(), Fail> {
-    let folder = "a_folder_that_was_moved.spool";
-    let moved = "a_folder_that_was_moved.old";
-    let (layout, held) = made(&rt, folder)?;
+fn a_folder_that_was_moved(rt: HostRuntime) {
+    let path = "a_folder_that_was_moved.spool";
+    let folder = Folder { rt, path };
+    let path = "a_folder_that_was_moved.old";
+    let moved = Folder { rt, path };
+    let (layout, held) = folder.take().expect(&rt, "a folder");
     // One client of two does nothing else meanwhile.
-    let mut busy = FolderSpool::new(layout.again()?, 100);
+    let mut busy = second(&layout, 100).expect(&rt, "a client");
     let mut spool = FolderSpool::new(layout, 100);
-    fs::rename(&rt, folder, moved)?;
-    let (other, also_held) = made(&rt, folder)?;
-    put(&rt, folder, ROWS[0])?;
+    must(&rt, folder.move_to(moved), "it is moved");
+    let (other, also_held) = folder.take().expect(&rt, "another folder");
+    must(&rt, put_plain(folder), "a script");
     for _ in 0..100 {
-        assert!(rt; !spool.is_over() && spool.next().is_none());
-        assert!(rt; spool.has_failed() || !busy.is_over());
+        must(&rt, goes_on(folder, &mut spool, &mut busy), "it goes on");
     }
-    assert!(rt; spool.is_over() && spool.has_failed());
+    must(&rt, spool.is_over() && spool.has_failed(), "it is lost");
     // It would be the only one to go on, and is over too.
-    assert!(rt; busy.is_over() && busy.has_failed());
-    assert!(rt; is_there(&rt, folder, "new", "plain")?);
+    must(&rt, busy.is_over() && busy.has_failed(), "to both");
+    must(&rt, folder.is_there("new", "plain"), "the script waits");
+    must(&rt, folder.end(other, also_held), "its end");
     drop(busy);
-    drop(spool);
-    drop(other);
-    drop(held);
-    drop(also_held);
-    fs::remove_dir_all(&rt, folder)?;
-    fs::remove_dir_all(&rt, moved)?;
-    Ok(())
+    must(&rt, moved.end_spool(spool, held), "that of the moved one");
 }
 
 #[test]
-fn an_answer_whose_way_is_barred(rt: HostRuntime) -> Result<(), Fail> {
-    let folder = "an_answer_whose_way_is_barred.spool";
-    let (layout, held) = made(&rt, folder)?;
-    let bar = path_in(&rt, folder, "done", "plain")?;
-    fs::create_dir(&rt, bar.as_str())?;
-    put(&rt, folder, ROWS[0])?;
+fn an_answer_whose_way_is_barred(rt: HostRuntime) {
+    let path = "an_answer_whose_way_is_barred.spool";
+    let folder = Folder { rt, path };
+    let (layout, held) = folder.take().expect(&rt, "a folder");
+    must(&rt, folder.make("done", "plain"), "a bar");
+    must(&rt, put_plain(folder), "a script");
     let mut spool = FolderSpool::new(layout, 100);
-    assert!(rt; done(&mut spool)? == 1);
-    assert!(rt; spool.answered() == 0 && spool.kept() == 1);
-    fs::remove_dir(&rt, bar.as_str())?;
-    assert!(rt; done(&mut spool)? == 0);
-    assert!(rt; spool.answered() == 1 && spool.kept() == 0);
-    assert!(rt; answer_of(&rt, folder, "plain")?.as_str() == "ok\n");
-    drop(spool);
-    drop(held);
-    fs::remove_dir_all(&rt, folder)?;
-    Ok(())
+    must(&rt, done(folder, &mut spool) == 1, "it is done");
+    let is_kept = spool.answered() == 0 && spool.kept() == 1;
+    must(&rt, is_kept, "its answer is kept");
+    must(&rt, folder.unmake("done", "plain"), "the bar is gone");
+    must(&rt, done(folder, &mut spool) == 0, "none is done");
+    let is_over = spool.answered() == 1 && spool.kept() == 0;
+    must(&rt, is_over, "the answer is handed over");
+    must(&rt, folder.has_text("done", "plain", "ok\n"), "as it was");
+    must(&rt, folder.end_spool(spool, held), "its end");
 }
 
 #[test]
-fn an_answer_that_was_moved_unseen(rt: HostRuntime) -> Result<(), Fail> {
-    let folder = "an_answer_that_was_moved_unseen.spool";
-    let (layout, held) = made(&rt, folder)?;
-    put(&rt, folder, ROWS[0])?;
+fn an_answer_that_was_moved_unseen(rt: HostRuntime) {
+    let path = "an_answer_that_was_moved_unseen.spool";
+    let folder = Folder { rt, path };
+    let (layout, held) = folder.take().expect(&rt, "a folder");
+    must(&rt, put_plain(folder), "a script");
     let mut spool = FolderSpool::new(layout, 1);
-    let taken = spool.next();
-    assert!(rt; taken.is_some());
-    if let Some((script, mut answer)) = taken {
-        answer.write_all(b"ok\n")?;
-        // As where a call is done over a network, its answer is lost, and it is made again.
-        let from = path_in(&rt, folder, "cur", "plain.answer")?;
-        fs::rename(
-            &rt,
-            from.as_str(),
-            path_in(&rt, folder, "done", "plain")?.as_str(),
-        )?;
-        spool.deliver(script, answer, None);
-    }
-    assert!(rt; spool.answered() == 1 && spool.kept() == 0);
-    assert!(rt; answer_of(&rt, folder, "plain")?.as_str() == "ok\n");
-    assert!(rt; is_empty(&rt, folder, "cur")?);
-    drop(spool);
-    drop(held);
-    fs::remove_dir_all(&rt, folder)?;
-    Ok(())
+    let is_moved = answer(folder, &mut spool, "ok\n", Meanwhile::Moved) == Some(true);
+    must(&rt, is_moved, "its answer is moved");
+    let is_over = spool.answered() == 1 && spool.kept() == 0;
+    must(&rt, is_over, "it is handed over");
+    must(&rt, folder.has_text("done", "plain", "ok\n"), "as it was");
+    must(&rt, folder.has("cur", 0), "`cur` is empty");
+    must(&rt, folder.end_spool(spool, held), "its end");
 }
 
 #[test]
-fn a_second_script_of_a_name(rt: HostRuntime) -> Result<(), Fail> {
-    let folder = "a_second_script_of_a_name.spool";
-    let (layout, held) = made(&rt, folder)?;
-    put(&rt, folder, ROWS[0])?;
+fn a_second_script_of_a_name(rt: HostRuntime) {
+    let path = "a_second_script_of_a_name.spool";
+    let folder = Folder { rt, path };
+    let (layout, held) = folder.take().expect(&rt, "a folder");
+    must(&rt, put_plain(folder), "a script");
     let mut spool = FolderSpool::new(layout, 100);
-    assert!(rt; done(&mut spool)? == 1);
+    must(&rt, done(folder, &mut spool) == 1, "it is done");
     // It waits until the first one's answer is taken away.
-    put(&rt, folder, ROWS[0])?;
-    assert!(rt; done(&mut spool)? == 0);
-    let answer = path_in(&rt, folder, "done", "plain")?;
-    fs::remove_file(&rt, answer.as_str())?;
-    assert!(rt; done(&mut spool)? == 1);
-    drop(spool);
-    drop(held);
-    fs::remove_dir_all(&rt, folder)?;
-    Ok(())
+    must(&rt, put_plain(folder), "a second one");
+    must(&rt, done(folder, &mut spool) == 0, "it waits");
+    must(&rt, folder.remove("done", "plain"), "the way is free");
+    must(&rt, done(folder, &mut spool) == 1, "it is done too");
+    must(&rt, folder.end_spool(spool, held), "its end");
 }
 
-// The rights of what is at a path.
-fn mode_of(rt: &HostRuntime, folder: &str, name: &str) -> io::Result<u32> {
-    let path = format!(in rt.alloc(); "{folder}/{name}")?;
-    Ok(fs::symlink_metadata(rt, path.as_str())?.mode() & 0o7777)
-}
+// The rights of the parts of a folder, where all may leave scripts and where a group may.
+static RIGHTS: [(&str, u32, u32); 5] = [
+    ("cur", 0o700, 0o2700),
+    ("done", 0o755, 0o2770),
+    ("new", 0o3777, 0o2770),
+    ("tmp", 0o3777, 0o2770),
+    ("lock", 0o644, 0o660),
+];
 
 #[test]
-fn the_rights_of_a_folder(rt: HostRuntime) -> Result<(), Fail> {
-    let folder = "the_rights_of_a_folder.spool";
-    let (layout, held) = made(&rt, folder)?;
-    assert!(rt; mode_of(&rt, folder, "cur")? == 0o700 && mode_of(&rt, folder, "done")? == 0o755);
-    assert!(rt; mode_of(&rt, folder, "new")? == 0o3777 && mode_of(&rt, folder, "tmp")? == 0o3777);
-    assert!(rt; mode_of(&rt, folder, "lock")? == 0o644);
-    drop(layout);
-    drop(held);
-    fs::remove_dir_all(&rt, folder)?;
+fn the_rights_of_a_folder(rt: HostRuntime) {
+    let path = "the_rights_of_a_folder.spool";
+    let folder = Folder { rt, path };
+    let (layout, held) = folder.take().expect(&rt, "a folder");
+    for (part, rights, _) in &RIGHTS {
+        must(&rt, folder.has_rights(part, *rights), part);
+    }
+    must(&rt, folder.end(layout, held), "its end");
     // A group's folder.
-    fs::create_dir(&rt, folder)?;
-    fs::set_permissions(&rt, folder, Permissions::from_mode(0o2750))?;
-    let (layout, held) = made(&rt, folder)?;
-    assert!(rt; mode_of(&rt, folder, "cur")? == 0o2700 && mode_of(&rt, folder, "done")? == 0o2770);
-    assert!(rt; mode_of(&rt, folder, "new")? == 0o2770 && mode_of(&rt, folder, "tmp")? == 0o2770);
-    assert!(rt; mode_of(&rt, folder, "lock")? == 0o660);
-    drop(layout);
-    drop(held);
-    fs::remove_dir_all(&rt, folder)?;
-    Ok(())
+    must(&rt, folder.make("", ""), "a directory");
+    must(&rt, folder.set_rights("", 0o2750), "a group's");
+    let (layout, held) = folder.take().expect(&rt, "a group's folder");
+    for (part, _, rights) in &RIGHTS {
+        must(&rt, folder.has_rights(part, *rights), part);
+    }
+    must(&rt, folder.end(layout, held), "its end");
 }

@@ -3,3 +3,5 @@
 
 #[cfg(test)]
 mod folders;
+#[cfg(test)]
+mod helpers;

@@ -1,0 +1,382 @@
+// The folder of a test, and what tests do in it and see of it.
+//
+// Each call of the system stands here alone, and answers by a `bool` or a number where it is refused: a test that handed errors on, or asserted
+// in many places, would be proved for minutes, since each of its exits lets go of all that it has.
+
+use cc_spool::{
+    FolderSpool, Held, Layout, Recovered, Spool, Submission, clear_old, count_entries, recover,
+    submit, take_folder,
+};
+use std::fs::{self, File, OpenOptions, Permissions};
+use std::io::Write;
+use std::os::unix::fs::{MetadataExt, PermissionsExt, symlink};
+use std::process::Abort;
+use std::thread;
+use std::time::{Duration, SystemTime};
+
+/// Ends the test unless this holds.
+pub fn must(rt: &impl Abort, holds: bool, what: &str) {
+    assert!(rt; holds, "{what}");
+}
+
+/// A folder of a test.
+#[derive(Clone, Copy, Drop)]
+pub struct Folder {
+    pub rt: HostRuntime,
+    pub path: &'static str,
+}
+
+/// What is seen of a file: its rights, and when it was last written.
+#[derive(Clone, Copy, Drop)]
+pub struct Seen {
+    rights: u32,
+    written: SystemTime,
+}
+
+impl Folder {
+    /// The path of a file in a part of the folder; none where there is no memory.
+    fn path_in(self, part: &str, name: &str) -> String {
+        match format!(in self.rt.alloc(); "{}/{part}/{name}", self.path) {
+            Ok(path) => path,
+            Err(_) => String::new(self.rt.alloc()),
+        }
+    }
+
+    /// Makes a directory, and what is above it.
+    pub fn make(self, part: &str, name: &str) -> bool {
+        let path = self.path_in(part, name);
+        fs::create_dir_all(&self.rt, path.as_str()).is_ok()
+    }
+
+    /// Takes an empty directory away.
+    pub fn unmake(self, part: &str, name: &str) -> bool {
+        let path = self.path_in(part, name);
+        fs::remove_dir(&self.rt, path.as_str()).is_ok()
+    }
+
+    /// Makes a file of this text.
+    pub fn write(self, part: &str, name: &str, text: &str) -> bool {
+        let path = self.path_in(part, name);
+        fs::write(&self.rt, path.as_str(), text).is_ok()
+    }
+
+    /// Whether a file has this text.
+    pub fn has_text(self, part: &str, name: &str, text: &str) -> bool {
+        let path = self.path_in(part, name);
+        match fs::read_to_string(&self.rt, path.as_str()) {
+            Ok(found) => found.as_str() == text,
+            Err(_) => false,
+        }
+    }
+
+    /// Takes a file away.
+    pub fn remove(self, part: &str, name: &str) -> bool {
+        let path = self.path_in(part, name);
+        fs::remove_file(&self.rt, path.as_str()).is_ok()
+    }
+
+    /// Makes a symbolic link.
+    pub fn link(self, part: &str, name: &str, to: &str) -> bool {
+        let path = self.path_in(part, name);
+        symlink(&self.rt, to, path.as_str()).is_ok()
+    }
+
+    /// Gives a file a second name.
+    pub fn link_hard(self, part: &str, to: &str, name: &str) -> bool {
+        let (from, to) = (self.path_in(part, name), self.path_in(to, name));
+        fs::hard_link(&self.rt, from.as_str(), to.as_str()).is_ok()
+    }
+
+    /// Moves a file to another part, under another name.
+    pub fn rename(self, part: &str, name: &str, to: &str, other: &str) -> bool {
+        let (from, to) = (self.path_in(part, name), self.path_in(to, other));
+        fs::rename(&self.rt, from.as_str(), to.as_str()).is_ok()
+    }
+
+    fn open(self, part: &str, name: &str) -> Option<File> {
+        let path = self.path_in(part, name);
+        OpenOptions::new()
+            .write(true)
+            .open(&self.rt, path.as_str())
+            .ok()
+    }
+
+    /// Makes a file so many bytes long.
+    pub fn set_length(self, part: &str, name: &str, bytes: u64) -> bool {
+        match self.open(part, name) {
+            Some(file) => file.set_len(bytes).is_ok(),
+            None => false,
+        }
+    }
+
+    fn set_time(self, part: &str, name: &str, time: SystemTime) -> bool {
+        match self.open(part, name) {
+            Some(file) => file.set_modified(time).is_ok(),
+            None => false,
+        }
+    }
+
+    /// Makes the rights of a directory these.
+    pub fn set_rights(self, part: &str, rights: u32) -> bool {
+        let path = self.path_in(part, "");
+        fs::set_permissions(&self.rt, path.as_str(), Permissions::from_mode(rights)).is_ok()
+    }
+
+    /// What is seen of a file, and no link is followed.
+    pub fn see(self, part: &str, name: &str) -> Option<Seen> {
+        let path = self.path_in(part, name);
+        let Ok(told) = fs::symlink_metadata(&self.rt, path.as_str()) else {
+            return None;
+        };
+        let rights = told.mode() & 0o7777;
+        match told.modified() {
+            Ok(written) => Some(Seen { rights, written }),
+            Err(_) => None,
+        }
+    }
+
+    pub fn is_there(self, part: &str, name: &str) -> bool {
+        self.see(part, name).is_some()
+    }
+
+    /// Whether a part, or `lock`, has these rights.
+    pub fn has_rights(self, part: &str, rights: u32) -> bool {
+        match self.see(".", part) {
+            Some(seen) => seen.rights == rights,
+            None => false,
+        }
+    }
+
+    /// Whether a file is there, and was not written since it was seen.
+    pub fn is_as_seen(self, part: &str, name: &str, before: Option<Seen>) -> bool {
+        match (before, self.see(part, name)) {
+            (Some(before), Some(seen)) => before.written == seen.written,
+            _ => false,
+        }
+    }
+
+    /// How many entries a part has, and the name of one that is no answer. Of one that can't be read, the most there can be.
+    fn entries(self, part: &str) -> (usize, String) {
+        let mut script = String::new(self.rt.alloc());
+        let path = self.path_in(part, "");
+        let Ok(entries) = fs::read_dir(&self.rt, path.as_str()) else {
+            return (usize::MAX, script);
+        };
+        let mut count = 0usize;
+        for entry in entries {
+            count = count.saturating_add(1);
+            if let Ok(entry) = entry
+                && !entry.file_name().ends_with(".answer")
+                && let Ok(name) = String::from_str(self.rt.alloc(), entry.file_name())
+            {
+                script = name;
+            }
+        }
+        (count, script)
+    }
+
+    /// Whether a part has so many entries.
+    pub fn has(self, part: &str, wanted: usize) -> bool {
+        self.entries(part).0 == wanted
+    }
+
+    /// A new folder with its parts, and its lock; none where it is refused.
+    pub fn take(self) -> Option<(Layout, Held)> {
+        let mut layout = Layout::new(self.rt, self.rt.alloc(), self.path).ok()?;
+        match take_folder(&mut layout, 1) {
+            Ok(Some(held)) => Some((layout, held)),
+            _ => None,
+        }
+    }
+
+    /// Whether it is no folder that a server takes.
+    pub fn is_refused(self) -> bool {
+        self.take().is_none()
+    }
+
+    /// Moves the folder, so that it is another one.
+    pub fn move_to(self, other: Folder) -> bool {
+        fs::rename(&self.rt, self.path, other.path).is_ok()
+    }
+
+    /// Takes the folder away.
+    pub fn remove_all(self) -> bool {
+        fs::remove_dir_all(&self.rt, self.path).is_ok()
+    }
+
+    /// Lets its parts go, and takes it away.
+    pub fn end(self, layout: Layout, held: Held) -> bool {
+        drop(layout);
+        drop(held);
+        self.remove_all()
+    }
+
+    /// Lets a spool in it go, and takes it away.
+    pub fn end_spool(self, spool: FolderSpool, held: Held) -> bool {
+        drop(spool);
+        drop(held);
+        self.remove_all()
+    }
+}
+
+/// What a start finds; none where it can't look.
+pub fn recovered(layout: &Layout) -> Option<Recovered> {
+    recover(layout).ok()
+}
+
+/// Whether so many entries are counted.
+pub fn counts(layout: &Layout, most: usize, wanted: usize) -> bool {
+    match count_entries(layout, most) {
+        Ok(count) => count == wanted,
+        Err(_) => false,
+    }
+}
+
+/// Whether so many old files are taken away.
+pub fn clears(layout: &Layout, days: u32, wanted: u64) -> bool {
+    match clear_old(layout, days) {
+        Ok(count) => count == wanted,
+        Err(_) => false,
+    }
+}
+
+/// The spool that a further client sees.
+pub fn second(layout: &Layout, most: u64) -> Option<FolderSpool> {
+    match layout.again() {
+        Ok(again) => Some(FolderSpool::new(again, most)),
+        Err(_) => None,
+    }
+}
+
+/// What is done to a script between its claim and the end of its answer.
+#[derive(Clone, Copy, Drop)]
+pub enum Meanwhile {
+    Nothing,
+    /// Its place in `new` is given to another one, and two seconds go by.
+    Replaced,
+    /// The answer of `plain` is moved to `done`, as where a call is done over a network, its answer is lost, and it is made again.
+    Moved,
+    /// As much is written as an answer may have, and then more.
+    Filled,
+}
+
+fn fill<W: Write>(answer: &mut W) -> bool {
+    let piece = [b'1'; 4096];
+    for _ in 0..4096 {
+        if answer.write_all(&piece).is_err() {
+            return false;
+        }
+    }
+    // What was refused stays so, and a later line is not written behind the gap.
+    answer.write(b"1").is_err() && answer.write(b"").is_err() && answer.flush().is_err()
+}
+
+fn replace(folder: Folder) -> bool {
+    let (_, name) = folder.entries("cur");
+    let is_replaced = folder.write("new", name.as_str(), "list\n");
+    thread::sleep(&folder.rt, Duration::from_millis(2000));
+    is_replaced
+}
+
+/// Takes the next script, and answers it by this text; whether all of that succeeds. None where none waits.
+pub fn answer(
+    folder: Folder,
+    spool: &mut FolderSpool,
+    text: &str,
+    meanwhile: Meanwhile,
+) -> Option<bool> {
+    let (script, mut answer) = spool.next()?;
+    let is_written = answer.write_all(text.as_bytes()).is_ok();
+    let is_done = match meanwhile {
+        Meanwhile::Nothing => true,
+        Meanwhile::Replaced => replace(folder),
+        Meanwhile::Moved => folder.rename("cur", "plain.answer", "done", "plain"),
+        Meanwhile::Filled => fill(&mut answer),
+    };
+    spool.deliver(script, answer, None);
+    Some(is_written && is_done)
+}
+
+/// Answers what waits; how many scripts that were, up to 20.
+pub fn done(folder: Folder, spool: &mut FolderSpool) -> usize {
+    for count in 0..20 {
+        match answer(folder, spool, "ok\n", Meanwhile::Nothing) {
+            Some(true) => {}
+            Some(false) => return usize::MAX,
+            None => return count,
+        }
+    }
+    20
+}
+
+/// Answers one script for which something is done meanwhile, once it comes; whether that succeeds.
+pub fn answer_one(
+    folder: Folder,
+    spool: &mut FolderSpool,
+    text: &str,
+    meanwhile: Meanwhile,
+) -> bool {
+    for _ in 0..1000 {
+        if let Some(is_done) = answer(folder, spool, text, meanwhile) {
+            return is_done;
+        }
+    }
+    false
+}
+
+fn renumber(folder: Folder, name: &str) -> bool {
+    let Some(seen) = folder.see("new", name) else {
+        return false;
+    };
+    folder.write("tmp", "copy", "list\n")
+        && folder.set_time("tmp", "copy", seen.written)
+        && folder.rename("tmp", "copy", "new", name)
+}
+
+/// Puts another file with the same text and time in the place of the script that comes, as where a file's number belongs to its path.
+pub fn renumber_one(folder: Folder) -> bool {
+    for _ in 0..1000 {
+        thread::sleep(&folder.rt, Duration::from_millis(1));
+        let (count, name) = folder.entries("new");
+        if count == 1 {
+            return renumber(folder, name.as_str());
+        }
+    }
+    false
+}
+
+/// How a script that was left ends.
+#[derive(Clone, Copy, Drop)]
+pub enum End {
+    /// Answered, by the number of the fault that its answer tells last, if it tells one.
+    Answered(Option<u32>),
+    NotTaken,
+}
+
+/// Leaves a script; whether it ends so, and so much is written on.
+pub fn ends_so<E: Write>(
+    folder: Folder,
+    layout: &Layout,
+    explanations: &mut E,
+    seconds: Option<u32>,
+    end: End,
+    text: &str,
+) -> bool {
+    let mut written = Vec::new(folder.rt.alloc());
+    let mut script = b"list\n".as_slice();
+    let submission = submit(
+        layout,
+        1,
+        b"",
+        &mut script,
+        &mut written,
+        explanations,
+        seconds,
+    );
+    let is_so = match (submission, end) {
+        (Ok(Submission::Answered(found)), End::Answered(number)) => found == number,
+        (Ok(Submission::NotTaken), End::NotTaken) => true,
+        _ => false,
+    };
+    is_so && written.as_slice() == text.as_bytes()
+}
