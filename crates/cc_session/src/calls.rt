@@ -2,11 +2,10 @@
 
 ghost use Rattle.std.specs.Prelude.{◌≡◌, Option, Ok, IsTrue, false, IfErr, IfOk};
 ghost use Rattle.cc_script.specs.Line.{asked_of};
-ghost use Rattle.cc_script.specs.declared.fault.ScriptFault.TheVariants.{WriteFault};
 ghost use Rattle.cc_history.specs.declared.entry.Receipt.{Receipt};
 ghost use Rattle.cc_service.specs.Serving.{Adds, GetAnswers, ListAnswers, PutAnswers, Replaces, WithdrawAnswers};
 ghost use Rattle.cc_session.specs.Playing.{Audits, Calls, FetchesEach, IsCutShort, IsPlayedBy, IsSent, Obeys};
-ghost use Rattle.cc_session.specs.internal.Steps.{IsDone, IsShortOf, asking};
+ghost use Rattle.cc_session.specs.internal.Steps.{IsDone, IsShortOf, Tells, asking};
 
 use crate::auditing::audit_found;
 use crate::showing::{Part, text_of};
@@ -36,8 +35,7 @@ impl<'a, N: Named + Send + Sync + 'static, H: Wait, D: Disk> Caller<'a, N, H, D>
         name: &[u8],
         source: &[u8],
     ) -> Result<(), ScriptFault>
-        ensures ending { IfErr result (λ fault. fault ≡ WriteFault) }
-        ensures rest { talk.new ≡ talk.old }
+        ensures told { Tells talk.old talk.new result }
         ensures called { Calls (PutAnswers (Adds name.now source.now) name.now source.now client.old.holder client.new.holder) }
     {
         let answer = self.service.add(self.rt, self.alloc, client, name, source);
@@ -53,8 +51,7 @@ impl<'a, N: Named + Send + Sync + 'static, H: Wait, D: Disk> Caller<'a, N, H, D>
         name: &[u8],
         source: &[u8],
     ) -> Result<(), ScriptFault>
-        ensures ending { IfErr result (λ fault. fault ≡ WriteFault) }
-        ensures rest { talk.new ≡ talk.old }
+        ensures told { Tells talk.old talk.new result }
         ensures called { Calls (PutAnswers (Replaces name.now source.now) name.now source.now client.old.holder client.new.holder) }
     {
         let answer = self
@@ -98,8 +95,7 @@ impl<'a, N: Named + Send + Sync + 'static, H: Wait, D: Disk> Caller<'a, N, H, D>
         talk: &mut Talk<R, W, E>,
         name: &[u8],
     ) -> Result<(), ScriptFault>
-        ensures ending { IfErr result (λ fault. fault ≡ WriteFault) }
-        ensures rest { talk.new ≡ talk.old }
+        ensures told { Tells talk.old talk.new result }
         ensures called { Calls (WithdrawAnswers name.now client.old.holder client.new.holder) }
     {
         let answer = self.service.withdraw(self.rt, self.alloc, client, name);
@@ -113,8 +109,7 @@ impl<'a, N: Named + Send + Sync + 'static, H: Wait, D: Disk> Caller<'a, N, H, D>
         client: &mut Client<N>,
         talk: &mut Talk<R, W, E>,
     ) -> Result<(), ScriptFault>
-        ensures ending { IfErr result (λ fault. fault ≡ WriteFault) }
-        ensures rest { talk.new ≡ talk.old }
+        ensures told { Tells talk.old talk.new result }
         ensures called { Calls (ListAnswers client.old.holder client.new.holder) }
     {
         let answer = self.service.list(self.rt, self.alloc, client);
@@ -133,8 +128,7 @@ impl<'a, N: Named + Send + Sync + 'static, H: Wait, D: Disk> Caller<'a, N, H, D>
         found: &Found,
         steps: u64,
     ) -> Result<(), ScriptFault>
-        ensures ending { IfErr result (λ fault. fault ≡ WriteFault) }
-        ensures rest { talk.new ≡ talk.old }
+        ensures told { Tells talk.old talk.new result }
     {
         let answer = run_image(self.alloc, &found.unit().stored().image, &[], steps);
         let told = talk.tell_run(self.alloc, &answer);
@@ -150,8 +144,7 @@ impl<'a, N: Named + Send + Sync + 'static, H: Wait, D: Disk> Caller<'a, N, H, D>
         name: &[u8],
         steps: u64,
     ) -> Result<(), ScriptFault>
-        ensures ending { IfErr result (λ fault. fault ≡ WriteFault) }
-        ensures rest { talk.new ≡ talk.old }
+        ensures told { Tells talk.old talk.new result }
         ensures called { Calls (GetAnswers name.now client.old.holder client.new.holder) }
     {
         let answer = self.service.get(self.rt, self.alloc, client, name);
@@ -171,8 +164,7 @@ impl<'a, N: Named + Send + Sync + 'static, H: Wait, D: Disk> Caller<'a, N, H, D>
         name: &[u8],
         part: Part,
     ) -> Result<(), ScriptFault>
-        ensures ending { IfErr result (λ fault. fault ≡ WriteFault) }
-        ensures rest { talk.new ≡ talk.old }
+        ensures told { Tells talk.old talk.new result }
         ensures called { Calls (GetAnswers name.now client.old.holder client.new.holder) }
     {
         let answer = self.service.get(self.rt, self.alloc, client, name);
@@ -191,8 +183,7 @@ impl<'a, N: Named + Send + Sync + 'static, H: Wait, D: Disk> Caller<'a, N, H, D>
         found: &Found,
         part: Part,
     ) -> Result<(), ScriptFault>
-        ensures ending { IfErr result (λ fault. fault ≡ WriteFault) }
-        ensures rest { talk.new ≡ talk.old }
+        ensures told { Tells talk.old talk.new result }
     {
         match text_of(self.alloc, found, part) {
             Ok(text) => {
@@ -208,8 +199,7 @@ impl<'a, N: Named + Send + Sync + 'static, H: Wait, D: Disk> Caller<'a, N, H, D>
         &self,
         talk: &mut Talk<R, W, E>,
     ) -> Result<(), ScriptFault>
-        ensures ending { IfErr result (λ fault. fault ≡ WriteFault) }
-        ensures rest { talk.new ≡ talk.old }
+        ensures told { Tells talk.old talk.new result }
     {
         let answer = self.service.compact(self.rt, self.alloc);
         let told = talk.tell_done(self.alloc, &answer);
@@ -224,8 +214,7 @@ impl<'a, N: Named + Send + Sync + 'static, H: Wait, D: Disk> Caller<'a, N, H, D>
         name: &[u8],
         found: &Found,
     ) -> Result<bool, ScriptFault>
-        ensures ending { IfErr result (λ fault. fault ≡ WriteFault) }
-        ensures rest { talk.new ≡ talk.old }
+        ensures told { Tells talk.old talk.new result }
     {
         match audit_found(self.alloc, found) {
             Ok(audit) => {
@@ -246,8 +235,7 @@ impl<'a, N: Named + Send + Sync + 'static, H: Wait, D: Disk> Caller<'a, N, H, D>
         talk: &mut Talk<R, W, E>,
         name: &[u8],
     ) -> Result<bool, ScriptFault>
-        ensures ending { IfErr result (λ fault. fault ≡ WriteFault) }
-        ensures rest { talk.new ≡ talk.old }
+        ensures told { Tells talk.old talk.new result }
         ensures called { Calls (GetAnswers name.now client.old.holder client.new.holder) }
         ensures found { IfOk result (λ is_audited. IsTrue is_audited → (receipt : Receipt) × GetAnswers name.now client.old.holder client.new.holder (Ok receipt)) }
     {
@@ -270,8 +258,7 @@ impl<'a, N: Named + Send + Sync + 'static, H: Wait, D: Disk> Caller<'a, N, H, D>
         talk: &mut Talk<R, W, E>,
         names: &[Name],
     ) -> Result<bool, ScriptFault>
-        ensures ending { IfErr result (λ fault. fault ≡ WriteFault) }
-        ensures rest { talk.new ≡ talk.old }
+        ensures told { Tells talk.old talk.new result }
         ensures whole { IfOk result (λ all. FetchesEach names.now all client.old.holder client.new.holder) }
         ensures part { IfErr result (λ fault. FetchesEach names.now false client.old.holder client.new.holder) }
     {
@@ -289,8 +276,7 @@ impl<'a, N: Named + Send + Sync + 'static, H: Wait, D: Disk> Caller<'a, N, H, D>
         client: &mut Client<N>,
         talk: &mut Talk<R, W, E>,
     ) -> Result<(), ScriptFault>
-        ensures ending { IfErr result (λ fault. fault ≡ WriteFault) }
-        ensures rest { talk.new ≡ talk.old }
+        ensures told { Tells talk.old talk.new result }
         ensures called { Audits client.old.holder client.new.holder }
     {
         let answer = self.service.list(self.rt, self.alloc, client);

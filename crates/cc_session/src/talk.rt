@@ -3,7 +3,7 @@
 ghost use Rattle.std.specs.Prelude.{◌≡◌, ◌⊎◌, ◌≤◌, ℕ, List, IfErr, IfOk, OnOk};
 ghost use Rattle.cc_script.specs.Reading.{Between, IsLine, IsNext, IsNoSource, IsNotRead, IsWithinLine};
 ghost use Rattle.cc_script.specs.declared.fault.ScriptFault.TheVariants.{WriteFault};
-ghost use Rattle.cc_session.specs.internal.Steps.{HasSent, IsNoLine, IsSentAs, MayFollow};
+ghost use Rattle.cc_session.specs.internal.Steps.{HasSent, IsNoLine, IsSentAs, MayFollow, Tells};
 
 use crate::steward::{Generation, Steward};
 use crate::words::{explain_refusal, explain_words};
@@ -190,8 +190,7 @@ impl<R: Read, W: Write, E: Write> Talk<R, W, E> {
 
     // Says that a line is no command.
     pub(crate) fn refuse_line(&mut self) -> Result<(), ScriptFault>
-        ensures ending { IfErr result (λ fault. fault ≡ WriteFault) }
-        ensures rest { self.new ≡ self.old }
+        ensures told { Tells self.old self.new result }
     {
         self.tell_fault(ScriptFault::BadLine)
     }
@@ -207,8 +206,7 @@ impl<R: Read, W: Write, E: Write> Talk<R, W, E> {
 
     // Writes the names of a library.
     pub(crate) fn tell_names(&mut self, listing: &Listing) -> Result<(), ScriptFault>
-        ensures ending { IfErr result (λ fault. fault ≡ WriteFault) }
-        ensures rest { self.new ≡ self.old }
+        ensures told { Tells self.old self.new result }
     {
         written(write_listing(listing, &mut self.answers))
     }
@@ -219,8 +217,7 @@ impl<R: Read, W: Write, E: Write> Talk<R, W, E> {
         alloc: Global,
         answer: &Result<Answer, AllocError>,
     ) -> Result<(), ScriptFault>
-        ensures ending { IfErr result (λ fault. fault ≡ WriteFault) }
-        ensures rest { self.new ≡ self.old }
+        ensures told { Tells self.old self.new result }
     {
         match answer {
             Ok(answer) => written(write_answer(answer, &mut self.answers)),
@@ -230,8 +227,7 @@ impl<R: Read, W: Write, E: Write> Talk<R, W, E> {
 
     // Writes that memory ran out.
     pub(crate) fn tell_no_memory(&mut self, alloc: Global) -> Result<(), ScriptFault>
-        ensures ending { IfErr result (λ fault. fault ≡ WriteFault) }
-        ensures rest { self.new ≡ self.old }
+        ensures told { Tells self.old self.new result }
     {
         let fault = ServiceFault::OutOfMemory;
         let told = self.tell_refusal(alloc, &fault, &[]);
@@ -241,24 +237,21 @@ impl<R: Read, W: Write, E: Write> Talk<R, W, E> {
 
     // Writes what an audit says of a name's unit.
     pub(crate) fn tell_audit(&mut self, name: &[u8], audit: Audit) -> Result<(), ScriptFault>
-        ensures ending { IfErr result (λ fault. fault ≡ WriteFault) }
-        ensures rest { self.new ≡ self.old }
+        ensures told { Tells self.old self.new result }
     {
         written(write_audit(name, audit, &mut self.answers))
     }
 
     // Writes lines that are there as a whole.
     pub(crate) fn tell_text(&mut self, text: &[u8]) -> Result<(), ScriptFault>
-        ensures ending { IfErr result (λ fault. fault ≡ WriteFault) }
-        ensures rest { self.new ≡ self.old }
+        ensures told { Tells self.old self.new result }
     {
         written(write_text(text, &mut self.answers))
     }
 
     // Writes that what was asked for is done.
     pub(crate) fn tell_ok(&mut self) -> Result<(), ScriptFault>
-        ensures ending { IfErr result (λ fault. fault ≡ WriteFault) }
-        ensures rest { self.new ≡ self.old }
+        ensures told { Tells self.old self.new result }
     {
         written(write_ok(&mut self.answers))
     }
@@ -269,8 +262,7 @@ impl<R: Read, W: Write, E: Write> Talk<R, W, E> {
         alloc: Global,
         answer: &Result<(), ServiceFault>,
     ) -> Result<(), ScriptFault>
-        ensures ending { IfErr result (λ fault. fault ≡ WriteFault) }
-        ensures rest { self.new ≡ self.old }
+        ensures told { Tells self.old self.new result }
     {
         match answer {
             Ok(()) => self.tell_ok(),
@@ -285,8 +277,7 @@ impl<R: Read, W: Write, E: Write> Talk<R, W, E> {
         answer: &Result<Receipt, ServiceFault>,
         source: &[u8],
     ) -> Result<(), ScriptFault>
-        ensures ending { IfErr result (λ fault. fault ≡ WriteFault) }
-        ensures rest { self.new ≡ self.old }
+        ensures told { Tells self.old self.new result }
     {
         match answer {
             Ok(receipt) => written(write_number(receipt.number, &mut self.answers)),
@@ -306,8 +297,7 @@ impl<R: Read, W: Write, E: Write> Talk<R, W, E> {
 
     // Writes the line of a fault of the script, and explains it. Of one of the answers there is no line.
     pub(crate) fn tell_fault(&mut self, fault: ScriptFault) -> Result<(), ScriptFault>
-        ensures ending { IfErr result (λ fault. fault ≡ WriteFault) }
-        ensures rest { self.new ≡ self.old }
+        ensures told { Tells self.old self.new result }
     {
         let answer = if fault.number() == 54 {
             Ok(())
@@ -325,8 +315,7 @@ impl<R: Read, W: Write, E: Write> Talk<R, W, E> {
         fault: &ServiceFault,
         source: &[u8],
     ) -> Result<(), ScriptFault>
-        ensures ending { IfErr result (λ fault. fault ≡ WriteFault) }
-        ensures rest { self.new ≡ self.old }
+        ensures told { Tells self.old self.new result }
     {
         let answer = written(write_refusal(fault, source, &mut self.answers));
         let _ = explain_refusal(alloc, source, fault, &mut self.explanations);

@@ -1,5 +1,5 @@
 -- How far a script has been done.
-use Rattle.std.specs.Prelude.{◌≡◌, ◌≢◌, ◌⊎◌, ◌<◌, ℕ, Bool, true, false, List, [], ◌∷◌, ◌++◌, length, take, Option, Some, None, IfSome, Result, Ok, Err, Vec}
+use Rattle.std.specs.Prelude.{◌≡◌, ◌≢◌, ◌⊎◌, ◌<◌, ℕ, Bool, true, false, List, [], ◌∷◌, ◌++◌, length, take, Option, Some, None, IfSome, IfErr, Result, Ok, Err, Vec}
 use Rattle.std.specs.declared.alloc.Global.{Global}
 use Rattle.cc_script.specs.Fault.{fault_number}
 use Rattle.cc_script.specs.Reading.{Ahead, Between, HasMore, IsLine, IsNotRead}
@@ -43,6 +43,11 @@ IsSentAs source false sent = sent ≡ Unended
 abbrev pub asking : (is_new : Bool) → (name source : List ℕ) → Command → Type 0
 asking true = Adds
 asking false = Replaces
+
+-- what writes an answer leaves the script where it was, and 54 is its one fault
+pub record Tells {T : Type 0} (old new : Ahead) (result : Result T ScriptFault) : Type 0 where
+  pub ending : IfErr result (λ fault. fault ≡ WriteFault)
+  pub rest : new ≡ old
 
 -- fewer bytes than this many are left
 abbrev pub IsShortOf : (count : ℕ) (rest : List ℕ) → Type 0

@@ -13,12 +13,12 @@ returns-after-is_new g c =
     elim c.if-is_new.branch [
       | then-is_new w ↦
           rw (w.told-is, w.client-is, w.talk-is, w.if-is_new.true)
-          (put_step w.add-told.result (asking true) c.args.name.now c.in-Source.source w.as_slice.result.now w.as_slice.ensures.value c.args.length _ _ _ _ _ read w.add-told.ensures.ending w.add-told.ensures.rest
+          (put_step w.add-told.result (asking true) c.args.name.now c.in-Source.source w.as_slice.result.now w.as_slice.ensures.value c.args.length _ _ _ _ _ read w.add-told.ensures.told.ending w.add-told.ensures.told.rest
           w.add-told.ensures.called)
       | else-is_new w ↦
           rw (w.told-is, w.client-is, w.talk-is, w.if-is_new.false)
-          (put_step w.replace-told.result (asking false) c.args.name.now c.in-Source.source w.as_slice-else-is_new.result.now w.as_slice-else-is_new.ensures.value c.args.length _ _ _ _ _ read w.replace-told.ensures.ending
-          w.replace-told.ensures.rest w.replace-told.ensures.called)
+          (put_step w.replace-told.result (asking false) c.args.name.now c.in-Source.source w.as_slice-else-is_new.result.now w.as_slice-else-is_new.ensures.value c.args.length _ _ _ _ _ read w.replace-told.ensures.told.ending
+          w.replace-told.ensures.told.rest w.replace-told.ensures.called)
     ]
 
 pub returns-in-Unended : goal.returns-in-Unended
@@ -30,7 +30,7 @@ returns-in-Unended g c =
 pub returns-in-NoRoom : goal.returns-in-NoRoom
 returns-in-NoRoom g c =
     let read = rw c.in-NoRoom.is at c.in_ok-source.ensures.bytes in
-    unsent_step c.tell_no_memory.result (asking c.args.is_new) c.args.name.now c.args.length _ _ _ c.args.client.now.holder read c.tell_no_memory.ensures.ending c.tell_no_memory.ensures.rest
+    unsent_step c.tell_no_memory.result (asking c.args.is_new) c.args.name.now c.args.length _ _ _ c.args.client.now.holder read c.tell_no_memory.ensures.told.ending c.tell_no_memory.ensures.told.rest
 
 pub returns-in_err-source : goal.returns-in_err-source
 returns-in_err-source g c =
