@@ -7,12 +7,12 @@ use Rattle.cc_tokens.specs.declared.token.Token.{Token}
 use Rattle.cc_tokens.specs.Reading.{FoundBefore}
 use Rattle.cc_tokens.specs.Token.{Lexeme, lexeme, lexemes}
 use Rattle.cc_tokens.proofs.Found.{found_all, found_none}
-use Rattle.cc_syntax.specs.declared.parser.state.State as state
+use Rattle.cc_syntax.specs.declared.parser.state.Parser as parser
 use Rattle.cc_syntax.specs.declared.parser.stop.Stop as stop
 use Rattle.cc_ast.specs.Tree.{External}
 use Rattle.cc_ast.specs.Parse.{SpellsText}
-use Rattle.cc_syntax.specs.internal.Parser.{State, start, count_of, tree_of}
-use Rattle.cc_syntax.specs.internal.ParserView.{state_view, Advances}
+use Rattle.cc_syntax.specs.internal.Parser.{State, start, tree_of}
+use Rattle.cc_syntax.specs.internal.ParserView.{parser_view, Advances}
 use Rattle.cc_syntax.proofs.ReadsTokens.{unit_state}
 use Rattle.cc_syntax.proofs.Verdict.{Reached, at_start, reach_next, spelled_within}
 
@@ -30,18 +30,15 @@ pub read_blank : (text : List ℕ) (s : State) (at to : ℕ) (r : ReadTo text s 
 read_blank text s at to r f = record { tokens = r.tokens; found = f; reached = r.reached }
 
 -- one token more
-pub read_more : (text : List ℕ) (s : State) (at : ℕ) (t : Token) (next : state.State) (a : Result state.State stop.Stop) (r : ReadTo text s at) → FoundBefore text (r.tokens ++ t ∷ []) t.to → Advances s (lexeme text t) a → a ≡ Ok next
-    → ReadTo text (state_view next) t.to × (count_of (state_view next) ≤ 512)
-read_more text s at t next a r f h e =
-    let b = subst (λ (z : Result state.State stop.Stop). Advances s (lexeme text t) z) e h in
-    let all = sym (map_push (lexeme text) r.tokens t) in (
-      record {
-        tokens = r.tokens ++ t ∷ [];
-        found = f;
-        reached = subst (λ (z : List Lexeme). Reached (state_view next) z) all (reach_next s (state_view next) (lexemes text r.tokens) (lexeme text t) r.reached b.0 b.1);
-      },
-      b.1.0,
-    )
+pub read_more : {X : Type 0} {v : X} (text : List ℕ) (s : State) (at : ℕ) (t : Token) (p : parser.Parser) (a : Result X stop.Stop) (r : ReadTo text s at) → FoundBefore text (r.tokens ++ t ∷ []) t.to → Advances s (lexeme text t) a p → a ≡ Ok v → ReadTo text (parser_view p) t.to
+read_more {X} {v} text s at t p a r f h e =
+    let b = subst (λ (z : Result X stop.Stop). Advances s (lexeme text t) z p) e h in
+    let all = sym (map_push (lexeme text) r.tokens t) in
+    record {
+      tokens = r.tokens ++ t ∷ [];
+      found = f;
+      reached = subst (λ (z : List Lexeme). Reached (parser_view p) z) all (reach_next s (parser_view p) (lexemes text r.tokens) (lexeme text t) r.reached b.0 b.1);
+    }
 
 -- at the end the tree is spelled
 pub read_all : (text : List ℕ) (s : State) (at : ℕ) (tree : List External) → ReadTo text s at → length text ≤ at → tree_of s ≡ Some tree → SpellsText text tree

@@ -2,34 +2,34 @@
 use Rattle.std.proofs.Common.{◌≡◌, ◌<◌, ◌≤◌, ◌+◌, ℕ, suc, List, [], ◌∷◌, length, take, get_or, Some, None, Result, Ok, Err, refl, sym, ap, subst, arith}
 use Rattle.std.proofs.lemmas.List.{take_all}
 use Rattle.cc_tokens.specs.declared.token.Token.{Token}
-use Rattle.cc_syntax.specs.declared.parser.state.State as state
+use Rattle.cc_syntax.specs.declared.parser.state.Parser as parser
 use Rattle.cc_syntax.specs.declared.parser.stop.Stop as stop
 use Rattle.cc_syntax.specs.declared.parser.stop.Stop.TheVariants as stops
 use Rattle.cc_syntax.specs.declared.parser.stop.Refusal.TheVariants as refusals
 use Rattle.cc_tokens.specs.Token.{Lexeme, lexeme, lexemes}
 use Rattle.cc_ast.specs.Tree.{External}
 use Rattle.cc_ast.specs.Limits.{SpellsWithin}
-use Rattle.cc_syntax.specs.internal.Parser.{State, AtFile, Between, count_of, tree_of}
-use Rattle.cc_syntax.specs.internal.ParserView.{state_view, Advances, Refuses}
+use Rattle.cc_syntax.specs.internal.Parser.{State, AtFile, Between, tree_of}
+use Rattle.cc_syntax.specs.internal.ParserView.{parser_view, Advances, Refuses}
 use Rattle.cc_syntax.proofs.Settles.{none-some}
 use Rattle.cc_syntax.proofs.Finishes.{IsUnit}
 use Rattle.cc_syntax.proofs.Verdict.{Reached, fine_before, unexpected, unexpected_end, too_deep, reach, spelled_within}
 use Rattle.cc_syntax.proofs.TokenOrder.{cut_at, length-lexemes}
 
-pub stopped : (s : State) (text : List ℕ) (ts : List Token) (k : ℕ) (d : Token) (r : Result state.State stop.Stop) → k < length ts → Reached s (take k (lexemes text ts)) → Advances s (lexeme text (get_or ts k d)) r → r ≡ Err stops.Unexpected → Refuses (lexemes text ts) (refusals.Unexpected k)
-stopped s text ts k d r i h a e =
-    (fine_before s (lexemes text ts) k h, unexpected s (lexemes text ts) k (lexeme text (get_or ts k d)) h (cut_at text ts k d i) (subst (λ (z : Result state.State stop.Stop). Advances s (lexeme text (get_or ts k d)) z) e a))
+pub stopped : {X : Type 0} (s : State) (text : List ℕ) (ts : List Token) (k : ℕ) (d : Token) (p : parser.Parser) (r : Result X stop.Stop) → k < length ts → Reached s (take k (lexemes text ts)) → Advances s (lexeme text (get_or ts k d)) r p → r ≡ Err stops.Unexpected → Refuses (lexemes text ts) (refusals.Unexpected k)
+stopped {X} s text ts k d p r i h a e =
+    (fine_before s (lexemes text ts) k h, unexpected s (lexemes text ts) k (lexeme text (get_or ts k d)) h (cut_at text ts k d i) (subst (λ (z : Result X stop.Stop). Advances s (lexeme text (get_or ts k d)) z p) e a))
 
-pub past_limit : (s : State) (text : List ℕ) (ts : List Token) (k : ℕ) (d : Token) (r : Result state.State stop.Stop) → k < length ts → Reached s (take k (lexemes text ts)) → Advances s (lexeme text (get_or ts k d)) r → r ≡ Err stops.TooDeep → Refuses (lexemes text ts) (refusals.TooDeep k)
-past_limit s text ts k d r i h a e =
-    let b = subst (λ (z : Result state.State stop.Stop). Advances s (lexeme text (get_or ts k d)) z) e a in
+pub past_limit : {X : Type 0} (s : State) (text : List ℕ) (ts : List Token) (k : ℕ) (d : Token) (p : parser.Parser) (r : Result X stop.Stop) → k < length ts → Reached s (take k (lexemes text ts)) → Advances s (lexeme text (get_or ts k d)) r p → r ≡ Err stops.TooDeep → Refuses (lexemes text ts) (refusals.TooDeep k)
+past_limit {X} s text ts k d p r i h a e =
+    let b = subst (λ (z : Result X stop.Stop). Advances s (lexeme text (get_or ts k d)) z p) e a in
     (fine_before s (lexemes text ts) k h, too_deep s b.0 (lexemes text ts) k (lexeme text (get_or ts k d)) h (cut_at text ts k d i) b.1 b.2)
 
-pub goes_on : (s : State) (text : List ℕ) (ts : List Token) (k : ℕ) (d : Token) (r : Result state.State stop.Stop) (next : state.State) → k < length ts → Reached s (take k (lexemes text ts)) → Advances s (lexeme text (get_or ts k d)) r → r ≡ Ok next → Reached (state_view next) (take (k + 1) (lexemes text ts)) × (count_of (state_view next) ≤ 512)
-goes_on s text ts k d r next i h a e =
-    let b = subst (λ (z : Result state.State stop.Stop). Advances s (lexeme text (get_or ts k d)) z) e a in
+pub goes_on : {X : Type 0} {v : X} (s : State) (text : List ℕ) (ts : List Token) (k : ℕ) (d : Token) (p : parser.Parser) (r : Result X stop.Stop) → k < length ts → Reached s (take k (lexemes text ts)) → Advances s (lexeme text (get_or ts k d)) r p → r ≡ Ok v → Reached (parser_view p) (take (k + 1) (lexemes text ts))
+goes_on {X} {v} s text ts k d p r i h a e =
+    let b = subst (λ (z : Result X stop.Stop). Advances s (lexeme text (get_or ts k d)) z p) e a in
     let more : suc k ≡ k + 1 = omega arith in
-    (subst (λ (j : ℕ). Reached (state_view next) (take j (lexemes text ts))) more (reach s (state_view next) (lexemes text ts) k (lexeme text (get_or ts k d)) h (cut_at text ts k d i) b.0 b.1), b.1.0)
+    subst (λ (j : ℕ). Reached (parser_view p) (take j (lexemes text ts))) more (reach s (parser_view p) (lexemes text ts) k (lexeme text (get_or ts k d)) h (cut_at text ts k d i) b.0 b.1)
 
 all_of : (s : State) (text : List ℕ) (ts : List Token) (k : ℕ) → length ts ≤ k → Reached s (take k (lexemes text ts)) → Reached s (lexemes text ts)
 all_of s text ts k i h = subst (λ (z : List Lexeme). Reached s z) (take_all k (lexemes text ts) (omega (arith, length-lexemes text ts, i))) h

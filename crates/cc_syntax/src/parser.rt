@@ -1,13 +1,19 @@
 // The tree that the tokens of a text spell.
 //
-// The parser goes over the tokens once: `state` is where it stands between two of them, `step` what a
-// token does in each state (`outer` at file scope, `body` in a function's body, `full` in a full expression, with the
-// operators that wait in `expression`), `settle` how statements end, `role` what a token is to the grammar, `read` all the
-// tokens with the limits. No call is nested deeper for a deeper text.
+// The parser goes over the tokens once, and is changed in place: `state` is what it has between two of them, `step` what a
+// token (`cursor`) does, by what is read: at file scope `outer` and `objects`, in a function's body `body`, with `settle` for
+// how statements end, in a full expression `operand` and `operator`, with `expression` for the operators that wait, `count`
+// for the limit and `ends` for what goes on behind it. `role` is what a token is to the grammar, `read` all the tokens with
+// the limits. No call is nested deeper for a deeper text.
 
 mod body;
+mod count;
+mod cursor;
+mod ends;
 mod expression;
-mod full;
+mod objects;
+mod operand;
+mod operator;
 mod outer;
 mod read;
 mod role;
@@ -26,8 +32,9 @@ ghost use Rattle.cc_ast.specs.Limits.{TreesAreOne, SpelledHaveNoFault};
 ghost use Rattle.cc_ast.specs.Source.{source, UnitTree, AnswersTree};
 ghost use Rattle.cc_syntax.specs.internal.Answer.{IsParse};
 
-pub use crate::parser::read::{DEEPEST_LEVEL, MOST_TOKENS};
-use crate::parser::read::{read_text, read_tokens};
+pub use crate::parser::count::MOST_TOKENS;
+pub use crate::parser::read::DEEPEST_LEVEL;
+use crate::parser::state::{At, Outer, Parser, Values, no_body, no_full, no_objects, no_signature};
 use crate::parser::stop::Refusal;
 use cc_ast::{External, Unit};
 use cc_tokens::{MOST_BYTES, Place, SyntaxFault, Token, place_at, tokens};
@@ -74,27 +81,50 @@ fn unit_of(alloc: Global, text: &[u8], externals: Vec<External>) -> Result<Unit,
     }
 }
 
-/// The answer for a text, by the list of its tokens.
-fn parse_list(alloc: Global, text: &[u8]) -> Result<Unit, SyntaxFault>
-    ensures { IsParse text.now result }
-{
-    let found = tokens(alloc, text)?;
-    match read_tokens(alloc, text, found.as_slice()) {
-        Ok(externals) => unit_of(alloc, text, externals),
-        Err(refusal) => Err(fault_of(text, found.as_slice(), refusal)),
+impl Parser {
+    /// The answer for a text, by the list of its tokens.
+    fn parse_list(&mut self, text: &[u8]) -> Result<Unit, SyntaxFault>
+        ensures { IsParse text.now result }
+    {
+        let found = tokens(self.alloc, text)?;
+        match self.read_tokens(text, found.as_slice()) {
+            Ok(externals) => unit_of(self.alloc, text, externals),
+            Err(refusal) => Err(fault_of(text, found.as_slice(), refusal)),
+        }
+    }
+
+    /// The answer for a text.
+    fn parse(&mut self, text: &[u8]) -> Result<Unit, SyntaxFault>
+        ensures { IsParse text.now result }
+    {
+        if text.len() <= MOST_BYTES {
+            if let Some(externals) = self.read_text(text) {
+                return unit_of(self.alloc, text, externals);
+            }
+        }
+        self.parse_list(text)
     }
 }
 
-/// The answer for a text.
+/// The answer for a text, by a parser that has read nothing.
 fn parse_text(alloc: Global, text: &[u8]) -> Result<Unit, SyntaxFault>
     ensures { IsParse text.now result }
 {
-    if text.len() <= MOST_BYTES {
-        if let Some(externals) = read_text(alloc, text) {
-            return unit_of(alloc, text, externals);
-        }
-    }
-    parse_list(alloc, text)
+    let mut parser = Parser {
+        alloc,
+        externals: Vec::new(alloc),
+        at: At::File,
+        outer: Outer::Between,
+        signature: no_signature(alloc),
+        naming: no_objects(alloc),
+        list: Values {
+            size: None,
+            values: Vec::new(alloc),
+        },
+        body: no_body(alloc),
+        full: no_full(alloc),
+    };
+    parser.parse(text)
 }
 
 /// The tree that a text spells (C99 6.5 to 6.9, and the profile's grammar), with the text.

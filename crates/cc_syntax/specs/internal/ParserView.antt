@@ -1,11 +1,10 @@
 -- The parser's state without where it lies in memory, and what its functions answer by it. No public contract cites this
 -- file.
-use Rattle.std.specs.Prelude.{◌≡◌, List, reverse, map, Option, Some, None, Result, Ok, Err}
+use Rattle.std.specs.Prelude.{◌≡◌, ◌<◌, ℕ, List, slice_range, reverse, map, Option, Some, None, Result, Ok, Err}
 use Rattle.cc_syntax.specs.declared.parser.state.Waiting as waiting
 use Rattle.cc_syntax.specs.declared.parser.state.Waiting.TheVariants as waitings
 use Rattle.cc_syntax.specs.declared.parser.state.Open as open_statement
 use Rattle.cc_syntax.specs.declared.parser.state.Open.TheVariants as open_statements
-use Rattle.cc_syntax.specs.declared.parser.state.Body as body
 use Rattle.cc_syntax.specs.declared.parser.state.Spot as spot
 use Rattle.cc_syntax.specs.declared.parser.state.Spot.TheVariants as spots
 use Rattle.cc_syntax.specs.declared.parser.state.Test as test
@@ -14,29 +13,34 @@ use Rattle.cc_syntax.specs.declared.parser.state.Position as position
 use Rattle.cc_syntax.specs.declared.parser.state.Position.TheVariants as positions
 use Rattle.cc_syntax.specs.declared.parser.state.Purpose as purpose
 use Rattle.cc_syntax.specs.declared.parser.state.Purpose.TheVariants as purposes
+use Rattle.cc_syntax.specs.declared.parser.state.Locals as locals
 use Rattle.cc_syntax.specs.declared.parser.state.Naming as naming
+use Rattle.cc_syntax.specs.declared.parser.state.Values as values
+use Rattle.cc_ast.specs.declared.ast.Signature as signature
 use Rattle.cc_syntax.specs.declared.parser.state.Part as part
 use Rattle.cc_syntax.specs.declared.parser.state.Part.TheVariants as parts
 use Rattle.cc_syntax.specs.declared.parser.state.Context as context
 use Rattle.cc_syntax.specs.declared.parser.state.Context.TheVariants as contexts
-use Rattle.cc_syntax.specs.declared.parser.state.Full as full
 use Rattle.cc_syntax.specs.declared.parser.state.Phase as phase
 use Rattle.cc_syntax.specs.declared.parser.state.Phase.TheVariants as phases
 use Rattle.cc_syntax.specs.declared.parser.state.Stage as stage
 use Rattle.cc_syntax.specs.declared.parser.state.Stage.TheVariants as stages
 use Rattle.cc_syntax.specs.declared.parser.state.Outer as outer
 use Rattle.cc_syntax.specs.declared.parser.state.Outer.TheVariants as outers
-use Rattle.cc_syntax.specs.declared.parser.state.State as state
-use Rattle.cc_syntax.specs.declared.parser.state.State.TheVariants as states
+use Rattle.cc_syntax.specs.declared.parser.state.At as reading
+use Rattle.cc_syntax.specs.declared.parser.state.At.TheVariants as readings
+use Rattle.cc_syntax.specs.declared.parser.state.Parser as parser
+use Rattle.cc_syntax.specs.declared.parser.cursor.Cursor as cursor
 use Rattle.cc_syntax.specs.declared.parser.stop.Stop as stop
 use Rattle.cc_syntax.specs.declared.parser.stop.Stop.TheVariants as stops
 use Rattle.cc_syntax.specs.declared.parser.stop.Refusal as refusal
 use Rattle.cc_syntax.specs.declared.parser.stop.Refusal.TheVariants as refusals
 use Rattle.cc_ast.specs.Erase.{name_tree, expression_tree, optional_tree, target_tree, optional_action, declarator_trees, beginning_tree, statement_tree, statements_of, optional_constant, constant_trees, signature_tree, object_trees, external_trees}
+use Rattle.cc_ast.specs.Tree.{Name}
 use Rattle.cc_ast.specs.internal.Arguments.{expressions_of}
 use Rattle.cc_tokens.specs.Token.{Lexeme}
 use Rattle.cc_ast.specs.Limits.{IsWithin, PassesLimit, UnexpectedAt, TooDeepAt, IsFineBefore}
-use Rattle.cc_syntax.specs.internal.Parser.{step, standing, Waiting, Parenthesis, Index, Arguments, Prefix, Casting, Infix, Then, Otherwise, Open, InBlock, InThen, InElse, InWhile, InDo, InFor, Inside, Spot, AsStatement, AsStart, AsLast, Test, ForIf, ForWhile, ForDo, Position, AsLocal, AsHeader, Purpose, ToPerform, ToAssign, ToStep, ToReturn, ToTest, ToGoOn, ToInitialise, Naming, Part, ToSize, ToSingle, ToValue, Context, OfBody, OfObject, Full, Phase, Operand, Operator, CastSign, CastType, Stage, Item, AfterThen, AfterDo, Testing, Ending, Returning, ForOpening, ForStarting, ForTesting, ForStepping, LocalSign, Declaring, HasDeclared, Stepping, StepNamed, Stepped, Outer, Between, ResultSign, Typed, Named, Parameters, OnlyVoid, ParameterNext, ParameterSign, ParameterTyped, ParameterNamed, Headed, ObjectNext, ObjectNamed, Sizing, Sized, Initialising, Listing, Valuing, Listed, State, AtFile, InBody, InFull}
+use Rattle.cc_syntax.specs.internal.Parser.{step, standing, count_of, Waiting, Parenthesis, Index, Arguments, Prefix, Casting, Infix, Then, Otherwise, Open, InBlock, InThen, InElse, InWhile, InDo, InFor, Inside, Spot, AsStatement, AsStart, AsLast, Test, ForIf, ForWhile, ForDo, Position, AsLocal, AsHeader, Purpose, ToPerform, ToAssign, ToStep, ToReturn, ToTest, ToGoOn, ToInitialise, Naming, Part, ToSize, ToSingle, ToValue, Context, OfBody, OfObject, Full, Phase, Operand, Operator, CastSign, CastType, Stage, Item, AfterThen, AfterDo, Testing, Ending, Returning, ForOpening, ForStarting, ForTesting, ForStepping, LocalSign, Declaring, HasDeclared, Stepping, StepNamed, Stepped, Outer, Between, ResultSign, Typed, Named, Parameters, OnlyVoid, ParameterNext, ParameterSign, ParameterTyped, ParameterNamed, Headed, ObjectNext, ObjectNamed, Sizing, Sized, Initialising, Listing, Valuing, Listed, State, AtFile, InBody, InFull}
 
 abbrev pub waiting_view : waiting.Waiting → Waiting
 waiting_view waitings.Parenthesis = Parenthesis
@@ -64,9 +68,6 @@ open_view (open_statements.For a e l) = InFor (beginning_tree a.value) (optional
 abbrev pub open_views : List open_statement.Open → List Open
 open_views os = reverse (map open_view os)
 
-abbrev pub body_view : body.Body → Inside
-body_view b = record { externals = external_trees b.file.value.externals.items; signature = signature_tree b.signature; finished = statements_of b.finished.items; opened = open_views b.open.items }
-
 abbrev pub spot_view : spot.Spot → Spot
 spot_view spots.Statement = AsStatement
 spot_view spots.Start = AsStart
@@ -81,29 +82,27 @@ abbrev pub position_view : position.Position → Position
 position_view positions.Local = AsLocal
 position_view positions.Header = AsHeader
 
-abbrev pub purpose_view : purpose.Purpose → Purpose
-purpose_view (purposes.Perform p) = ToPerform (spot_view p)
-purpose_view (purposes.Assign op t p) = ToAssign op (target_tree t) (spot_view p)
-purpose_view (purposes.Step s) = ToStep s.value.operator (name_tree s.value.name) (spot_view s.value.spot)
-purpose_view (purposes.Return at) = ToReturn at
-purpose_view (purposes.Test t) = ToTest (test_view t)
-purpose_view (purposes.Continue a) = ToGoOn (beginning_tree a.value)
-purpose_view (purposes.Initialise d) = ToInitialise (position_view d.value.position) d.value.scalar (declarator_trees d.value.declarators.items) (name_tree d.value.name)
+-- an action stands where the register says, and a declaration of locals has what its register has
+abbrev pub purpose_view : spot.Spot → locals.Locals → purpose.Purpose → Purpose
+purpose_view p l purposes.Perform = ToPerform (spot_view p)
+purpose_view p l (purposes.Assign op t) = ToAssign op (target_tree t) (spot_view p)
+purpose_view p l (purposes.Step op) = ToStep op (name_tree l.name) (spot_view p)
+purpose_view p l (purposes.Return at) = ToReturn at
+purpose_view p l (purposes.Test t) = ToTest (test_view t)
+purpose_view p l (purposes.Continue a) = ToGoOn (beginning_tree a.value)
+purpose_view p l purposes.Initialise = ToInitialise (position_view l.position) l.scalar (declarator_trees l.declarators.items) (name_tree l.name)
 
 abbrev pub naming_view : naming.Naming → Naming
 naming_view n = record { kind = n.kind; objects = object_trees n.objects.items; name = name_tree n.name }
 
-abbrev pub part_view : part.Part → Part
-part_view (parts.Size at) = ToSize at
-part_view (parts.Single at) = ToSingle at
-part_view (parts.Value size vs at) = ToValue (optional_constant size) (constant_trees vs.items) at
+abbrev pub part_view : values.Values → part.Part → Part
+part_view v (parts.Size at) = ToSize at
+part_view v (parts.Single at) = ToSingle at
+part_view v (parts.Value at) = ToValue (optional_constant v.size) (constant_trees v.values.items) at
 
-abbrev pub context_view : context.Context → Context
-context_view (contexts.Body b p) = OfBody (body_view b.value) (purpose_view p)
-context_view (contexts.Object f n p) = OfObject (external_trees f.value.externals.items) (naming_view n.value) (part_view p)
-
-abbrev pub full_view : full.Full → Full
-full_view f = record { context = context_view f.context; waiting = waiting_views f.waiting.items; count = f.count }
+abbrev pub context_view : Inside → spot.Spot → locals.Locals → naming.Naming → values.Values → context.Context → Context
+context_view b p l n v (contexts.Body q) = OfBody b (purpose_view p l q)
+context_view b p l n v (contexts.Object q) = OfObject b.externals (naming_view n) (part_view v q)
 
 abbrev pub phase_view : phase.Phase → Phase
 phase_view phases.Operand = Operand
@@ -111,66 +110,96 @@ phase_view (phases.Operator e) = Operator (expression_tree e.value)
 phase_view (phases.CastSign t) = CastSign t
 phase_view (phases.CastType t) = CastType t
 
-abbrev pub stage_view : stage.Stage → Stage
-stage_view stages.Item = Item
-stage_view (stages.AfterThen e s) = AfterThen (expression_tree e.value) (statement_tree s.value)
-stage_view (stages.AfterDo s) = AfterDo (statement_tree s.value)
-stage_view (stages.Testing t) = Testing (test_view t)
-stage_view (stages.Ending s) = Ending (statement_tree s.value)
-stage_view (stages.Returning at) = Returning at
-stage_view stages.ForOpening = ForOpening
-stage_view stages.ForStarting = ForStarting
-stage_view (stages.ForTesting a) = ForTesting (beginning_tree a.value)
-stage_view (stages.ForStepping a e) = ForStepping (beginning_tree a.value) (optional_tree e)
-stage_view (stages.LocalSign w t) = LocalSign (position_view w) t
-stage_view (stages.Declaring w t ds) = Declaring (position_view w) t (declarator_trees ds.items)
-stage_view (stages.Declared d) = HasDeclared (position_view d.value.position) d.value.scalar (declarator_trees d.value.declarators.items) (name_tree d.value.name)
-stage_view (stages.Stepping op p) = Stepping op (spot_view p)
-stage_view (stages.StepNamed s) = StepNamed s.value.operator (name_tree s.value.name) (spot_view s.value.spot)
-stage_view (stages.Stepped s) = Stepped s.value.operator (target_tree s.value.target) (spot_view s.value.spot) s.value.count
+-- the number is that of the tokens of an increment or decrement
+abbrev pub stage_view : spot.Spot → locals.Locals → ℕ → stage.Stage → Stage
+stage_view p l k stages.Item = Item
+stage_view p l k (stages.AfterThen e s) = AfterThen (expression_tree e.value) (statement_tree s.value)
+stage_view p l k (stages.AfterDo s) = AfterDo (statement_tree s.value)
+stage_view p l k (stages.Testing t) = Testing (test_view t)
+stage_view p l k (stages.Ending s) = Ending (statement_tree s.value)
+stage_view p l k (stages.Returning at) = Returning at
+stage_view p l k stages.ForOpening = ForOpening
+stage_view p l k stages.ForStarting = ForStarting
+stage_view p l k (stages.ForTesting a) = ForTesting (beginning_tree a.value)
+stage_view p l k (stages.ForStepping a e) = ForStepping (beginning_tree a.value) (optional_tree e)
+stage_view p l k stages.LocalSign = LocalSign (position_view l.position) l.scalar
+stage_view p l k stages.Declaring = Declaring (position_view l.position) l.scalar (declarator_trees l.declarators.items)
+stage_view p l k stages.Declared = HasDeclared (position_view l.position) l.scalar (declarator_trees l.declarators.items) (name_tree l.name)
+stage_view p l k (stages.Stepping op) = Stepping op (spot_view p)
+stage_view p l k (stages.StepNamed op) = StepNamed op (name_tree l.name) (spot_view p)
+stage_view p l k (stages.Stepped op t) = Stepped op (target_tree t) (spot_view p) k
 
-abbrev pub outer_view : outer.Outer → Outer
-outer_view outers.Between = Between
-outer_view (outers.ResultSign t) = ResultSign t
-outer_view (outers.Typed t) = Typed t
-outer_view (outers.Named t n) = Named t (name_tree n)
-outer_view (outers.Parameters f) = Parameters (signature_tree f.value)
-outer_view (outers.OnlyVoid f) = OnlyVoid (signature_tree f.value)
-outer_view (outers.ParameterNext f) = ParameterNext (signature_tree f.value)
-outer_view (outers.ParameterSign f t) = ParameterSign (signature_tree f.value) t
-outer_view (outers.ParameterTyped f t) = ParameterTyped (signature_tree f.value) t
-outer_view (outers.ParameterNamed f) = ParameterNamed (signature_tree f.value)
-outer_view (outers.Headed f) = Headed (signature_tree f.value)
-outer_view (outers.ObjectNext t os) = ObjectNext t (object_trees os.items)
-outer_view (outers.ObjectNamed n) = ObjectNamed (naming_view n.value)
-outer_view (outers.Sizing n) = Sizing (naming_view n.value)
-outer_view (outers.Sized n size) = Sized (naming_view n.value) (optional_constant size)
-outer_view (outers.Initialising n) = Initialising (naming_view n.value)
-outer_view (outers.Listing n size) = Listing (naming_view n.value) (optional_constant size)
-outer_view (outers.Valuing v) = Valuing (naming_view v.value.naming.value) (optional_constant v.value.size) (constant_trees v.value.values.items)
-outer_view (outers.Listed t os) = Listed t (object_trees os.items)
+abbrev pub outer_view : signature.Signature → naming.Naming → values.Values → outer.Outer → Outer
+outer_view f n v outers.Between = Between
+outer_view f n v (outers.ResultSign t) = ResultSign t
+outer_view f n v (outers.Typed t) = Typed t
+outer_view f n v (outers.Named t) = Named t (name_tree n.name)
+outer_view f n v outers.Parameters = Parameters (signature_tree f)
+outer_view f n v outers.OnlyVoid = OnlyVoid (signature_tree f)
+outer_view f n v outers.ParameterNext = ParameterNext (signature_tree f)
+outer_view f n v (outers.ParameterSign t) = ParameterSign (signature_tree f) t
+outer_view f n v (outers.ParameterTyped t) = ParameterTyped (signature_tree f) t
+outer_view f n v outers.ParameterNamed = ParameterNamed (signature_tree f)
+outer_view f n v outers.Headed = Headed (signature_tree f)
+outer_view f n v outers.ObjectNext = ObjectNext n.kind (object_trees n.objects.items)
+outer_view f n v outers.ObjectNamed = ObjectNamed (naming_view n)
+outer_view f n v outers.Sizing = Sizing (naming_view n)
+outer_view f n v outers.Sized = Sized (naming_view n) (optional_constant v.size)
+outer_view f n v outers.Initialising = Initialising (naming_view n)
+outer_view f n v outers.Listing = Listing (naming_view n) (optional_constant v.size)
+outer_view f n v outers.Valuing = Valuing (naming_view n) (optional_constant v.size) (constant_trees v.values.items)
+outer_view f n v outers.Listed = Listed n.kind (object_trees n.objects.items)
 
-abbrev pub state_view : state.State → State
-state_view (states.File f) = AtFile (external_trees f.value.externals.items) (outer_view f.value.next)
-state_view (states.Body b) = InBody (body_view b.value) (stage_view b.value.stage)
-state_view (states.Full f) = InFull (full_view f.value) (phase_view f.value.phase)
+-- each of these with the parser's registers
+abbrev pub outer_of : parser.Parser → outer.Outer → Outer
+outer_of p next = outer_view p.signature p.naming p.list next
 
--- what a function returned, seen by view, is what the parser gives, unless memory ran out
-abbrev pub Stops : {Y : Type 0} → stop.Stop → Option Y → Type 0
+abbrev pub body_view : parser.Parser → Inside
+body_view p = record { externals = external_trees p.externals.items; signature = signature_tree p.signature; finished = statements_of p.body.finished.items; opened = open_views p.body.open.items }
+
+abbrev pub stage_of : parser.Parser → stage.Stage → Stage
+stage_of p s = stage_view p.body.spot p.body.locals p.full.count.tokens s
+
+abbrev pub context_of : parser.Parser → context.Context → Context
+context_of p c = context_view (body_view p) p.body.spot p.body.locals p.naming p.list c
+
+abbrev pub full_view : parser.Parser → Full
+full_view p = record { context = context_of p p.full.context; waiting = waiting_views p.full.waiting.items; count = p.full.count.tokens }
+
+-- what is read tells where the parser stands
+abbrev pub view_at : parser.Parser → reading.At → State
+view_at p readings.File = AtFile (external_trees p.externals.items) (outer_of p p.outer)
+view_at p readings.Body = InBody (body_view p) (stage_of p p.body.stage)
+view_at p readings.Full = InFull (full_view p) (phase_view p.full.phase)
+
+abbrev pub parser_view : parser.Parser → State
+parser_view p = view_at p p.at
+
+-- the name that a token gives
+abbrev pub name_at : cursor.Cursor → Name
+name_at c = record { text = slice_range c.text.now c.token.from c.token.to; at = c.token.from }
+
+-- a full expression past its limit
+abbrev pub PassesCount : Option State → Type 0
+PassesCount None = ⊥
+PassesCount (Some m) = 512 < count_of m
+
+-- what a step left of the parser is what the parser gives, unless memory ran out
+abbrev pub Stops : stop.Stop → Option State → Type 0
 Stops stops.Memory given = Unit {0}
 Stops stops.Unexpected given = given ≡ None
-Stops stops.TooDeep given = ⊥
+Stops stops.TooDeep given = PassesCount given
 
-abbrev pub Gives : {X Y : Type 0} → (X → Y) → Result X stop.Stop → Option Y → Type 0
-Gives view (Ok x) given = given ≡ Some (view x)
-Gives view (Err e) given = Stops e given
+abbrev pub Gives : {X : Type 0} → Option State → Result X stop.Stop → parser.Parser → Type 0
+Gives given (Ok _) p = given ≡ Some (parser_view p)
+Gives given (Err e) p = Stops e given
 
 -- what a token comes to, its limits asked
-abbrev pub Advances : State → Lexeme → Result state.State stop.Stop → Type 0
-Advances s x (Ok next) = (step s x ≡ Some (state_view next)) × IsWithin (standing s x (state_view next))
-Advances s x (Err stops.Memory) = Unit {0}
-Advances s x (Err stops.Unexpected) = step s x ≡ None
-Advances s x (Err stops.TooDeep) = (m : State) × (step s x ≡ Some m) × PassesLimit (standing s x m)
+abbrev pub Advances : {X : Type 0} → State → Lexeme → Result X stop.Stop → parser.Parser → Type 0
+Advances s x (Ok _) p = (step s x ≡ Some (parser_view p)) × IsWithin (standing s x (parser_view p))
+Advances s x (Err stops.Memory) p = Unit {0}
+Advances s x (Err stops.Unexpected) p = step s x ≡ None
+Advances s x (Err stops.TooDeep) p = (m : State) × (step s x ≡ Some m) × PassesLimit (standing s x m)
 
 -- why the tokens spell no unit within the limits
 abbrev pub Refuses : List Lexeme → refusal.Refusal → Type 0

@@ -51,15 +51,15 @@ pub fn call_of(name: Identifier, arguments: Vec<Expression>) -> Expression
     Expression::Call(name, arguments)
 }
 
-/// The arguments with one more.
-pub fn with_argument_of(
-    mut arguments: Vec<Expression>,
+/// One more argument.
+pub fn add_argument(
+    arguments: &mut Vec<Expression>,
     argument: Box<Expression>,
-) -> Result<Vec<Expression>, AllocError>
-    ensures { IfOk result (λ es. expressions_of es.items ≡ with_argument (expressions_of arguments.items) (expression_tree argument.value)) }
+) -> Result<(), AllocError>
+    ensures { IfOk result (λ _. expressions_of arguments.new.items ≡ with_argument (expressions_of arguments.old.items) (expression_tree argument.value)) }
 {
     arguments.push(Box::into_inner(argument))?;
-    Ok(arguments)
+    Ok(())
 }
 
 /// An expression in a box.
@@ -70,7 +70,7 @@ pub fn boxed(alloc: Global, expression: Expression) -> Result<Box<Expression>, A
 }
 
 /// What waits, with its operand.
-pub fn complete(
+fn complete(
     alloc: Global,
     waiting: Waiting,
     operand: Box<Expression>,
@@ -81,7 +81,8 @@ pub fn complete(
         Waiting::Parenthesis => boxed(alloc, Expression::Parenthesised(operand)),
         Waiting::Index(name) => boxed(alloc, Expression::Element(name, operand)),
         Waiting::Arguments(name, arguments) => {
-            let arguments = with_argument_of(arguments, operand)?;
+            let mut arguments = arguments;
+            add_argument(&mut arguments, operand)?;
             boxed(alloc, call_of(name, arguments))
         }
         Waiting::Prefix(operator) => boxed(alloc, Expression::Unary(operator, operand)),
@@ -89,10 +90,7 @@ pub fn complete(
         Waiting::Infix(operator, left) => {
             boxed(alloc, Expression::Binary(operator, left, operand))
         }
-        Waiting::Then(test) => {
-            drop(test);
-            Ok(operand)
-        }
+        Waiting::Then(_) => Ok(operand),
         Waiting::Otherwise(test, then) => {
             boxed(alloc, Expression::Conditional(test, then, operand))
         }

@@ -4,158 +4,106 @@
 // are put into a list, which tells the first error of the text, and read from there, which tells the first token that breaks
 // the grammar or a limit.
 
-ghost use Rattle.std.specs.Prelude.{◌≡◌, ◌<◌, ◌≤◌, length, IfOk, IfSome, MatchResult};
+ghost use Rattle.std.specs.Prelude.{◌≡◌, ◌≤◌, length, IfSome, MatchResult};
 ghost use Rattle.std.specs.Option.{option_map};
 ghost use Rattle.cc_ast.specs.Erase.{external_trees};
-ghost use Rattle.cc_syntax.specs.internal.Parser.{count_of, start, tree_of};
+ghost use Rattle.cc_syntax.specs.internal.Parser.{tree_of};
 ghost use Rattle.cc_ast.specs.Limits.{SpellsWithin};
 ghost use Rattle.cc_ast.specs.Parse.{SpellsText};
-ghost use Rattle.cc_syntax.specs.internal.ParserView.{state_view, Advances, Refuses};
+ghost use Rattle.cc_syntax.specs.internal.ParserView.{parser_view, Advances, Refuses};
 ghost use Rattle.cc_tokens.specs.Token.{lexeme, lexemes};
 ghost use Rattle.cc_tokens.specs.Tokens.{AreInOrder};
 
+use crate::parser::cursor::Cursor;
 use crate::parser::role::of_kind;
-use crate::parser::state::{File, Outer, State};
-use crate::parser::step::{count_so_far, level_begun, step};
+use crate::parser::state::{At, Outer, Parser};
 use crate::parser::stop::{Refusal, Stop};
 use cc_ast::External;
 use cc_tokens::{Next, Token, next_token};
-use std::alloc::{AllocError, Global};
-
-/// The most tokens that a full expression may have.
-pub const MOST_TOKENS: usize = 512;
+use std::mem::replace;
 
 /// The deepest level at which a statement or declaration may stand.
 pub const DEEPEST_LEVEL: usize = 64;
 
-/// The state after a token, whose limits are asked.
-fn advance(alloc: Global, state: State, text: &[u8], token: Token) -> Result<State, Stop>
-    requires order { token.from ≤ token.to }
-    requires within { token.to ≤ length text.now }
-    requires count { count_of (state_view state) ≤ 512 }
-    ensures { Advances (state_view state) (lexeme text.now token) result }
-{
-    let role = of_kind(token.kind);
-    let level = level_begun(&state, role);
-    let next = step(alloc, state, role, text, token)?;
-    if count_so_far(&next) > MOST_TOKENS || level > DEEPEST_LEVEL {
-        drop(next);
-        return Err(Stop::TooDeep);
+impl Parser {
+    /// One token, whose limits are asked.
+    fn advance(&mut self, cursor: &Cursor<'_>) -> Result<(), Stop>
+        ensures { Advances (parser_view self.old) (lexeme cursor.now.text.now cursor.now.token) result self.new }
+    {
+        let role = of_kind(cursor.token.kind);
+        let level = self.level_begun(role);
+        match self.step(role, cursor) {
+            Ok(()) => {
+                if level > DEEPEST_LEVEL {
+                    Err(Stop::TooDeep)
+                } else {
+                    Ok(())
+                }
+            }
+            Err(stop) => Err(stop),
+        }
     }
-    Ok(next)
-}
 
-/// The external declarations, where a unit may end.
-fn finished(state: State) -> Option<Vec<External>>
-    ensures { option_map (λ es. external_trees es.items) result ≡ tree_of (state_view state) }
-{
-    match state {
-        State::File(file) => {
-            let File { externals, next } = Box::into_inner(file);
-            match next {
+    /// The external declarations that a text spells, without a list of its tokens. None where it is refused, or where memory
+    /// ran out.
+    pub fn read_text(&mut self, text: &[u8]) -> Option<Vec<External>>
+        ensures { IfSome result (λ es. SpellsText text.now (external_trees es.items)) }
+    {
+        self.restart();
+        let mut at = 0;
+        while at < text.len() {
+            match next_token(text, at) {
+                Next::Token(token) => match self.advance(&Cursor { text, token }) {
+                    Ok(()) => at = token.to,
+                    Err(_) => return None,
+                },
+                Next::End => at = text.len(),
+                Next::Error(_, _) => return None,
+            }
+        }
+        self.finished()
+    }
+
+    /// The external declarations that all the tokens spell within the limits, or the first token that breaks the grammar or
+    /// a limit.
+    pub fn read_tokens(&mut self, text: &[u8], tokens: &[Token]) -> Result<Vec<External>, Refusal>
+        requires { AreInOrder 0 tokens.now (length text.now) }
+        ensures { MatchResult result (λ es. SpellsWithin (lexemes text.now tokens.now) (external_trees es.items)) (λ e. Refuses (lexemes text.now tokens.now) e) }
+    {
+        self.restart();
+        for number in 0..tokens.len() {
+            let cursor = Cursor {
+                text,
+                token: tokens[number],
+            };
+            match self.advance(&cursor) {
+                Ok(()) => {}
+                Err(Stop::Memory) => return Err(Refusal::Memory),
+                Err(Stop::Unexpected) => return Err(Refusal::Unexpected(number)),
+                Err(Stop::TooDeep) => return Err(Refusal::TooDeep(number)),
+            }
+        }
+        match self.finished() {
+            Some(externals) => Ok(externals),
+            None => Err(Refusal::Unexpected(tokens.len())),
+        }
+    }
+
+    /// The external declarations, where a unit may end.
+    fn finished(&mut self) -> Option<Vec<External>>
+        ensures { option_map (λ es. external_trees es.items) result ≡ tree_of (parser_view self.old) }
+    {
+        match self.at {
+            At::File => match self.outer {
                 Outer::Between => {
-                    if externals.is_empty() {
+                    if self.externals.is_empty() {
                         return None;
                     }
-                    Some(externals)
+                    Some(replace(&mut self.externals, Vec::new(self.alloc)))
                 }
-                other => {
-                    drop(externals);
-                    drop(other);
-                    None
-                }
-            }
-        }
-        other => {
-            drop(other);
-            None
-        }
-    }
-}
-
-/// The state before the first token.
-fn start(alloc: Global) -> Result<State, AllocError>
-    ensures { IfOk result (λ state. state_view state ≡ start) }
-{
-    let file = File {
-        externals: Vec::new(alloc),
-        next: Outer::Between,
-    };
-    Ok(State::File(Box::new(alloc, file)?))
-}
-
-/// The external declarations that a text spells, read token by token from the start on. None where it is refused, or where
-/// memory ran out.
-fn read_text_from(alloc: Global, first: State, text: &[u8]) -> Option<Vec<External>>
-    requires start { state_view first ≡ start }
-    ensures { IfSome result (λ es. SpellsText text.now (external_trees es.items)) }
-{
-    let mut state = first;
-    let mut at = 0;
-    while at < text.len() {
-        match next_token(text, at) {
-            Next::Token(token) => match advance(alloc, state, text, token) {
-                Ok(next) => {
-                    state = next;
-                    at = token.to;
-                }
-                Err(_) => return None,
+                _ => None,
             },
-            Next::End => at = text.len(),
-            Next::Error(_, _) => {
-                drop(state);
-                return None;
-            }
+            _ => None,
         }
-    }
-    finished(state)
-}
-
-/// The external declarations that a text spells, without a list of its tokens. None where it is refused, or where memory
-/// ran out.
-pub fn read_text(alloc: Global, text: &[u8]) -> Option<Vec<External>>
-    ensures { IfSome result (λ es. SpellsText text.now (external_trees es.items)) }
-{
-    match start(alloc) {
-        Ok(state) => read_text_from(alloc, state, text),
-        Err(_) => None,
-    }
-}
-
-/// The external declarations that all the tokens spell from the start on.
-fn read_from(
-    alloc: Global,
-    first: State,
-    text: &[u8],
-    tokens: &[Token],
-) -> Result<Vec<External>, Refusal>
-    requires order { AreInOrder 0 tokens.now (length text.now) }
-    requires start { state_view first ≡ start }
-    ensures { MatchResult result (λ es. SpellsWithin (lexemes text.now tokens.now) (external_trees es.items)) (λ e. Refuses (lexemes text.now tokens.now) e) }
-{
-    let mut state = first;
-    for number in 0..tokens.len() {
-        match advance(alloc, state, text, tokens[number]) {
-            Ok(next) => state = next,
-            Err(Stop::Memory) => return Err(Refusal::Memory),
-            Err(Stop::Unexpected) => return Err(Refusal::Unexpected(number)),
-            Err(Stop::TooDeep) => return Err(Refusal::TooDeep(number)),
-        }
-    }
-    match finished(state) {
-        Some(externals) => Ok(externals),
-        None => Err(Refusal::Unexpected(tokens.len())),
-    }
-}
-
-/// The external declarations that all the tokens spell within the limits, or the first token that breaks the grammar or a
-/// limit.
-pub fn read_tokens(alloc: Global, text: &[u8], tokens: &[Token]) -> Result<Vec<External>, Refusal>
-    requires { AreInOrder 0 tokens.now (length text.now) }
-    ensures { MatchResult result (λ es. SpellsWithin (lexemes text.now tokens.now) (external_trees es.items)) (λ e. Refuses (lexemes text.now tokens.now) e) }
-{
-    match start(alloc) {
-        Ok(state) => read_from(alloc, state, text, tokens),
-        Err(_) => Err(Refusal::Memory),
     }
 }

@@ -1,17 +1,19 @@
 // What the parser has read so far, and what may come next.
 
-ghost use Rattle.std.specs.Prelude.{◌≡◌};
+ghost use Rattle.std.specs.Prelude.{◌≡◌, [], Some};
 ghost use Rattle.cc_ast.specs.Erase.{external_trees};
-ghost use Rattle.cc_syntax.specs.internal.Parser.{AtFile, InBody, InFull};
-ghost use Rattle.cc_syntax.specs.internal.ParserView.{state_view, outer_view, body_view, stage_view, full_view, phase_view};
+ghost use Rattle.cc_syntax.specs.internal.Parser.{AtFile, InBody, InFull, Operand, full_of, goes_on, begins_full, start};
+ghost use Rattle.cc_syntax.specs.internal.ParserView.{parser_view, outer_of, body_view, stage_of, context_of, full_view, waiting_views, phase_view, Gives};
 
+use crate::parser::count::Count;
+use crate::parser::stop::Stop;
 use cc_ast::{
     Action, AssignmentOperator, Beginning, BinaryOperator, ConstantExpression, Declarator,
     Expression, External, Identifier, Object, Signature, Statement, StepOperator, Target,
     UnaryOperator,
 };
 use cc_tokens::Scalar;
-use std::mem::replace;
+use std::alloc::Global;
 
 /// What waits for an operand to its right, or for a closing token.
 #[derive(Drop)]
@@ -40,24 +42,6 @@ pub enum Open {
     For(Box<Beginning>, Option<Box<Expression>>, Option<Action>),
 }
 
-/// A text so far, at file scope: the external declarations that are complete, and what comes next.
-#[derive(Drop)]
-pub struct File {
-    pub externals: Vec<External>,
-    pub next: Outer,
-}
-
-/// A function's body so far: what stands before it, its finished statements, those that are open, the innermost last, and
-/// what comes next.
-#[derive(Drop)]
-pub struct Body {
-    pub file: Box<File>,
-    pub signature: Signature,
-    pub finished: Vec<Statement>,
-    pub open: Vec<Open>,
-    pub stage: Stage,
-}
-
 /// Where an action stands: it is a statement, or the first or the last part of a `for` header.
 #[derive(Drop)]
 pub enum Spot {
@@ -82,45 +66,28 @@ pub enum Position {
     Header,
 }
 
-/// A declaration of locals so far: those that are complete, and a name.
+/// A declaration of locals so far: those that are complete, and a name. The name is also that behind `++` or `--`.
 #[derive(Drop)]
-pub struct DeclaredName {
+pub struct Locals {
     pub position: Position,
     pub scalar: Scalar,
     pub declarators: Vec<Declarator>,
     pub name: Identifier,
 }
 
-/// `++` or `--`, and the name behind it.
-#[derive(Drop)]
-pub struct SteppedName {
-    pub operator: StepOperator,
-    pub name: Identifier,
-    pub spot: Spot,
-}
-
-/// An increment or decrement, and of how many tokens.
-#[derive(Drop)]
-pub struct SteppedTarget {
-    pub operator: StepOperator,
-    pub target: Target,
-    pub spot: Spot,
-    pub count: usize,
-}
-
 /// What a full expression in a function's body is a part of.
 #[derive(Drop)]
 pub enum Purpose {
     /// An action that begins with it, or is it.
-    Perform(Spot),
-    Assign(AssignmentOperator, Target, Spot),
+    Perform,
+    Assign(AssignmentOperator, Target),
     /// The index of an element that is incremented or decremented.
-    Step(Box<SteppedName>),
+    Step(StepOperator),
     Return(usize),
     Test(Test),
     /// The condition of a `for`.
     Continue(Box<Beginning>),
-    Initialise(Box<DeclaredName>),
+    Initialise,
 }
 
 /// What a declaration of objects declares: objects of a type, or arrays of `unsigned char`.
@@ -138,37 +105,27 @@ pub struct Naming {
     pub name: Identifier,
 }
 
-/// The list of the named array so far, and the array's length where it is given.
+/// What is said of the named array so far: its length where it is given, and the values of its list.
 #[derive(Drop)]
 pub struct Values {
-    pub naming: Box<Naming>,
     pub size: Option<ConstantExpression>,
     pub values: Vec<ConstantExpression>,
 }
 
 /// What a constant expression is of the named object, and the offset of its first token.
-#[derive(Drop)]
+#[derive(Clone, Copy)]
 pub enum Part {
     Size(usize),
     Single(usize),
-    /// A value of a list, of which the length and the values so far are kept.
-    Value(Option<ConstantExpression>, Vec<ConstantExpression>, usize),
+    /// A value of a list.
+    Value(usize),
 }
 
-/// What stands around a full expression.
+/// What a full expression is a part of.
 #[derive(Drop)]
 pub enum Context {
-    Body(Box<Body>, Purpose),
-    Object(Box<File>, Box<Naming>, Part),
-}
-
-/// A full expression so far: what waits, the latest last, how many tokens it has, and what comes next.
-#[derive(Drop)]
-pub struct Full {
-    pub context: Context,
-    pub waiting: Vec<Waiting>,
-    pub count: usize,
-    pub phase: Phase,
+    Body(Purpose),
+    Object(Part),
 }
 
 /// What comes next in a full expression.
@@ -181,6 +138,15 @@ pub enum Phase {
     CastSign(Scalar),
     /// A closing parenthesis, after the type of a cast.
     CastType(Scalar),
+}
+
+/// A full expression so far: what waits, the latest last, how many tokens it has, and what comes next.
+#[derive(Drop)]
+pub struct Full {
+    pub context: Context,
+    pub waiting: Vec<Waiting>,
+    pub count: Count,
+    pub phase: Phase,
 }
 
 /// What comes next in a function's body, outside of full expressions.
@@ -206,21 +172,32 @@ pub enum Stage {
     /// The last part of a `for` header, or its closing parenthesis.
     ForStepping(Box<Beginning>, Option<Box<Expression>>),
     /// `int` or a name, after `signed` or `unsigned`.
-    LocalSign(Position, Scalar),
+    LocalSign,
     /// A name to declare.
-    Declaring(Position, Scalar, Vec<Declarator>),
+    Declaring,
     /// `=`, a comma or a semicolon, after a declared name.
-    Declared(Box<DeclaredName>),
+    Declared,
     /// A name, after `++` or `--`.
-    Stepping(StepOperator, Spot),
+    Stepping(StepOperator),
     /// `[` or the end, after that name.
-    StepNamed(Box<SteppedName>),
-    /// The end, after an increment or decrement.
-    Stepped(Box<SteppedTarget>),
+    StepNamed(StepOperator),
+    /// The end, after an increment or decrement, of which the tokens were counted.
+    Stepped(StepOperator, Target),
+}
+
+/// A function's body so far: its finished statements, those that are open, the innermost last, what comes next, and where
+/// an action stands and what a declaration has, where one is read.
+#[derive(Drop)]
+pub struct Body {
+    pub finished: Vec<Statement>,
+    pub open: Vec<Open>,
+    pub stage: Stage,
+    pub spot: Spot,
+    pub locals: Locals,
 }
 
 /// What comes next at file scope.
-#[derive(Drop)]
+#[derive(Clone, Copy)]
 pub enum Outer {
     /// An external declaration, or the end of the text.
     Between,
@@ -229,71 +206,189 @@ pub enum Outer {
     /// A name, after a type or `void`.
     Typed(Option<Scalar>),
     /// What stands after the first name.
-    Named(Option<Scalar>, Identifier),
+    Named(Option<Scalar>),
     /// `void`, a parameter or `)`, after `(`.
-    Parameters(Box<Signature>),
+    Parameters,
     /// `)`, after `void`.
-    OnlyVoid(Box<Signature>),
+    OnlyVoid,
     /// A parameter, after a comma.
-    ParameterNext(Box<Signature>),
+    ParameterNext,
     /// `int`, a name, a comma or `)`, after `signed` or `unsigned`.
-    ParameterSign(Box<Signature>, Scalar),
+    ParameterSign(Scalar),
     /// A name, a comma or `)`, after a parameter's type.
-    ParameterTyped(Box<Signature>, Scalar),
+    ParameterTyped(Scalar),
     /// A comma or `)`, after a parameter.
-    ParameterNamed(Box<Signature>),
+    ParameterNamed,
     /// A semicolon or a body.
-    Headed(Box<Signature>),
+    Headed,
     /// A name, after a comma or after `unsigned char`.
-    ObjectNext(ObjectKind, Vec<Object>),
+    ObjectNext,
     /// `[`, `=`, a comma or a semicolon, after an object's name.
-    ObjectNamed(Box<Naming>),
+    ObjectNamed,
     /// A length or `]`.
-    Sizing(Box<Naming>),
+    Sizing,
     /// `=`, a comma or a semicolon, after `]`.
-    Sized(Box<Naming>, Option<ConstantExpression>),
+    Sized,
     /// The value of a single object.
-    Initialising(Box<Naming>),
+    Initialising,
     /// `{`.
-    Listing(Box<Naming>, Option<ConstantExpression>),
+    Listing,
     /// A value, or after a comma `}`.
-    Valuing(Box<Values>),
+    Valuing,
     /// A comma or a semicolon, after a complete object.
-    Listed(ObjectKind, Vec<Object>),
+    Listed,
 }
 
-/// Where the parser stands between two tokens. It moves at each token, so it is small: what it has lies in boxes, which are
-/// changed in place.
+/// What is read: what stands at file scope, a function's body, or a full expression of one of these.
+#[derive(Clone, Copy)]
+pub enum At {
+    File,
+    Body,
+    Full,
+}
+
+/// A text so far: the external declarations that are complete, what is read, and what each part of it comes to next. All of
+/// it stays where it is, and is changed in place; what is not read is what it last was.
 #[derive(Drop)]
-pub enum State {
-    File(Box<File>),
-    Body(Box<Body>),
-    Full(Box<Full>),
+pub struct Parser {
+    pub alloc: Global,
+    pub externals: Vec<External>,
+    pub at: At,
+    pub outer: Outer,
+    /// What is said of the function whose head or body is read.
+    pub signature: Signature,
+    /// The objects that are declared.
+    pub naming: Naming,
+    /// The array among them.
+    pub list: Values,
+    pub body: Body,
+    pub full: Full,
 }
 
-/// The state at file scope before what comes next.
-pub fn at_file(file: Box<File>, next: Outer) -> State
-    ensures { state_view result ≡ AtFile (external_trees file.value.externals.items) (outer_view next) }
+/// Puts a value in the place of another.
+pub fn put<T: Drop>(place: &mut T, value: T)
+    ensures { place.new ≡ value }
 {
-    let mut file = file;
-    drop(replace(&mut file.next, next));
-    State::File(file)
+    *place = value;
 }
 
-/// The state in a function's body before what comes next.
-pub fn in_body(body: Box<Body>, stage: Stage) -> State
-    ensures { state_view result ≡ InBody (body_view body.value) (stage_view stage) }
-{
-    let mut body = body;
-    drop(replace(&mut body.stage, stage));
-    State::Body(body)
+/// An identifier of no bytes, where one was taken.
+pub fn no_name(alloc: Global) -> Identifier {
+    Identifier {
+        bytes: Vec::new(alloc),
+        at: 0,
+    }
 }
 
-/// The state in a full expression before what comes next.
-pub fn in_full(full: Box<Full>, phase: Phase) -> State
-    ensures { state_view result ≡ InFull (full_view full.value) (phase_view phase) }
-{
-    let mut full = full;
-    drop(replace(&mut full.phase, phase));
-    State::Full(full)
+/// What is said of no function, where a signature was taken.
+pub fn no_signature(alloc: Global) -> Signature {
+    Signature {
+        result: None,
+        name: no_name(alloc),
+        parameters: Vec::new(alloc),
+    }
+}
+
+/// No objects.
+pub fn no_objects(alloc: Global) -> Naming {
+    Naming {
+        kind: ObjectKind::Bytes,
+        objects: Vec::new(alloc),
+        name: no_name(alloc),
+    }
+}
+
+/// No locals.
+fn no_locals(alloc: Global) -> Locals {
+    Locals {
+        position: Position::Local,
+        scalar: Scalar::Int,
+        declarators: Vec::new(alloc),
+        name: no_name(alloc),
+    }
+}
+
+/// A body without statements.
+pub fn no_body(alloc: Global) -> Body {
+    Body {
+        finished: Vec::new(alloc),
+        open: Vec::new(alloc),
+        stage: Stage::Item,
+        spot: Spot::Statement,
+        locals: no_locals(alloc),
+    }
+}
+
+/// A full expression of no tokens.
+pub fn no_full(alloc: Global) -> Full {
+    Full {
+        context: Context::Body(Purpose::Perform),
+        waiting: Vec::new(alloc),
+        count: Count { tokens: 0 },
+        phase: Phase::Operand,
+    }
+}
+
+impl Parser {
+    /// The parser is before the first token.
+    pub fn restart(&mut self)
+        ensures { parser_view self.new ≡ start }
+    {
+        self.externals.clear();
+        self.outer = Outer::Between;
+        self.at = At::File;
+    }
+
+    /// What comes next at file scope.
+    pub fn to_file(&mut self, next: Outer) -> Result<(), Stop>
+        ensures { Gives (Some (AtFile (external_trees self.old.externals.items) (outer_of self.old next))) result self.new }
+    {
+        self.outer = next;
+        self.at = At::File;
+        Ok(())
+    }
+
+    /// What comes next in a function's body.
+    pub fn to_body(&mut self, stage: Stage) -> Result<(), Stop>
+        ensures { Gives (Some (InBody (body_view self.old) (stage_of self.old stage))) result self.new }
+    {
+        put(&mut self.body.stage, stage);
+        self.at = At::Body;
+        Ok(())
+    }
+
+    /// What comes next in a full expression, after one more of its tokens.
+    pub fn to_full(&mut self, phase: Phase) -> Result<(), Stop>
+        ensures { Gives (goes_on (full_view self.old) (waiting_views self.old.full.waiting.items) (phase_view phase)) result self.new }
+    {
+        put(&mut self.full.phase, phase);
+        self.at = At::Full;
+        match self.full.count.next() {
+            Some(count) => {
+                self.full.count = count;
+                Ok(())
+            }
+            None => Err(Stop::TooDeep),
+        }
+    }
+
+    /// A full expression begins, after this many of its tokens.
+    pub fn open_full(&mut self, context: Context, count: Count)
+        ensures full { full_view self.new ≡ full_of (context_of self.old context) [] count.tokens }
+        ensures state { parser_view self.new ≡ InFull (full_of (context_of self.old context) [] count.tokens) Operand }
+    {
+        put(&mut self.full.context, context);
+        put(&mut self.full.phase, Phase::Operand);
+        self.full.waiting.clear();
+        self.full.count = count;
+        self.at = At::Full;
+    }
+
+    /// An operand of it comes next.
+    pub fn begin_full(&mut self, context: Context, count: Count) -> Result<(), Stop>
+        ensures { Gives (begins_full (context_of self.old context) count.tokens) result self.new }
+    {
+        self.open_full(context, count);
+        Ok(())
+    }
 }

@@ -1,54 +1,13 @@
 // One token.
 
 ghost use Rattle.std.specs.Prelude.{◌≡◌, ◌<◌, ◌≤◌, ◌^◌, length, IfSome};
-ghost use Rattle.cc_syntax.specs.internal.Parser.{name_of, role_step, role_level, count_of, item_level, resting_depth, stage_level};
-ghost use Rattle.cc_syntax.specs.internal.ParserView.{state_view, stage_view, open_views, Gives};
-ghost use Rattle.cc_tokens.specs.Token.{lexeme};
+ghost use Rattle.cc_syntax.specs.internal.Parser.{role_step, role_level, item_level, resting_depth, stage_level};
+ghost use Rattle.cc_syntax.specs.internal.ParserView.{name_at, parser_view, stage_of, open_views, Gives};
 
-use crate::parser::body::step_body;
-use crate::parser::full::step_full;
-use crate::parser::outer::step_outer;
+use crate::parser::cursor::Cursor;
 use crate::parser::role::Role;
-use crate::parser::state::{Body, Open, Outer, Stage, State};
+use crate::parser::state::{At, Open, Outer, Parser, Stage};
 use crate::parser::stop::Stop;
-use cc_tokens::Token;
-use std::alloc::Global;
-
-/// The state after a token, or `Unexpected` where no unit goes on with it.
-pub fn step(
-    alloc: Global,
-    state: State,
-    role: Role,
-    text: &[u8],
-    token: Token,
-) -> Result<State, Stop>
-    requires order { token.from ≤ token.to }
-    requires within { token.to ≤ length text.now }
-    requires count { count_of (state_view state) ≤ 512 }
-    ensures { Gives state_view result (role_step (state_view state) role (name_of (lexeme text.now token))) }
-{
-    match state {
-        State::File(file) => step_outer(alloc, file, role, text, token),
-        State::Body(body) => step_body(alloc, body, role, text, token),
-        State::Full(full) => step_full(alloc, full, role, text, token),
-    }
-}
-
-/// How many tokens of its full expression have come, 0 outside of one.
-pub fn count_so_far(state: &State) -> usize
-    ensures { result ≡ count_of (state_view state.now) }
-{
-    match state {
-        State::File(_) => 0,
-        State::Body(body) => match &body.stage {
-            Stage::Stepping(_, _) => 1,
-            Stage::StepNamed(_) => 2,
-            Stage::Stepped(stepped) => stepped.count,
-            _ => 0,
-        },
-        State::Full(full) => full.count,
-    }
-}
 
 /// The level of what begins after this many open statements, 0 where a block ends.
 fn level_behind(count: usize, role: Role) -> usize
@@ -78,39 +37,53 @@ fn rest(statements: &[Open]) -> Option<usize>
     Some(0)
 }
 
-fn level_in(body: &Body, role: Role) -> usize
-    ensures { result ≡ stage_level (open_views body.now.open.items) (stage_view body.now.stage) role }
-{
-    match &body.stage {
-        Stage::Item => level_behind(body.open.len(), role),
-        Stage::AfterThen(_, _) => match role {
-            Role::Else => 0,
-            _ => match rest(body.open.as_slice()) {
-                Some(left) => level_behind(left, role),
-                None => 0,
-            },
-        },
-        Stage::ForStarting => match role {
-            Role::Int | Role::SignWord(_) => body.open.len() + 3,
-            _ => 0,
-        },
-        _ => 0,
+impl Parser {
+    /// One token, or `Unexpected` where no unit goes on with it.
+    pub fn step(&mut self, role: Role, cursor: &Cursor<'_>) -> Result<(), Stop>
+        ensures { Gives (role_step (parser_view self.old) role (name_at cursor.now)) result self.new }
+    {
+        match self.at {
+            At::File => self.step_outer(role, cursor),
+            At::Body => self.step_body(role, cursor),
+            At::Full => self.step_full(role, cursor),
+        }
     }
-}
 
-/// The level of the statement or declaration that a token begins, 0 where it begins none.
-pub fn level_begun(state: &State, role: Role) -> usize
-    ensures { result ≡ role_level (state_view state.now) role }
-{
-    match state {
-        State::File(file) => match &file.next {
-            Outer::Headed(_) => match role {
-                Role::OpenBrace => 1,
+    /// The level of the statement or declaration that a token begins, 0 where it begins none.
+    pub fn level_begun(&self, role: Role) -> usize
+        ensures { result ≡ role_level (parser_view self.now) role }
+    {
+        match self.at {
+            At::File => match self.outer {
+                Outer::Headed => match role {
+                    Role::OpenBrace => 1,
+                    _ => 0,
+                },
+                _ => 0,
+            },
+            At::Body => self.level_in_body(role),
+            At::Full => 0,
+        }
+    }
+
+    /// The level of what a token begins in a function's body, 0 where it begins nothing.
+    fn level_in_body(&self, role: Role) -> usize
+        ensures { result ≡ stage_level (open_views self.now.body.open.items) (stage_of self.now self.now.body.stage) role }
+    {
+        match &self.body.stage {
+            Stage::Item => level_behind(self.body.open.len(), role),
+            Stage::AfterThen(_, _) => match role {
+                Role::Else => 0,
+                _ => match rest(self.body.open.as_slice()) {
+                    Some(left) => level_behind(left, role),
+                    None => 0,
+                },
+            },
+            Stage::ForStarting => match role {
+                Role::Int | Role::SignWord(_) => self.body.open.len() + 3,
                 _ => 0,
             },
             _ => 0,
-        },
-        State::Body(body) => level_in(body, role),
-        State::Full(_) => 0,
+        }
     }
 }

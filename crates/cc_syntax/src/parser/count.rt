@@ -1,0 +1,28 @@
+// How many tokens of a full expression have come.
+
+ghost use Rattle.std.specs.Prelude.{◌≡◌, ◌≤◌, suc, MatchOption};
+
+/// The most tokens that a full expression may have.
+pub const MOST_TOKENS: usize = 512;
+
+/// How many tokens of its full expression have come: no more than it may have.
+#[derive(Clone, Copy)]
+pub struct Count {
+    pub tokens: usize,
+    ghost limit: { tokens ≤ 512 },
+}
+
+impl Count {
+    /// One token more, none where that is past the limit.
+    pub fn next(self) -> Option<Count>
+        ensures { MatchOption result (512 ≤ self.tokens) (λ more. more.tokens ≡ suc self.tokens) }
+    {
+        if self.tokens < MOST_TOKENS {
+            Some(Count {
+                tokens: self.tokens + 1,
+            })
+        } else {
+            None
+        }
+    }
+}
