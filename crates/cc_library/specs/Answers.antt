@@ -1,7 +1,8 @@
 -- Which answer a call of a library gives, when, and what it leaves. The failures are those that the disk has counted
 -- before the call and after it.
-use Rattle.std.specs.Prelude.{◌≡◌, length, ℕ, ◌+◌, ◌<◌, ◌≤◌, Bool, true, false, IsTrue, IsOk, List, ◌∷◌, ◌++◌, [], Option, Some, None, Result, Ok, Err}
-use Rattle.cc_disk.specs.Images.{LeavesAlone}
+use Rattle.std.specs.Prelude.{◌≡◌, length, ℕ, ◌+◌, ◌<◌, ◌≤◌, Bool, true, false, IsTrue, IsOk, List, ◌∷◌, ◌++◌, [], Option, Some, None, Result, Ok, Err, OnOk}
+use Rattle.cc_disk.specs.Images.{LeavesAlone, LeavesOnly}
+use Rattle.cc_disk.specs.declared.disk.Disk.{Ghosts}
 use Rattle.cc_journal.specs.Commit.{Commit, FailsIn, IsCommitted, append_commit, area_begin, rewrite_commit}
 use Rattle.cc_journal.specs.Format.{HasAreaByte, HasHeader, HoldsRecords, records, room_of}
 use Rattle.cc_library.specs.declared.command.Command.{Command}
@@ -12,7 +13,7 @@ use Rattle.cc_library.specs.declared.reading.ReadFault.{ReadFault}
 use Rattle.cc_library.specs.declared.reading.ReadFault.TheVariants as read
 use Rattle.cc_library.specs.Body.{body_of}
 use Rattle.cc_library.specs.Compact.{compacted, room_compacted}
-use Rattle.cc_library.specs.Recovered.{Recovers, StandFor, View}
+use Rattle.cc_library.specs.Recovered.{Recovers, RecoversAlone, RecoversOneOf, StandFor, View}
 
 -- what a function returned, seen by view, is what there is to read; where memory ran out, nothing is said
 abbrev pub Gives : {X Y : Type 0} → (X → Y) → Result X ReadFault → Option Y → Type 0
@@ -147,3 +148,37 @@ module _ {D : Type 0} where
   CompactsDisk seen may_leave old new (Err OutOfMemory) = Unit {0}
   CompactsDisk seen may_leave old new (Err Damaged) = Unit {0}
   CompactsDisk seen may_leave old new (Err NotALibrary) = Unit {0}
+
+-- What a change promises on this kind of disk, where each image of an honest disk has `Holds`.
+pub record IsChangedAs {Disk : Type 0} (D : Ghosts Disk) (command : Command) (old new : View Disk) (result : Result (Unit {0}) LibraryFault) (Holds : List ℕ → Type 0) : Type 0 where
+  pub answers : ChangeAnswers old command (D.failures old.disk) (D.failures new.disk) result
+  pub leaves : ChangeLeaves command old new result
+  pub size : D.size new.disk ≡ D.size old.disk
+  -- what becomes of the disk's bytes
+  pub disk : IsTrue D.honest → ChangesDisk D.seen D.may_leave command old new result
+  -- at Ok every image recovers to the map after it
+  pub kept : OnOk result (IsTrue D.honest → (image : List ℕ) → D.may_leave new.disk image → RecoversAlone image new.units)
+  -- what a crash at any moment of the call leaves
+  pub moments : IsTrue D.honest → old.closed ≡ false → LeavesOnly D.moment D.left_since old.disk new.disk Holds
+  -- so whatever it answers, after 35 too, what every image has
+  pub images : IsTrue D.honest → old.closed ≡ false → (image : List ℕ) → D.may_leave new.disk image → Holds image
+
+-- what a change promises: a crash leaves the map before it or the map after it
+abbrev pub IsChanged : {Disk : Type 0} (D : Ghosts Disk) → Command → (old new : View Disk) → Result (Unit {0}) LibraryFault → Type 0
+IsChanged D command old new result = IsChangedAs D command old new result (RecoversOneOf old.units (after old.units command))
+
+-- What a compaction promises in the same way.
+pub record IsCompactedAs {Disk : Type 0} (D : Ghosts Disk) (old new : View Disk) (result : Result (Unit {0}) LibraryFault) (Holds : List ℕ → Type 0) : Type 0 where
+  pub answers : CompactAnswers old (D.failures old.disk) (D.failures new.disk) result
+  pub leaves : CompactLeaves old new result
+  pub size : D.size new.disk ≡ D.size old.disk
+  -- what becomes of the disk's bytes
+  pub disk : IsTrue D.honest → CompactsDisk D.seen D.may_leave old new result
+  -- what a crash at any moment of the call leaves
+  pub moments : IsTrue D.honest → old.closed ≡ false → LeavesOnly D.moment D.left_since old.disk new.disk Holds
+  -- so whatever it answers, after 35 too, what every image has
+  pub images : IsTrue D.honest → old.closed ≡ false → (image : List ℕ) → D.may_leave new.disk image → Holds image
+
+-- what a compaction promises: a crash leaves the map
+abbrev pub IsCompacted : {Disk : Type 0} (D : Ghosts Disk) → (old new : View Disk) → Result (Unit {0}) LibraryFault → Type 0
+IsCompacted D old new result = IsCompactedAs D old new result (λ image. RecoversAlone image old.units)

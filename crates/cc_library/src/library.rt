@@ -9,9 +9,9 @@ ghost use Rattle.cc_library.specs.declared.command.Command.{Command};
 ghost use Rattle.cc_library.specs.declared.command.Command.TheVariants as command;
 ghost use Rattle.cc_library.specs.Apply.{after, after_all, library_of};
 ghost use Rattle.cc_library.specs.Body.{body_of};
-ghost use Rattle.cc_library.specs.Recovered.{Recovers, RecoversAlone, RecoversOneOf, StandFor, View};
+ghost use Rattle.cc_library.specs.Recovered.{Recovers, RecoversAlone, StandFor, View};
 ghost use Rattle.cc_library.specs.Compact.{compacted, room_compacted};
-ghost use Rattle.cc_library.specs.Answers.{OpenFaults, ChangesDisk, CompactsDisk, ChangeAnswers, ChangeLeaves, CompactAnswers, CompactLeaves, IsMended, room_with};
+ghost use Rattle.cc_library.specs.Answers.{OpenFaults, ChangesDisk, CompactsDisk, ChangeAnswers, ChangeLeaves, CompactAnswers, CompactLeaves, IsChanged, IsCompacted, IsMended, room_with};
 ghost use Rattle.cc_library.specs.Runs.{AreDone, AreEdited, EditAnswers, EditLeaves, HadNoRoom, IsEdited, IsRefused, RecoversAmong, Stopped, after_edit, records_after};
 ghost use Rattle.cc_library.specs.internal.Steps.{IsOldOrNew, IsMidEdit};
 
@@ -109,23 +109,7 @@ impl<D: Disk> Library<D> {
 
     /// Makes a change: `add`, `replace` or `withdraw`, with its refusals and what each leaves.
     pub fn change(&mut self, alloc: Global, command: Command) -> Result<(), LibraryFault>
-        ensures answers { ChangeAnswers self.old command (D.failures self.old.disk) (D.failures self.new.disk) result }
-        ensures leaves { ChangeLeaves command self.old self.new result }
-        ensures size { D.size self.new.disk ≡ D.size self.old.disk }
-
-        // What becomes of the disk's bytes.
-        ensures disk { IsTrue D.honest → ChangesDisk D.seen D.may_leave command self.old self.new result }
-
-        // At Ok every image recovers to the map after it.
-        ensures kept { OnOk result (IsTrue D.honest → (image : List ℕ) → D.may_leave self.new.disk image → RecoversAlone image self.new.units) }
-
-        // A crash at any moment of the call leaves the map before it or the map after it.
-        ensures moments { IsTrue D.honest → self.old.closed ≡ false
-            → LeavesOnly D.moment D.left_since self.old.disk self.new.disk (RecoversOneOf self.old.units (after self.old.units command)) }
-
-        // So whatever it answers, after 35 too, every image recovers to one of the two.
-        ensures images { IsTrue D.honest → self.old.closed ≡ false
-            → (image : List ℕ) → D.may_leave self.new.disk image → RecoversOneOf self.old.units (after self.old.units command) image }
+        ensures changed { IsChanged D.Disk command self.old self.new result }
     {
         self.append_change(alloc, command)
     }
@@ -141,23 +125,7 @@ impl<D: Disk> Library<D> {
         name: Name,
         unit: Arc<StoredUnit>,
     ) -> Result<(), LibraryFault>
-        ensures answers { ChangeAnswers self.old (command.Add name (arc_value unit)) (D.failures self.old.disk) (D.failures self.new.disk) result }
-        ensures leaves { ChangeLeaves (command.Add name (arc_value unit)) self.old self.new result }
-        ensures size { D.size self.new.disk ≡ D.size self.old.disk }
-
-        // What becomes of the disk's bytes.
-        ensures disk { IsTrue D.honest → ChangesDisk D.seen D.may_leave (command.Add name (arc_value unit)) self.old self.new result }
-
-        // At Ok every image recovers to the map after it.
-        ensures kept { OnOk result (IsTrue D.honest → (image : List ℕ) → D.may_leave self.new.disk image → RecoversAlone image self.new.units) }
-
-        // A crash at any moment of the call leaves the map before it or the map after it.
-        ensures moments { IsTrue D.honest → self.old.closed ≡ false
-            → LeavesOnly D.moment D.left_since self.old.disk self.new.disk (RecoversOneOf self.old.units (after self.old.units (command.Add name (arc_value unit)))) }
-
-        // So whatever it answers, after 35 too, every image recovers to one of the two.
-        ensures images { IsTrue D.honest → self.old.closed ≡ false
-            → (image : List ℕ) → D.may_leave self.new.disk image → RecoversOneOf self.old.units (after self.old.units (command.Add name (arc_value unit))) image }
+        ensures changed { IsChanged D.Disk (command.Add name (arc_value unit)) self.old self.new result }
     {
         self.change(alloc, Command::Add(name, SharedUnit::new(unit)))
     }
@@ -173,23 +141,7 @@ impl<D: Disk> Library<D> {
         name: Name,
         unit: Arc<StoredUnit>,
     ) -> Result<(), LibraryFault>
-        ensures answers { ChangeAnswers self.old (command.Replace name (arc_value unit)) (D.failures self.old.disk) (D.failures self.new.disk) result }
-        ensures leaves { ChangeLeaves (command.Replace name (arc_value unit)) self.old self.new result }
-        ensures size { D.size self.new.disk ≡ D.size self.old.disk }
-
-        // What becomes of the disk's bytes.
-        ensures disk { IsTrue D.honest → ChangesDisk D.seen D.may_leave (command.Replace name (arc_value unit)) self.old self.new result }
-
-        // At Ok every image recovers to the map after it.
-        ensures kept { OnOk result (IsTrue D.honest → (image : List ℕ) → D.may_leave self.new.disk image → RecoversAlone image self.new.units) }
-
-        // A crash at any moment of the call leaves the map before it or the map after it.
-        ensures moments { IsTrue D.honest → self.old.closed ≡ false
-            → LeavesOnly D.moment D.left_since self.old.disk self.new.disk (RecoversOneOf self.old.units (after self.old.units (command.Replace name (arc_value unit)))) }
-
-        // So whatever it answers, after 35 too, every image recovers to one of the two.
-        ensures images { IsTrue D.honest → self.old.closed ≡ false
-            → (image : List ℕ) → D.may_leave self.new.disk image → RecoversOneOf self.old.units (after self.old.units (command.Replace name (arc_value unit))) image }
+        ensures changed { IsChanged D.Disk (command.Replace name (arc_value unit)) self.old self.new result }
     {
         self.change(alloc, Command::Replace(name, SharedUnit::new(unit)))
     }
@@ -200,23 +152,7 @@ impl<D: Disk> Library<D> {
     /// not fit, 35 where the device failed. 40 where memory ran out, before the first device call. Each leaves the map as
     /// it was; after 35 the library is closed, and its disk has the map with or without the name.
     pub fn withdraw(&mut self, alloc: Global, name: Name) -> Result<(), LibraryFault>
-        ensures answers { ChangeAnswers self.old (command.Withdraw name) (D.failures self.old.disk) (D.failures self.new.disk) result }
-        ensures leaves { ChangeLeaves (command.Withdraw name) self.old self.new result }
-        ensures size { D.size self.new.disk ≡ D.size self.old.disk }
-
-        // What becomes of the disk's bytes.
-        ensures disk { IsTrue D.honest → ChangesDisk D.seen D.may_leave (command.Withdraw name) self.old self.new result }
-
-        // At Ok every image recovers to the map after it.
-        ensures kept { OnOk result (IsTrue D.honest → (image : List ℕ) → D.may_leave self.new.disk image → RecoversAlone image self.new.units) }
-
-        // A crash at any moment of the call leaves the map before it or the map after it.
-        ensures moments { IsTrue D.honest → self.old.closed ≡ false
-            → LeavesOnly D.moment D.left_since self.old.disk self.new.disk (RecoversOneOf self.old.units (after self.old.units (command.Withdraw name))) }
-
-        // So whatever it answers, after 35 too, every image recovers to one of the two.
-        ensures images { IsTrue D.honest → self.old.closed ≡ false
-            → (image : List ℕ) → D.may_leave self.new.disk image → RecoversOneOf self.old.units (after self.old.units (command.Withdraw name)) image }
+        ensures changed { IsChanged D.Disk (command.Withdraw name) self.old self.new result }
     {
         self.change(alloc, Command::Withdraw(name))
     }
@@ -228,19 +164,7 @@ impl<D: Disk> Library<D> {
     /// failed. 40 where memory ran out, before the first device call. After 35 the library is closed, and its disk has
     /// the old records or the new ones; every other refusal leaves all as it was.
     pub fn compact(&mut self, alloc: Global) -> Result<(), LibraryFault>
-        ensures answers { CompactAnswers self.old (D.failures self.old.disk) (D.failures self.new.disk) result }
-        ensures leaves { CompactLeaves self.old self.new result }
-        // What becomes of the disk's bytes.
-        ensures disk { IsTrue D.honest → CompactsDisk D.seen D.may_leave self.old self.new result }
-        ensures size { D.size self.new.disk ≡ D.size self.old.disk }
-
-        // A crash at any moment of the call leaves the map.
-        ensures moments { IsTrue D.honest → self.old.closed ≡ false
-            → LeavesOnly D.moment D.left_since self.old.disk self.new.disk (λ image. RecoversAlone image self.old.units) }
-
-        // So whatever it answers, after 35 too, every image recovers to it.
-        ensures images { IsTrue D.honest → self.old.closed ≡ false
-            → (image : List ℕ) → D.may_leave self.new.disk image → RecoversAlone image self.old.units }
+        ensures compacted { IsCompacted D.Disk self.old self.new result }
     {
         self.write_anew(alloc)
     }

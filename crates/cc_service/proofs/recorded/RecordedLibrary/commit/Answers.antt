@@ -115,7 +115,7 @@ done_facts g c =
     (Change c.args.command) reply.Done c.enter-in-Ok-change-2.new.history.items c.enter-in-Ok-change-2.new.receipts.items c.enter-in-Ok-change-2.result c.self.invariant c.client.invariant stood replied c.in-Ok-change.ensures.agrees
     (r.0 ∙ ap (λ (h : List Entry). length h + 1) c.in-Ok-prepare.ensures.history) (r.1 ∙ entry)
     (c.enter-in-Ok-change-2.ensures.history ∙ (λ i. c.in-Ok-prepare.ensures.history i ++ sym r.1 i ∷ [])) (c.enter-in-Ok-change-2.ensures.receipts ∙ ap (λ (l : List Receipt). l ++ c.enter-in-Ok-change-2.result ∷ []) c.in-Ok-prepare.ensures.receipts)
-    c.enter-in-Ok-change-2.ensures.total c.enter-in-Ok-change-2.ensures.parts c.enter-in-Ok-change-2.ensures.amount (ap (λ (v : View g.row.D.Denot). v.units) c.in-Ok-change-2.ensures.leaves ∙ ap (λ (k : made.Command). after c.self.inside.library.units k) c.in-Ok-change.ensures.change) (ap (λ (v : View g.row.D.Denot). v.closed) c.in-Ok-change-2.ensures.leaves ∙ sym (sym c.is_closed.ensures ∙ c.if-is_closed.false)) (λ h image left. subst (λ (l : List made.Command). RecoversTo c.change-in-Done.new.self.units l image) (sym (c.self.invariant.idle (sym c.is_closed.ensures ∙ c.if-is_closed.false))) (c.in-Ok-change-2.ensures.kept h image left))
+    c.enter-in-Ok-change-2.ensures.total c.enter-in-Ok-change-2.ensures.parts c.enter-in-Ok-change-2.ensures.amount (ap (λ (v : View g.row.D.Denot). v.units) c.in-Ok-change-2.ensures.changed.leaves ∙ ap (λ (k : made.Command). after c.self.inside.library.units k) c.in-Ok-change.ensures.change) (ap (λ (v : View g.row.D.Denot). v.closed) c.in-Ok-change-2.ensures.changed.leaves ∙ sym (sym c.is_closed.ensures ∙ c.if-is_closed.false)) (λ h image left. subst (λ (l : List made.Command). RecoversTo c.change-in-Done.new.self.units l image) (sym (c.self.invariant.idle (sym c.is_closed.ensures ∙ c.if-is_closed.false))) (c.in-Ok-change-2.ensures.changed.kept h image left))
 
 pub invariant_of-self-in-Ok-change-2 : goal.invariant_of-self-in-Ok-change-2
 invariant_of-self-in-Ok-change-2 g c = (done_facts g c).0
@@ -132,13 +132,13 @@ returns-in-Ok-change-2-clause-answers g c =
     let idle : before.library.closed ≡ false = sym c.is_closed.ensures ∙ c.if-is_closed.false in
     let is : c.in-Ok-change.change ≡ change_of c.args.command = c.in-Ok-change.ensures.change in
     let replied : reply.Done ≡ reply_of_change (apply before.library.units (change_of c.args.command)) = sym (ap answer_reply c.in-Done.is) ∙ c.decide-answer.ensures in
-    let answers = c.in-Ok-change-2.ensures.answers in
+    let answers = c.in-Ok-change-2.ensures.changed.answers in
     let recorded = (done_facts g c).2 in
     let done : IsDone before old c.args.command after_it new c.enter-in-Ok-change-2.result = record {
       asked = record { idle = idle; stands = recorded.stood; accepted = done_is_ok (apply before.library.units (change_of c.args.command)) (sym replied) };
       fits = subst (λ (k : made.Command). room_with before.library k ≤ before.library.area) is answers.1;
       recorded = recorded;
-      library = c.in-Ok-change-2.ensures.leaves ∙ (λ i. record { disk = c.change-in-Done.new.self.disk; area = before.library.area; bodies = before.library.bodies ++ body_of (is i) ∷ []; units = after before.library.units (is i); closed = false });
+      library = c.in-Ok-change-2.ensures.changed.leaves ∙ (λ i. record { disk = c.change-in-Done.new.self.disk; area = before.library.area; bodies = before.library.bodies ++ body_of (is i) ∷ []; units = after before.library.units (is i); closed = false });
       failed = refl;
     } in
     subst (λ (b : BookView g.row.D.Denot). IsDone b c.args.client.now c.args.command after_it new c.enter-in-Ok-change-2.result × (g.D.Disk.failures c.change-in-Done.new.self.disk ≡ g.D.Disk.failures b.library.disk)) c.self.view_is
@@ -150,7 +150,7 @@ invariant_of-self-in-Err-DiskFault g c =
     let before : BookView g.row.D.Denot = record { base = c.self.inside.base; library = c.self.inside.library; history = c.self.inside.history.items; failed = c.self.inside.failed.items } in
     let idle : before.library.closed ≡ false = sym c.is_closed.ensures ∙ c.if-is_closed.false in
     (keeps_failed g.D.Disk.honest g.D.Disk.may_leave g.N.Named.base c.self.inside.calls.total before c.change-in-Done.new.self c.prepare.new.history.items c.and-failing.result.items c.args.command c.in-Ok-change.change
-    c.self.invariant c.in-Ok-change.ensures.agrees c.in-Ok-prepare.ensures.history c.and-failing.ensures idle (rw c.in-Err-DiskFault.field-0-is at c.in-Err-DiskFault.ensures.leaves) c.in-Ok-change.ensures.change (λ h image left. c.change-in-Done.ensures.images h idle image left)).1
+    c.self.invariant c.in-Ok-change.ensures.agrees c.in-Ok-prepare.ensures.history c.and-failing.ensures idle (rw c.in-Err-DiskFault.field-0-is at c.in-Err-DiskFault.ensures.changed.leaves) c.in-Ok-change.ensures.change (λ h image left. c.change-in-Done.ensures.changed.images h idle image left)).1
 
 -- ---- what became of the disk's bytes
 
@@ -159,11 +159,11 @@ returns-in-Ok-change-2-clause-disk g c =
     let before : BookView g.row.D.Denot = record { base = c.self.inside.base; library = c.self.inside.library; history = c.self.inside.history.items; failed = c.self.inside.failed.items } in
     let answered : Result Receipt BookFault = Ok c.enter-in-Ok-change-2.result in
     subst (λ (b : BookView g.row.D.Denot). IsTrue g.D.Disk.honest → ChangesDisk g.D.Disk.seen g.D.Disk.may_leave (change_of c.args.command) b.library c.change-in-Done.new.self answered) c.self.view_is
-    (λ h. subst (λ (k : made.Command). ChangesDisk g.D.Disk.seen g.D.Disk.may_leave k before.library c.change-in-Done.new.self answered) c.in-Ok-change.ensures.change (c.in-Ok-change-2.ensures.disk h))
+    (λ h. subst (λ (k : made.Command). ChangesDisk g.D.Disk.seen g.D.Disk.may_leave k before.library c.change-in-Done.new.self answered) c.in-Ok-change.ensures.change (c.in-Ok-change-2.ensures.changed.disk h))
 
 pub returns-in-Err-DiskFault-clause-disk : goal.returns-in-Err-DiskFault-clause-disk
 returns-in-Err-DiskFault-clause-disk g c =
     let before : BookView g.row.D.Denot = record { base = c.self.inside.base; library = c.self.inside.library; history = c.self.inside.history.items; failed = c.self.inside.failed.items } in
-    let fails = rw c.in-Err-DiskFault.field-0-is at c.in-Err-DiskFault.ensures.disk in
+    let fails = rw c.in-Err-DiskFault.field-0-is at c.in-Err-DiskFault.ensures.changed.disk in
     subst (λ (b : BookView g.row.D.Denot). IsTrue g.D.Disk.honest → ChangesDisk {T = Receipt} g.D.Disk.seen g.D.Disk.may_leave (change_of c.args.command) b.library c.change-in-Done.new.self (Err DiskFault)) c.self.view_is
     (λ h. subst (λ (k : made.Command). ChangesDisk {T = Receipt} g.D.Disk.seen g.D.Disk.may_leave k before.library c.change-in-Done.new.self (Err DiskFault)) c.in-Ok-change.ensures.change (fails h))
