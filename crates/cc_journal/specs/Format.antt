@@ -59,6 +59,10 @@ pub record HoldsAlone (image : List ℕ) (area : ℕ) (bodies : List (List ℕ))
   pub holds : HoldsRecords image area bodies
   pub alone : (size : ℕ) (others : List (List ℕ)) → HoldsRecords image size others → (size ≡ area) × (others ≡ bodies)
 
+-- every one of these images has these records alone, in an area of that size
+abbrev pub AllHold : (List ℕ → Type 0) → ℕ → List (List ℕ) → Type 0
+AllHold may_leave area bodies = (image : List ℕ) → may_leave image → HoldsAlone image area bodies
+
 -- it holds the one records alone, or the others
 abbrev pub HoldsOneOf : ℕ → (old new : List (List ℕ)) → List ℕ → Type 0
 HoldsOneOf area old new image = HoldsAlone image area old ⊎ HoldsAlone image area new

@@ -1,6 +1,6 @@
 // Making an empty journal on a disk.
 ghost use Rattle.std.specs.Prelude.{◌≡◌, ◌+◌, ◌++◌, [], ◌∷◌, List, ℕ, IsTrue, drop, OnOk, IsErrOf};
-ghost use Rattle.cc_journal.specs.Format.{header, HoldsAlone};
+ghost use Rattle.cc_journal.specs.Format.{header, AllHold};
 ghost use Rattle.cc_journal.specs.Answers.{FormatAnswers};
 
 use crate::commit::CLOSED;
@@ -18,7 +18,7 @@ pub fn format<D: Disk>(disk: &mut D, area: u32) -> Result<(), JournalFault>
     ensures size { D.size disk.new ≡ D.size disk.old }
     ensures untouched { IsErrOf result JournalFault.Full → disk.new ≡ disk.old }
     ensures bytes { OnOk result (IsTrue D.honest → D.seen disk.new ≡ header 0 area ++ (0 ∷ drop 17 (D.seen disk.old))) }
-    ensures kept { OnOk result (IsTrue D.honest → (image : List ℕ) → D.may_leave disk.new image → HoldsAlone image area []) }
+    ensures kept { OnOk result (IsTrue D.honest → AllHold (D.may_leave disk.new) area []) }
 {
     if !is_area(disk.size(), area as usize) {
         return Err(JournalFault::Full);

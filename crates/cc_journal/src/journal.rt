@@ -1,7 +1,7 @@
 // The journal and its calls.
 ghost use Rattle.std.specs.Prelude.{◌≡◌, ◌≢◌, ◌⊎◌, ◌+◌, ◌*◌, ◌^◌, ◌<◌, ◌≤◌, ◌++◌, [], ◌∷◌, List, ℕ, true, false, IsTrue, IsNone, length, IfOk, IfErr, IfSome, MatchResult, OnOk, OnErr, IsErrOf, vec_len, vec_capacity};
 ghost use Rattle.cc_disk.specs.Images.{IsWritten, LeavesAlone, LeavesOnly, OnlyReads};
-ghost use Rattle.cc_journal.specs.Format.{HasAreaByte, HoldsAlone, HoldsOldOrNew, HoldsOneOf, HoldsRecords, IsArea, record_bytes, records, room_of};
+ghost use Rattle.cc_journal.specs.Format.{AllHold, HasAreaByte, HoldsOldOrNew, HoldsOneOf, HoldsRecords, IsArea, record_bytes, records, room_of};
 ghost use Rattle.cc_journal.specs.Commit.{IsCommitted, append_commit, area_begin, rewrite_commit};
 ghost use Rattle.cc_journal.specs.Answers.{AppendAnswers, CommitAnswers, OpenFaults};
 
@@ -47,7 +47,7 @@ impl<D: Disk> Journal<D> {
     pub fn open(alloc: Global, disk: D) -> Result<Journal<D>, (JournalFault, D)>
         // What was found, of an honest disk, and every image then has it alone.
         ensures records { IfOk result (λ j. IsTrue D.honest → HoldsRecords (D.seen disk) j.area j.bodies) }
-        ensures kept { IfOk result (λ j. IsTrue D.honest → (image : List ℕ) → D.may_leave j.disk image → HoldsAlone image j.area j.bodies) }
+        ensures kept { IfOk result (λ j. IsTrue D.honest → AllHold (D.may_leave j.disk) j.area j.bodies) }
         ensures open { IfOk result (λ j. j.closed ≡ false) }
 
         // Of every kind of disk: there is room for the areas and for the records, and a small disk is no library.
@@ -74,7 +74,7 @@ impl<D: Disk> Journal<D> {
     pub fn records(&self) -> &[Body]
         ensures records { result.now ≡ self.now.bodies }
         ensures kept { IsTrue D.honest → self.now.closed ≡ false
-            → (image : List ℕ) → D.may_leave self.now.disk image → HoldsAlone image self.now.area self.now.bodies }
+            → AllHold (D.may_leave self.now.disk) self.now.area self.now.bodies }
     {
         // What the log promises of its images.
         let _ = self.log.is_closed();
@@ -95,8 +95,7 @@ impl<D: Disk> Journal<D> {
         // At Ok the record stands after the old ones, and every image has them alone.
         ensures added { OnOk result (self.new.bodies ≡ self.old.bodies ++ body.now ∷ []) }
         ensures open { OnOk result (self.new.closed ≡ false) }
-        ensures kept { OnOk result (IsTrue D.honest
-            → (image : List ℕ) → D.may_leave self.new.disk image → HoldsAlone image self.new.area self.new.bodies) }
+        ensures kept { OnOk result (IsTrue D.honest → AllHold (D.may_leave self.new.disk) self.new.area self.new.bodies) }
 
         // The bytes of the disk change in one range alone: it has the record, its gate open, and a closed gate after it.
         ensures bytes { OnOk result (IsTrue D.honest → (offset : ℕ)
@@ -126,8 +125,7 @@ impl<D: Disk> Journal<D> {
         // At Ok the record stands after the old ones, and every image has them alone.
         ensures added { OnOk result (self.new.bodies ≡ self.old.bodies ++ body ∷ []) }
         ensures open { OnOk result (self.new.closed ≡ false) }
-        ensures kept { OnOk result (IsTrue D.honest
-            → (image : List ℕ) → D.may_leave self.new.disk image → HoldsAlone image self.new.area self.new.bodies) }
+        ensures kept { OnOk result (IsTrue D.honest → AllHold (D.may_leave self.new.disk) self.new.area self.new.bodies) }
 
         // The bytes of the disk change in one range alone: it has the record, its gate open, and a closed gate after it.
         ensures bytes { OnOk result (IsTrue D.honest → (offset : ℕ)
@@ -165,8 +163,7 @@ impl<D: Disk> Journal<D> {
         // At Ok these are the records, and every image has them alone.
         ensures rewritten { OnOk result (self.new.bodies ≡ bodies.items) }
         ensures open { OnOk result (self.new.closed ≡ false) }
-        ensures kept { OnOk result (IsTrue D.honest
-            → (image : List ℕ) → D.may_leave self.new.disk image → HoldsAlone image self.new.area self.new.bodies) }
+        ensures kept { OnOk result (IsTrue D.honest → AllHold (D.may_leave self.new.disk) self.new.area self.new.bodies) }
 
         // The bytes of the disk are those of the one commit, by the area byte that it had.
         ensures bytes { OnOk result (IsTrue D.honest → (area_byte : ℕ) × HasAreaByte (D.seen self.old.disk) area_byte self.old.area

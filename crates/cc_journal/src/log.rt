@@ -1,7 +1,7 @@
 // The log: where records stand on a disk, and how they get there. It knows no body: who needs the bodies keeps them.
 ghost use Rattle.std.specs.Prelude.{◌≡◌, ◌≢◌, ◌⊎◌, ◌+◌, ◌*◌, ◌^◌, ◌<◌, ◌≤◌, ◌++◌, [], ◌∷◌, List, ℕ, true, false, IsTrue, IsNone, length, IfOk, IfErr, IfSome, MatchResult, OnOk, OnErr, IsErrOf, vec_len, vec_capacity};
 ghost use Rattle.cc_disk.specs.Images.{IsWritten, LeavesAlone, LeavesOnly, OnlyReads};
-ghost use Rattle.cc_journal.specs.Format.{HasAreaByte, HoldsAlone, HoldsOldOrNew, HoldsOneOf, HoldsRecords, IsArea, record_bytes, records, room_of};
+ghost use Rattle.cc_journal.specs.Format.{AllHold, HasAreaByte, HoldsOldOrNew, HoldsOneOf, HoldsRecords, IsArea, record_bytes, records, room_of};
 ghost use Rattle.cc_journal.specs.Commit.{FailsIn, IsCommitted, append_commit, area_begin, rewrite_commit};
 ghost use Rattle.cc_journal.specs.Answers.{AppendAnswers, CommitAnswers, OpenFaults};
 
@@ -64,7 +64,7 @@ impl<D: Disk> Log<D> {
 
         // What was found, of an honest disk, and every image then has it alone.
         ensures records { IfOk result (λ x. IsTrue D.honest → HoldsRecords (D.seen disk) x.0.area x.0.bodies) }
-        ensures kept { IfOk result (λ x. IsTrue D.honest → (image : List ℕ) → D.may_leave x.0.disk image → HoldsAlone image x.0.area x.0.bodies) }
+        ensures kept { IfOk result (λ x. IsTrue D.honest → AllHold (D.may_leave x.0.disk) x.0.area x.0.bodies) }
         ensures settled { IfOk result (λ x. IsTrue D.honest → LeavesAlone (D.seen x.0.disk) (D.may_leave x.0.disk)) }
         ensures open { IfOk result (λ x. x.0.closed ≡ false) }
 
@@ -108,7 +108,7 @@ impl<D: Disk> Log<D> {
     pub fn is_closed(&self) -> bool
         ensures closed { result ≡ self.now.closed }
         ensures kept { IsTrue D.honest → self.now.closed ≡ false
-            → (image : List ℕ) → D.may_leave self.now.disk image → HoldsAlone image self.now.area self.now.bodies }
+            → AllHold (D.may_leave self.now.disk) self.now.area self.now.bodies }
     {
         // Nothing but opening the disk again opens it.
         self.closed
@@ -161,8 +161,7 @@ impl<D: Disk> Log<D> {
         ensures added { OnOk result (self.new.bodies ≡ self.old.bodies ++ body ∷ []) }
         ensures handed { IfOk result (λ kept. kept ≡ body) }
         ensures open { OnOk result (self.new.closed ≡ false) }
-        ensures kept { OnOk result (IsTrue D.honest
-            → (image : List ℕ) → D.may_leave self.new.disk image → HoldsAlone image self.new.area self.new.bodies) }
+        ensures kept { OnOk result (IsTrue D.honest → AllHold (D.may_leave self.new.disk) self.new.area self.new.bodies) }
 
         // The bytes of the disk change in one range alone: it has the record, its gate open, and a closed gate after it.
         ensures bytes { OnOk result (IsTrue D.honest → (offset : ℕ)
@@ -226,8 +225,7 @@ impl<D: Disk> Log<D> {
         ensures rewritten { OnOk result (self.new.bodies ≡ bodies.items) }
         ensures handed { IfOk result (λ kept. kept.items ≡ bodies.items) }
         ensures open { OnOk result (self.new.closed ≡ false) }
-        ensures kept { OnOk result (IsTrue D.honest
-            → (image : List ℕ) → D.may_leave self.new.disk image → HoldsAlone image self.new.area self.new.bodies) }
+        ensures kept { OnOk result (IsTrue D.honest → AllHold (D.may_leave self.new.disk) self.new.area self.new.bodies) }
 
         // The bytes of the disk are those of the one commit, by the area byte that it had.
         ensures bytes { OnOk result (IsTrue D.honest → (area_byte : ℕ) × HasAreaByte (D.seen self.old.disk) area_byte self.old.area
