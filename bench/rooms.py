@@ -3,7 +3,8 @@
 
     bench/rooms.py                              of every crate: definitions directly in specs/ on which no public contract rests and
                                                 no type's model, definitions of specs/internal/ on which a contract or a public
-                                                type's model does, and contracts that rest on what stands in proofs/
+                                                type's model does, contracts that rest on what stands in proofs/, and clauses of more
+                                than 100 characters that stand word for word in more than three contracts of the product
     bench/rooms.py CRATE FUNCTION [CLAUSE..]    what that function's contract rests on, or these clauses of it: the pages in
                                                 reading order, with how many of their lines, and how many lines in all
 
@@ -19,6 +20,8 @@ DECLARATION = re.compile(r"(?:abbrev |opaque |unfoldable |pub |data |record )+([
 USE = re.compile(r"use (Rattle\.(\w+)\.specs\.[\w.]+?)(?:\.\{([^}]*)\}| as (\w+))(?: as (\w+))?[;\s]")
 PUBLIC = re.compile(r"^\s*pub (?:const )?(?:unsafe )?fn (\w+)")
 CLAUSE = re.compile(r"^\s*(?:ensures|requires)\*?\s+(?:(\w+)\s)?")
+WHOLE_CLAUSE = re.compile(r"^\s*(?:ensures|requires)\*?\s+(?:\w+\s)?(\{.*)")
+LONGEST, MOST = 100, 3
 PROOFS = re.compile(r"use Rattle\.(?!std\.)(\w+)\.proofs\.([\w.]+?)(?:\.\{([^}]*)\}| as (\w+))")
 
 
@@ -210,6 +213,30 @@ def show(repository, crate, function, *clauses):
     return 1 if apart or taken or not found else 0
 
 
+def clauses_of(path):
+    """Yields each clause of a file's contracts on one line, without its braces, with the number of its first line."""
+    with open(path, encoding="utf-8") as file:
+        lines = file.read().split("\n")
+    for at, line in enumerate(lines):
+        begins = WHOLE_CLAUSE.match(line)
+        text, behind = begins[1] if begins else "", at + 1
+        while text.count("{") > text.count("}") and behind < len(lines):
+            text, behind = f"{text} {lines[behind].strip()}", behind + 1
+        if begins:
+            yield at + 1, text.strip()[1:-1].strip()
+
+
+def repeated_clauses():
+    """Returns the long clauses that stand in too many contracts of the product's crates, with their places."""
+    places = {}
+    for at, _, files in os.walk(f"{TOP}/crates"):
+        for file in sorted(it for it in files if it.endswith(".rt") and "/crates/cc" in at and "/src" in at and "/out" not in at):
+            for line, text in clauses_of(f"{at}/{file}"):
+                if len(text) > LONGEST:
+                    places.setdefault(text, []).append(f"{os.path.relpath(at, TOP)}/{file}:{line}")
+    return {text: found for text, found in places.items() if len(found) > MOST}
+
+
 def check(repository):
     wrong, used, kept, seen = 0, set(), set(), set()
     for crate in repository.crates:
@@ -235,7 +262,11 @@ def check(repository):
         wrong += 1
         print(f"{repository.pages[it[0]][it[1]].where()}: {it[2]}: a public contract rests on it, and it takes from {page}")
     print(f"{wrong} definitions in another room than their readers look for")
-    return 1 if wrong else 0
+    repeated = repeated_clauses()
+    for text, found in repeated.items():
+        print(f"{len(found)} contracts repeat: {text}\n    {' '.join(found)}")
+    print(f"{len(repeated)} clauses of more than {LONGEST} characters stand in more than {MOST} contracts")
+    return 1 if wrong or repeated else 0
 
 
 if __name__ == "__main__":
