@@ -1,6 +1,7 @@
 -- What each exit of a commit owes, over what contracts see of a book: that its type keeps what it keeps, and the answer.
 use Rattle.std.proofs.Common.{◌≡◌, ◌≢◌, ℕ, zero, suc, ◌+◌, inl, inr, Bool, true, false, IsTrue, List, [], ◌∷◌, ◌++◌, length, Result, Ok, Err, refl, sym, ap, ◌∙◌, subst, arith, length-append}
 use Rattle.std.specs.Prelude.{◌==◌, IsOk, if◌then◌else◌}
+use Rattle.cc_disk.specs.declared.disk.Disk.{Ghosts}
 use Rattle.cc_disk.specs.Images.{LeavesOnly}
 use Rattle.cc_library.specs.declared.command.Command as made
 use Rattle.cc_library.specs.declared.fault.LibraryFault.{LibraryFault}
@@ -22,6 +23,7 @@ use Rattle.cc_history.proofs.Histories.{snoc_cases}
 use Rattle.cc_history.specs.declared.command.Command.TheVariants as commands
 use Rattle.cc_service.specs.Book.{BookView, IsRecordedLibrary, RecoversTo, chronicle_of, AllAgreed}
 use Rattle.cc_service.specs.Book.{HasAgreedUnit as AgreedChange}
+use Rattle.cc_service.specs.Changed.{AllRecover}
 use Rattle.cc_service.specs.Client.{IsClient}
 use Rattle.cc_service.specs.Answers.{IsLook}
 
@@ -176,6 +178,17 @@ keeps_failed honest may_leave named total before new_library history failed comm
             (subst (λ (l : List made.Command). RecoversTo before.library.units l image) (sym one) (images h image left));
       },
     )
+
+-- without a call of the device, while the library is usable, every image has the map alone
+pub no_call_between : {Disk : Type 0} (D : Ghosts Disk) (book : BookView Disk) (next : Units)
+    → (IsTrue D.honest → (image : List ℕ) → D.left_since book.library.disk (D.moment book.library.disk) image → D.may_leave book.library.disk image) → AllRecover D book
+    → (book.library.closed ≡ false → book.failed ≡ []) → IsTrue D.honest → book.library.closed ≡ false
+    → LeavesOnly D.moment D.left_since book.library.disk book.library.disk (RecoversOneOf book.library.units next)
+no_call_between D book next only_now images idle h usable = record {
+  later = omega arith;
+  each = λ image left. inl (subst (λ (l : List made.Command). RecoversTo book.library.units l image) (idle usable) (images h image (only_now h image left)));
+  before = λ t image earlier left. inl left;
+}
 
 -- ---- a look
 

@@ -11,6 +11,8 @@ pub mod Book
 pub mod Answers
 -- what a call does to the bytes of the disk
 pub mod Disk
+-- what a change of a book, and a compaction, promise whole
+pub mod Changed
 -- what a commit answers that compacts where this makes room
 pub mod Compacting
 -- how a book shows a state of the protocol core, and what a call is on it

@@ -20,7 +20,7 @@ use Rattle.cc_service.specs.Compiling.{IsCompileRefusal, IsProgram}
 use Rattle.cc_service.specs.declared.fault.BookFault.{BookFault}
 use Rattle.cc_service.specs.declared.fault.BookFault.TheVariants as book
 use Rattle.cc_service.specs.declared.fault.ServiceFault.{ServiceFault}
-use Rattle.cc_service.specs.declared.fault.ServiceFault.TheVariants.{Opening, TooManyClients, BadName, Syntax, Typing, Piece, WorkersGone, ImageTooLarge, Book, OutOfMemory}
+use Rattle.cc_service.specs.declared.fault.ServiceFault.TheVariants.{Opening, BadName, Syntax, Typing, Piece, WorkersGone, ImageTooLarge, Book, OutOfMemory}
 
 -- ---- what a call asks of the book
 
@@ -31,20 +31,17 @@ IsOf source unit = (unit.source ≡ source) × Agree unit.source unit.image
 -- a unit of this source is added under this name
 abbrev pub Adds : (name source : List ℕ) → Command → Type 0
 Adds name source (Add n unit) = (n ≡ name) × IsOf source unit
-Adds name source (Replace n unit) = ⊥
-Adds name source (Withdraw n) = ⊥
+Adds name source _ = ⊥
 
 -- it takes the place of the name's unit
 abbrev pub Replaces : (name source : List ℕ) → Command → Type 0
-Replaces name source (Add n unit) = ⊥
 Replaces name source (Replace n unit) = (n ≡ name) × IsOf source unit
-Replaces name source (Withdraw n) = ⊥
+Replaces name source _ = ⊥
 
 -- the name's unit goes
 abbrev pub Withdraws : (name : List ℕ) → Command → Type 0
-Withdraws name (Add n unit) = ⊥
-Withdraws name (Replace n unit) = ⊥
 Withdraws name (Withdraw n) = n ≡ name
+Withdraws name _ = ⊥
 
 -- how the map refuses a change: 31 where a name is added, 32 where one is to be there
 abbrev pub refusal_of : Command → Reply
@@ -89,42 +86,27 @@ PutAnswers Asks name source old new (Err WorkersGone) = IsTrue (is_name name) ×
 PutAnswers Asks name source old new (Err ImageTooLarge) = IsTrue (is_name name) × IsCompileRefusal source ImageTooLarge × (new ≡ old)
 PutAnswers Asks name source old new (Err OutOfMemory) = IsTrue (is_name name) × (new ≡ old)
 PutAnswers Asks name source old new (Err (Book f)) = IsTrue (is_name name) × IsProgram source × IsTurnedDown Asks old new f
-PutAnswers Asks name source old new (Err (Opening f)) = ⊥
-PutAnswers Asks name source old new (Err TooManyClients) = ⊥
+PutAnswers Asks name source old new (Err _) = ⊥
 
 -- the answer to `withdraw`: 33 exactly where the bytes are no name; else what the book answers
 abbrev pub WithdrawAnswers : (name : List ℕ) (old new : Holder) → Result Receipt ServiceFault → Type 0
 WithdrawAnswers name old new (Ok receipt) = IsTrue (is_name name) × IsEntered (Withdraws name) old reply.Done new receipt
 WithdrawAnswers name old new (Err BadName) = (¬ IsTrue (is_name name)) × (new ≡ old)
 WithdrawAnswers name old new (Err (Book f)) = IsTrue (is_name name) × IsTurnedDown (Withdraws name) old new f
-WithdrawAnswers name old new (Err (Syntax f)) = ⊥
-WithdrawAnswers name old new (Err (Typing f)) = ⊥
-WithdrawAnswers name old new (Err (Piece function f)) = ⊥
-WithdrawAnswers name old new (Err WorkersGone) = ⊥
-WithdrawAnswers name old new (Err ImageTooLarge) = ⊥
-WithdrawAnswers name old new (Err OutOfMemory) = ⊥
-WithdrawAnswers name old new (Err (Opening f)) = ⊥
-WithdrawAnswers name old new (Err TooManyClients) = ⊥
+WithdrawAnswers name old new (Err _) = ⊥
 
 -- how a look is refused: 39 or 40, and the client is as it was
 abbrev pub IsTurnedAway : (old new : Holder) → BookFault → Type 0
 IsTurnedAway old new (book.Estranged number found) = IsOfAnother old number found × (new ≡ old)
 IsTurnedAway old new book.OutOfMemory = new ≡ old
-IsTurnedAway old new (book.Exists receipt) = ⊥
-IsTurnedAway old new (book.Absent receipt) = ⊥
-IsTurnedAway old new book.Full = ⊥
-IsTurnedAway old new book.DiskFault = ⊥
-IsTurnedAway old new book.Closed = ⊥
+IsTurnedAway old new _ = ⊥
 
 -- so is `get`, and by 32, with a receipt, where the name has no unit
 abbrev pub IsNotFound : (name : List ℕ) (old new : Holder) → BookFault → Type 0
 IsNotFound name old new (book.Absent receipt) = IsAnswered old (Fetch name) reply.Absent new receipt
 IsNotFound name old new (book.Estranged number found) = IsTurnedAway old new (book.Estranged number found)
 IsNotFound name old new book.OutOfMemory = IsTurnedAway old new book.OutOfMemory
-IsNotFound name old new (book.Exists receipt) = ⊥
-IsNotFound name old new book.Full = ⊥
-IsNotFound name old new book.DiskFault = ⊥
-IsNotFound name old new book.Closed = ⊥
+IsNotFound name old new _ = ⊥
 
 -- the entry has a unit; it has all names
 abbrev pub HasUnit : Entry → Type 0
@@ -138,28 +120,13 @@ abbrev pub GetAnswers : (name : List ℕ) (old new : Holder) → Result Receipt 
 GetAnswers name old new (Ok receipt) = IsTrue (is_name name) × HasUnit receipt.entry × IsAnswered old (Fetch name) receipt.entry.reply new receipt
 GetAnswers name old new (Err BadName) = (¬ IsTrue (is_name name)) × (new ≡ old)
 GetAnswers name old new (Err (Book f)) = IsTrue (is_name name) × IsNotFound name old new f
-GetAnswers name old new (Err (Syntax f)) = ⊥
-GetAnswers name old new (Err (Typing f)) = ⊥
-GetAnswers name old new (Err (Piece function f)) = ⊥
-GetAnswers name old new (Err WorkersGone) = ⊥
-GetAnswers name old new (Err ImageTooLarge) = ⊥
-GetAnswers name old new (Err OutOfMemory) = ⊥
-GetAnswers name old new (Err (Opening f)) = ⊥
-GetAnswers name old new (Err TooManyClients) = ⊥
+GetAnswers name old new (Err _) = ⊥
 
 -- the answer to `list`
 abbrev pub ListAnswers : (old new : Holder) → Result Receipt ServiceFault → Type 0
 ListAnswers old new (Ok receipt) = HasNames receipt.entry × IsAnswered old Names receipt.entry.reply new receipt
 ListAnswers old new (Err (Book f)) = IsTurnedAway old new f
-ListAnswers old new (Err BadName) = ⊥
-ListAnswers old new (Err (Syntax f)) = ⊥
-ListAnswers old new (Err (Typing f)) = ⊥
-ListAnswers old new (Err (Piece function f)) = ⊥
-ListAnswers old new (Err WorkersGone) = ⊥
-ListAnswers old new (Err ImageTooLarge) = ⊥
-ListAnswers old new (Err OutOfMemory) = ⊥
-ListAnswers old new (Err (Opening f)) = ⊥
-ListAnswers old new (Err TooManyClients) = ⊥
+ListAnswers old new (Err _) = ⊥
 
 -- ---- beside the calls of clients
 
@@ -169,9 +136,7 @@ IsNotCompacted book.Full = Unit {0}
 IsNotCompacted book.DiskFault = Unit {0}
 IsNotCompacted book.Closed = Unit {0}
 IsNotCompacted book.OutOfMemory = Unit {0}
-IsNotCompacted (book.Exists receipt) = ⊥
-IsNotCompacted (book.Absent receipt) = ⊥
-IsNotCompacted (book.Estranged number found) = ⊥
+IsNotCompacted _ = ⊥
 
 -- Why a service is not opened: as the library's opening has it; where that is Ok, 41 or 40 of the workers, and then an honest disk's bytes
 -- recover to this map.
@@ -179,13 +144,7 @@ abbrev pub IsNotOpened : (honest : Bool) (seen : List ℕ) (base : Units) (befor
 IsNotOpened honest seen base before after (Opening f) = OpenFaults honest seen before after f
 IsNotOpened honest seen base before after WorkersGone = (after ≡ before) × (IsTrue honest → Recovers seen base)
 IsNotOpened honest seen base before after OutOfMemory = (after ≡ before) × (IsTrue honest → Recovers seen base)
-IsNotOpened honest seen base before after TooManyClients = ⊥
-IsNotOpened honest seen base before after BadName = ⊥
-IsNotOpened honest seen base before after (Syntax f) = ⊥
-IsNotOpened honest seen base before after (Typing f) = ⊥
-IsNotOpened honest seen base before after (Piece function f) = ⊥
-IsNotOpened honest seen base before after ImageTooLarge = ⊥
-IsNotOpened honest seen base before after (Book f) = ⊥
+IsNotOpened honest seen base before after _ = ⊥
 
 -- Why a service is not ended: 40; or 39, and there is a history, legal from the map that the service began with, by which a receipt of these
 -- clients does not stand, the first, with what stands there in place of it; or they are not all that were made.

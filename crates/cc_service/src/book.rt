@@ -1,20 +1,20 @@
 // The value of a service's lock.
 ghost use Rattle.std.specs.Prelude.{◌≡◌, ◌⊎◌, ℕ, List, [], ◌∷◌, ◌++◌, true, false, IsTrue, IfErr, IfOk, MatchResult, Some, slice_get, length};
 ghost use Rattle.std.specs.FinMap.{empty};
-ghost use Rattle.cc_disk.specs.Images.{LeavesAlone, LeavesOnly, OnlyReads};
+ghost use Rattle.cc_disk.specs.Images.{LeavesAlone, OnlyReads};
 ghost use Rattle.cc_journal.specs.Format.{HoldsRecords};
 ghost use Rattle.cc_core.specs.Run.{EachUnit, IsRightOr};
 ghost use Rattle.cc_library.specs.Answers.{IsMended, OpenFaults};
-ghost use Rattle.cc_library.specs.Apply.{Units, after};
-ghost use Rattle.cc_library.specs.Recovered.{Recovers, RecoversAlone, RecoversOneOf, StandFor};
+ghost use Rattle.cc_library.specs.Apply.{Units};
+ghost use Rattle.cc_library.specs.Recovered.{Recovers, RecoversAlone, StandFor};
 ghost use Rattle.cc_build.specs.Compiling.{compiling, Keeps, is_right};
 ghost use Rattle.cc_history.specs.Calls.{change_of};
 ghost use Rattle.cc_history.specs.History.{LastStands};
 ghost use Rattle.cc_history.specs.declared.reply.Reply.TheVariants as reply;
-ghost use Rattle.cc_service.specs.Book.{BookView, RecoversTo};
-ghost use Rattle.cc_service.specs.Answers.{CommitAnswers, CompactAnswers, IsBegun, IsLook, LookAnswers};
+ghost use Rattle.cc_service.specs.Book.{BookView};
+ghost use Rattle.cc_service.specs.Answers.{IsBegun, IsLook, LookAnswers};
+ghost use Rattle.cc_service.specs.Changed.{AllRecover, ChangesAtOnce, IsBookChanged, IsBookCompacted};
 ghost use Rattle.cc_service.specs.Compacting.{CompactingAnswers};
-ghost use Rattle.cc_service.specs.Disk.{ChangesDisk, CompactsDisk};
 ghost use Rattle.cc_service.specs.Promise.{IsSound};
 ghost use Rattle.cc_service.specs.Serving.{IsEntered, IsTurnedDown};
 ghost use Rattle.cc_service.specs.Since.{HoldsFrom, IsPast};
@@ -152,20 +152,9 @@ impl<N: Named, D: Disk> Book<N, D> {
         client: &mut Client<N>,
         command: Command,
     ) -> Result<Receipt, BookFault>
-        ensures answers { CommitAnswers D.failures self.old.book client.old.holder command self.new.book client.new.holder result }
+        ensures changed { IsBookChanged D.Disk self.old.book client.old.holder command self.new.book client.new.holder result }
         ensures sent { client.new.sent ≡ client.old.sent }
         ensures since { self.new.since ≡ self.old.since ++ self.new.book ∷ [] }
-
-        // A crash at any moment of the call leaves the map before it or the map after it.
-        ensures moments { IsTrue D.honest → self.old.book.library.closed ≡ false
-            → LeavesOnly D.moment D.left_since self.old.book.library.disk self.new.book.library.disk
-            (RecoversOneOf self.old.book.library.units (after self.old.book.library.units (change_of command))) }
-
-        // What becomes of the disk's bytes.
-        ensures disk { IsTrue D.honest → ChangesDisk D.seen D.may_leave (change_of command) self.old.book.library self.new.book.library result }
-
-        // From then on, too: at Ok the map after it, alone.
-        ensures images { IsTrue D.honest → (image : List ℕ) → D.may_leave self.new.book.library.disk image → RecoversTo self.new.book.library.units self.new.book.failed image }
     {
         self.recorded.kept();
         command.kept();
@@ -194,13 +183,9 @@ impl<N: Named, D: Disk> Book<N, D> {
         // Nothing was done, or the book afterwards is the newest.
         ensures since { (self.new ≡ self.old) ⊎ ((between : List (BookView D)) × (self.new.since ≡ self.old.since ++ (between ++ self.new.book ∷ []))) }
 
-        // A crash at any moment of the call leaves the map before it or the map after it.
-        ensures moments { IsTrue D.honest → self.old.book.library.closed ≡ false
-            → LeavesOnly D.moment D.left_since self.old.book.library.disk self.new.book.library.disk
-            (RecoversOneOf self.old.book.library.units (after self.old.book.library.units (change_of command))) }
-
+        ensures moments { ChangesAtOnce D.Disk command self.old.book self.new.book }
         // From then on, too: at Ok the map after it, alone.
-        ensures images { IsTrue D.honest → (image : List ℕ) → D.may_leave self.new.book.library.disk image → RecoversTo self.new.book.library.units self.new.book.failed image }
+        ensures kept { AllRecover D.Disk self.new.book }
     {
         self.kept();
         match self.is_mended_by_compact(client, &command) {
@@ -246,7 +231,7 @@ impl<N: Named, D: Disk> Book<N, D> {
 
     // What its type keeps of what a crash leaves now. It does nothing.
     fn kept(&self)
-        ensures images { IsTrue D.honest → (image : List ℕ) → D.may_leave self.now.book.library.disk image → RecoversTo self.now.book.library.units self.now.book.failed image }
+        ensures images { AllRecover D.Disk self.now.book }
         ensures idle { self.now.book.library.closed ≡ false → self.now.book.failed ≡ [] }
     {
         self.recorded.kept();
@@ -279,13 +264,8 @@ impl<N: Named, D: Disk> Book<N, D> {
     /// Refusals, in this order: 36 where the device has failed before, 34 where the new records do not fit, 35 where the device
     /// failed. 40 where memory ran out, before the first device call. After 34, 36 and 40 all is as before.
     pub fn compact(&mut self, alloc: Global) -> Result<(), BookFault>
-        ensures answers { CompactAnswers D.failures self.old.book self.new.book result }
+        ensures compacted { IsBookCompacted D.Disk self.old.book self.new.book result }
         ensures since { self.new.since ≡ self.old.since ++ self.new.book ∷ [] }
-        ensures moments { IsTrue D.honest → self.old.book.library.closed ≡ false
-            → LeavesOnly D.moment D.left_since self.old.book.library.disk self.new.book.library.disk (λ image. RecoversAlone image self.old.book.library.units) }
-        // What becomes of the disk's bytes.
-        ensures disk { IsTrue D.honest → CompactsDisk D.seen D.may_leave self.old.book.library self.new.book.library result }
-        ensures images { IsTrue D.honest → (image : List ℕ) → D.may_leave self.new.book.library.disk image → RecoversTo self.new.book.library.units self.new.book.failed image }
     {
         self.recorded.kept();
         turn_law::<CcBuild>();

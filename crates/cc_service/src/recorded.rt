@@ -1,14 +1,13 @@
 // The library with the history of its calls.
 ghost use Rattle.std.specs.Prelude.{◌≡◌, ◌≤◌, ℕ, List, [], false, IsTrue, IfErr, IfOk, length};
-ghost use Rattle.cc_disk.specs.Images.{LeavesOnly};
 ghost use Rattle.cc_library.specs.Answers.{IsMended};
-ghost use Rattle.cc_library.specs.Apply.{apply, after};
-ghost use Rattle.cc_library.specs.Recovered.{RecoversAlone, RecoversOneOf};
+ghost use Rattle.cc_library.specs.Apply.{apply};
+ghost use Rattle.cc_library.specs.Recovered.{RecoversAlone};
 ghost use Rattle.cc_history.specs.Calls.{change_of, reply_of, reply_of_change};
 ghost use Rattle.cc_history.specs.History.{HaveAgreed, LastStands, Replays};
-ghost use Rattle.cc_service.specs.Book.{AllAgreed, RecoversTo, chronicle_of};
-ghost use Rattle.cc_service.specs.Answers.{CommitAnswers, CompactAnswers, IsLook, LookAnswers};
-ghost use Rattle.cc_service.specs.Disk.{ChangesDisk, CompactsDisk};
+ghost use Rattle.cc_service.specs.Book.{AllAgreed, chronicle_of};
+ghost use Rattle.cc_service.specs.Answers.{IsLook, LookAnswers};
+ghost use Rattle.cc_service.specs.Changed.{AllRecover, IsBookChanged, IsBookCompacted};
 ghost use Rattle.cc_service.specs.internal.Decide.{answer_reply};
 ghost use Rattle.cc_service.specs.internal.Early.{IsRefusedEarly};
 
@@ -92,7 +91,7 @@ impl<N: Named, D: Disk> RecordedLibrary<N, D> {
         ensures one { length self.now.failed ≤ 1 }
         ensures agreed { HaveAgreed self.now.history }
         ensures agreed_failed { AllAgreed self.now.failed }
-        ensures images { IsTrue D.honest → (image : List ℕ) → D.may_leave self.now.library.disk image → RecoversTo self.now.library.units self.now.failed image }
+        ensures images { AllRecover D.Disk self.now }
     {
         let _ = &self.base;
     }
@@ -110,18 +109,7 @@ impl<N: Named, D: Disk> RecordedLibrary<N, D> {
         client: &mut Member<N>,
         command: Command,
     ) -> Result<Receipt, BookFault>
-        ensures answers { CommitAnswers D.failures self.old client.old command self.new client.new result }
-
-        // A crash at any moment of the call leaves the map before it or the map after it.
-        ensures moments { IsTrue D.honest → self.old.library.closed ≡ false
-            → LeavesOnly D.moment D.left_since self.old.library.disk self.new.library.disk
-            (RecoversOneOf self.old.library.units (after self.old.library.units (change_of command))) }
-
-        // What becomes of the disk's bytes.
-        ensures disk { IsTrue D.honest → ChangesDisk D.seen D.may_leave (change_of command) self.old.library self.new.library result }
-
-        // From then on, too: at Ok the map after it, alone.
-        ensures images { IsTrue D.honest → (image : List ℕ) → D.may_leave self.new.library.disk image → RecoversTo self.new.library.units self.new.failed image }
+        ensures changed { IsBookChanged D.Disk self.old client.old command self.new client.new result }
     {
         calls_are_recorded();
         let RecordedLibrary {
@@ -257,11 +245,7 @@ impl<N: Named, D: Disk> RecordedLibrary<N, D> {
     /// Refusals, in this order: 36 where the device has failed before, 34 where the new records do not fit, 35 where the device
     /// failed. 40 where memory ran out, before the first device call. After 34, 36 and 40 all is as before.
     pub fn compact(&mut self, alloc: Global) -> Result<(), BookFault>
-        ensures answers { CompactAnswers D.failures self.old self.new result }
-        ensures moments { IsTrue D.honest → self.old.library.closed ≡ false
-            → LeavesOnly D.moment D.left_since self.old.library.disk self.new.library.disk (λ image. RecoversAlone image self.old.library.units) }
-        ensures disk { IsTrue D.honest → CompactsDisk D.seen D.may_leave self.old.library self.new.library result }
-        ensures images { IsTrue D.honest → (image : List ℕ) → D.may_leave self.new.library.disk image → RecoversTo self.new.library.units self.new.failed image }
+        ensures compacted { IsBookCompacted D.Disk self.old self.new result }
     {
         match self.library.compact(alloc) {
             Ok(()) => {}

@@ -2,7 +2,8 @@
 use Rattle.std.proofs.Common.{IsTrue, List, sym, subst}
 use Rattle.cc_build.specs.Compiling.{compiling, Keeps}
 use Rattle.cc_service.specs.Book.{BookView}
-use Rattle.cc_service.specs.Disk.{ChangesDisk}
+use Rattle.cc_service.specs.Changed.{IsBookChanged}
+use Rattle.cc_service.specs.Client.{ClientView}
 use Rattle.cc_service.specs.Since.{AreSince, BookSince}
 use Rattle.cc_core.specs.Rules.{HasBuilt}
 use Rattle.cc_history.specs.Calls.{change_of}
@@ -16,7 +17,7 @@ invariant_of-self g c =
     let D = g.D.Disk in
     let before : BookView g.row.D.Denot = c.self.inside.recorded in
     let after_it : BookView g.row.D.Denot = c.commit-result.new.self in
-    let done = c.commit-result.ensures in
+    let done = c.commit-result.ensures.changed in
     let law : TurnLaw compiling Keeps = record { turn = c.turn_law.ensures.turn; goes_on = c.turn_law.ensures.goes_on; no_job = c.turn_law.ensures.no_job; no_work = c.turn_law.ensures.no_work; ready = c.turn_law.ensures.ready } in
     let goes : IsTrue D.honest → Goes D.moment D.may_leave D.left_since before after_it = λ h.
     commit_goes D.moment D.may_leave D.left_since before after_it c.kept.ensures.replays c.kept-3.ensures.replays c.kept.ensures.idle D.failures
@@ -31,7 +32,10 @@ invariant_of-self g c =
       opened = λ h. opening_goes D.moment D.may_leave D.left_since before after_it (goes h) g.N.Named.from g.N.Named.left (c.self.invariant.opened h);
     }
 
-pub returns-clause-disk : goal.returns-clause-disk
-returns-clause-disk g c =
+pub returns-clause-changed : goal.returns-clause-changed
+returns-clause-changed g c =
     let D = g.D.Disk in
-    subst (λ (b : BookSince g.row.D.Denot). IsTrue D.honest → ChangesDisk D.seen D.may_leave (change_of c.args.command) b.book.library c.commit-result.new.self.library c.commit-result.result) c.self.view_is c.commit-result.ensures.disk
+    let new : BookView g.row.D.Denot = c.commit-result.new.self in
+    let client = c.commit-result.new.client in
+    subst (λ (b : BookSince g.row.D.Denot). IsBookChanged D b.book c.args.client.now.holder c.args.command new client c.commit-result.result) c.self.view_is
+    (subst (λ (v : ClientView). IsBookChanged D c.self.inside.recorded v.holder c.args.command new client c.commit-result.result) c.client.view_is c.commit-result.ensures.changed)

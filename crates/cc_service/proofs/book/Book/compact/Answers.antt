@@ -1,7 +1,7 @@
 use Rattle.std.proofs.Common.{IsTrue, List, sym, subst}
 use Rattle.cc_build.specs.Compiling.{compiling, Keeps}
 use Rattle.cc_service.specs.Book.{BookView}
-use Rattle.cc_service.specs.Disk.{CompactsDisk}
+use Rattle.cc_service.specs.Changed.{IsBookCompacted}
 use Rattle.cc_service.specs.Since.{AreSince, BookSince}
 use Rattle.cc_service.proofs.Tying.{TurnLaw, compact_tied}
 use Rattle.cc_service.proofs.Sinces.{Goes, compact_goes, one_more, opening_goes, since_goes}
@@ -12,7 +12,7 @@ invariant_of-self g c =
     let D = g.D.Disk in
     let before : BookView g.row.D.Denot = c.self.inside.recorded in
     let after_it : BookView g.row.D.Denot = c.compact-result.new.self in
-    let done = c.compact-result.ensures in
+    let done = c.compact-result.ensures.compacted in
     let law : TurnLaw compiling Keeps = record { turn = c.turn_law.ensures.turn; goes_on = c.turn_law.ensures.goes_on; no_job = c.turn_law.ensures.no_job; no_work = c.turn_law.ensures.no_work; ready = c.turn_law.ensures.ready } in
     let goes : IsTrue D.honest → Goes D.moment D.may_leave D.left_since before after_it = λ h.
     compact_goes D.moment D.may_leave D.left_since before after_it c.kept.ensures.replays c.kept-2.ensures.replays c.kept.ensures.idle D.failures c.compact-result.result done.answers (done.moments h) in
@@ -24,7 +24,6 @@ invariant_of-self g c =
       opened = λ h. opening_goes D.moment D.may_leave D.left_since before after_it (goes h) g.N.Named.from g.N.Named.left (c.self.invariant.opened h);
     }
 
-pub returns-clause-disk : goal.returns-clause-disk
-returns-clause-disk g c =
-    let D = g.D.Disk in
-    subst (λ (b : BookSince g.row.D.Denot). IsTrue D.honest → CompactsDisk D.seen D.may_leave b.book.library c.compact-result.new.self.library c.compact-result.result) c.self.view_is c.compact-result.ensures.disk
+pub returns-clause-compacted : goal.returns-clause-compacted
+returns-clause-compacted g c =
+    subst (λ (b : BookSince g.row.D.Denot). IsBookCompacted g.D.Disk b.book c.compact-result.new.self c.compact-result.result) c.self.view_is c.compact-result.ensures.compacted
