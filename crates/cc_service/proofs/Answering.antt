@@ -14,13 +14,13 @@ use Rattle.cc_history.specs.declared.entry.Receipt.{Receipt}
 use Rattle.cc_history.specs.declared.reply.Reply.{Reply}
 use Rattle.cc_history.specs.declared.reply.Reply.TheVariants as reply
 use Rattle.cc_history.specs.History.{Chronicle, Holder, IsAnswered, IsRecorded}
-use Rattle.cc_service.specs.Answers.{CommitAnswers, LookAnswers}
-use Rattle.cc_service.specs.Book.{BookView, chronicle_of}
+use Rattle.cc_recorded.specs.Answers.{CommitAnswers, LookAnswers}
+use Rattle.cc_recorded.specs.Book.{BookView, chronicle_of}
 use Rattle.cc_service.specs.Compiling.{IsCompileRefusal, IsProgram}
 use Rattle.cc_service.specs.Serving.{IsEntered, IsTurnedDown, PutAnswers, refusal_of}
 use Rattle.cc_service.specs.internal.Under.{IsSeen, MakesAnswers}
-use Rattle.cc_service.specs.declared.fault.BookFault.{BookFault}
-use Rattle.cc_service.specs.declared.fault.BookFault.TheVariants as book
+use Rattle.cc_recorded.specs.declared.fault.BookFault.{BookFault}
+use Rattle.cc_recorded.specs.declared.fault.BookFault.TheVariants as book
 use Rattle.cc_service.specs.declared.fault.ServiceFault.{ServiceFault}
 use Rattle.cc_service.specs.declared.fault.ServiceFault.TheVariants.{Opening, TooManyClients, BadName, Syntax, Typing, Piece, WorkersGone, ImageTooLarge, Book, OutOfMemory}
 

@@ -3,26 +3,8 @@
 pub mod Fault
 -- what a service begins with
 pub mod Named
--- what contracts see of a client, and what its type keeps
+-- what contracts see of a client
 pub mod Client
--- what contracts see of a book, and what the type of a library with its history keeps
-pub mod Book
--- when a call has which answer, and what it leaves
-pub mod Answers
--- what a call does to the bytes of the disk
-pub mod Disk
--- what a change of a book, and a compaction, promise whole
-pub mod Changed
--- what a commit answers that compacts where this makes room
-pub mod Compacting
--- how a book shows a state of the protocol core, and what a call is on it
-pub mod Core
--- what a crash at any moment since an earlier call has left
-pub mod Since
--- how a book is tied to the theorem of the protocol core
-pub mod Tie
--- what the type of a book keeps, and what follows for whatever a crash leaves
-pub mod Promise
 -- why a text is not compiled
 pub mod Compiling
 -- what a service's calls answer, as their clients see it

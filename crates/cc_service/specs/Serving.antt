@@ -15,10 +15,10 @@ use Rattle.cc_history.specs.declared.entry.Receipt.{Receipt}
 use Rattle.cc_history.specs.declared.reply.Reply.{Reply}
 use Rattle.cc_history.specs.declared.reply.Reply.TheVariants as reply
 use Rattle.cc_history.specs.History.{Holder, IsAnswered, IsLegal}
-use Rattle.cc_service.specs.Answers.{IsNotClosed}
+use Rattle.cc_recorded.specs.Answers.{IsNotClosed}
 use Rattle.cc_service.specs.Compiling.{IsCompileRefusal, IsProgram}
-use Rattle.cc_service.specs.declared.fault.BookFault.{BookFault}
-use Rattle.cc_service.specs.declared.fault.BookFault.TheVariants as book
+use Rattle.cc_recorded.specs.declared.fault.BookFault.{BookFault}
+use Rattle.cc_recorded.specs.declared.fault.BookFault.TheVariants as book
 use Rattle.cc_service.specs.declared.fault.ServiceFault.{ServiceFault}
 use Rattle.cc_service.specs.declared.fault.ServiceFault.TheVariants.{Opening, BadName, Syntax, Typing, Piece, WorkersGone, ImageTooLarge, Book, OutOfMemory}
 

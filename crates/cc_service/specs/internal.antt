@@ -1,9 +1,3 @@
 -- What serves private contracts.
--- the reply that an answer to a change is
-pub mod Decide
 -- what is answered under the lock
 pub mod Under
--- what is looked for in clients
-pub mod Apart
--- what is refused before a change looks for room
-pub mod Early

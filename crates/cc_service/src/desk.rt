@@ -1,8 +1,8 @@
 // Who makes a service's clients.
 ghost use Rattle.std.specs.Prelude.{◌≡◌, ◌+◌, ◌≤◌, [], IfNone, IfSome};
 
-use crate::client::Member;
 use crate::named::{MOST_CLIENTS, Named};
+use cc_recorded::Member;
 use std::alloc::Global;
 use std::marker::Model;
 use std::sync::ledger::Share;

@@ -6,26 +6,26 @@ ghost use Rattle.cc_library.specs.Recovered.{Recovers};
 ghost use Rattle.cc_history.specs.Closing.{AreOwn, IsClosed};
 ghost use Rattle.cc_service.specs.Client.{holders};
 ghost use Rattle.cc_service.specs.Compiling.{HasSentFor};
-ghost use Rattle.cc_service.specs.Promise.{IsGivenUp, IsSound};
-ghost use Rattle.cc_service.specs.Since.{IsPast};
+ghost use Rattle.cc_recorded.specs.Promise.{IsGivenUp, IsSound};
+ghost use Rattle.cc_recorded.specs.Since.{IsPast};
 ghost use Rattle.cc_service.specs.Serving.{Adds, GetAnswers, IsNotCompacted, IsNotEnded, IsNotOpened, IsTurnedAway, ListAnswers, PutAnswers, Replaces, WithdrawAnswers};
-ghost use Rattle.cc_service.specs.Answers.{IsLook};
+ghost use Rattle.cc_recorded.specs.Answers.{IsLook};
 ghost use Rattle.cc_service.specs.internal.Under.{IsSeen, MakesAnswers};
-ghost use Rattle.cc_service.specs.declared.fault.BookFault.{BookFault};
+ghost use Rattle.cc_recorded.specs.declared.fault.BookFault.{BookFault};
 ghost use Rattle.cc_service.specs.declared.fault.ServiceFault.TheVariants as service;
 
 use crate::answers::{Found, Listing, has_unit};
-use crate::book::Book;
 use crate::client::Client;
-use crate::closing::Closed;
+use crate::closing::{Closed, end, ready};
 use crate::compiling::compiled;
 use crate::desk::Desk;
-use crate::fault::{BookFault, ServiceFault};
+use crate::fault::ServiceFault;
 use crate::named::{Fresh, Named};
 use cc_disk::Disk;
 use cc_history::{Asked, Command, Receipt};
 use cc_library::Name;
 use cc_pool::{Gate, Pool, PoolFault};
+use cc_recorded::{Book, BookFault};
 use std::alloc::Global;
 use std::sync::{Mutex, Wait};
 use std::thread::Threads;
@@ -195,7 +195,7 @@ impl<N: Named + Send + Sync + 'static, D: Disk> Service<N, D> {
         ensures answers { MakesAnswers command client.old.holder client.new.holder result }
         ensures sent { client.new.sent ≡ client.old.sent }
     {
-        let answer = self.book.lock(rt).change(alloc, client, command);
+        let answer = client.change(alloc, &mut self.book.lock(rt), command);
         match answer {
             Ok(receipt) => Ok(receipt),
             Err(fault) => Err(ServiceFault::Book(fault)),
@@ -259,7 +259,7 @@ impl<N: Named + Send + Sync + 'static, D: Disk> Service<N, D> {
         ensures err { IfErr result (λ fault. IsTurnedAway client.old.holder client.new.holder fault) }
         ensures sent { client.new.sent ≡ client.old.sent }
     {
-        self.book.lock(rt).look(alloc, client, asked)
+        client.look(alloc, &mut self.book.lock(rt), asked)
     }
 
     /// Writes the library's records anew, one for each name. The map stays, and the history gets no entry.
@@ -301,9 +301,9 @@ impl<N: Named + Send + Sync + 'static, D: Disk> Service<N, D> {
         let book = book.into_inner();
         book.survives();
         let Desk { made, rest } = desk.into_inner();
-        match book.ready(alloc, made, clients.as_slice()) {
+        match ready(alloc, &book, made, clients.as_slice()) {
             Ok(left) => {
-                let (closed, passes) = book.end(rest, clients, left);
+                let (closed, passes) = end(book, rest, clients, left);
                 drop(pool.finish(rt, passes));
                 Ok(closed)
             }
@@ -326,7 +326,8 @@ impl<N: Named + Send + Sync + 'static, D: Disk> Service<N, D> {
     {
         let Service { book, desk, pool } = self;
         drop(desk);
-        let given_up = book.into_inner().give_up(clients);
+        let given_up = book.into_inner().give_up(clients.as_slice());
+        drop(clients);
         // The workers are stopped; the passes are let go, so this has no other answer.
         drop(pool.finish(rt, Vec::new(alloc)));
         given_up

@@ -62,13 +62,13 @@ fn made<N: Named, D: Disk>(
     let answer = match call {
         Call::Make(change) => {
             let command = command_of(alloc, change)?;
-            book.commit(alloc, client, command)
+            client.change(alloc, book, command)
         }
         Call::Get(name) => {
             let name = name_at(name)?;
-            book.look(alloc, client, Asked::Fetch(name))
+            client.look(alloc, book, Asked::Fetch(name))
         }
-        Call::List => book.look(alloc, client, Asked::Names),
+        Call::List => client.look(alloc, book, Asked::Names),
         Call::Compact => match book.compact(alloc) {
             Ok(()) => return Ok((0, None)),
             Err(fault) => Err(fault),

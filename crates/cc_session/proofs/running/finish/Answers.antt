@@ -2,7 +2,7 @@
 use Rattle.std.proofs.Common.{◌≡◌, ℕ, Vec, Global, sym, subst}
 use Rattle.std.specs.Prelude.{◌⊎◌}
 use Rattle.cc_service.specs.Client.{ClientView, holders}
-use Rattle.cc_service.specs.Promise.{IsGivenUp}
+use Rattle.cc_recorded.specs.Promise.{IsGivenUp}
 use Rattle.cc_session.specs.Session.{IsEnded}
 use Rattle.cc_session.specs.declared.end.SessionEnd.{SessionEnd}
 use Rattle.cc_session.proofs.Ends.{given_up_by, kept_by, refusal_number}
@@ -11,7 +11,7 @@ use Rattle.cc_session.proofs.running.finish.Goals as goal
 pub returns-in-Ok : goal.returns-in-Ok
 returns-in-Ok g c = λ bytes recovers.
     let D = g.D.Disk in
-    let N = g.N.Named in
+    let N = g.N.Based in
     let r = c.in-Ok.closed in
     let e = c.in-Ok.ensures in
     kept_by D.honest D.may_leave D.left_since N.base N.from N.left bytes recovers (holders c.args.clients.items) c.args.played
@@ -20,7 +20,7 @@ returns-in-Ok g c = λ bytes recovers.
 pub returns-in-Err : goal.returns-in-Err
 returns-in-Err g c = λ bytes recovers.
     let D = g.D.Disk in
-    let N = g.N.Named in
+    let N = g.N.Based in
     let given = c.give_up-disk.result in
     let it = subst (λ (v : Vec ClientView Global). IsGivenUp D.honest D.may_leave D.left_since N.base N.from N.left (holders v.items) given.1 given.0) c.in-Err.ensures.back c.give_up-disk.ensures in
     let why = refusal_number D.honest N.base (holders c.args.clients.items) c.in-Err.fault c.in-Err.ensures.refused in

@@ -7,5 +7,5 @@ ghosts-do_script-N-Ledger g a = record { name = a.begun.fresh.ledger; parts = 10
 abbrev pub ghosts-do_script-N-Queued : goal.ghosts-do_script-N-Queued
 ghosts-do_script-N-Queued g a = record { queue = a.begun.fresh.queue }
 
-abbrev pub ghosts-do_script-N-Named : goal.ghosts-do_script-N-Named
-ghosts-do_script-N-Named g a = record { base = a.begun.base.value; from = g.D.Disk.moment a.begun.before.value; left = g.D.Disk.may_leave a.begun.before.value }
+abbrev pub ghosts-do_script-N-Based : goal.ghosts-do_script-N-Based
+ghosts-do_script-N-Based g a = record { base = a.begun.base.value; from = g.D.Disk.moment a.begun.before.value; left = g.D.Disk.may_leave a.begun.before.value }

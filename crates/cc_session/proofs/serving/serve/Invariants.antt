@@ -7,5 +7,5 @@ ghosts-serve_begun-N-Ledger g a = record { name = a.begun.fresh.ledger; parts = 
 abbrev pub ghosts-serve_begun-N-Queued : goal.ghosts-serve_begun-N-Queued
 ghosts-serve_begun-N-Queued g a = record { queue = a.begun.fresh.queue }
 
-abbrev pub ghosts-serve_begun-N-Named : goal.ghosts-serve_begun-N-Named
-ghosts-serve_begun-N-Named g a = record { base = a.begun.base.value; from = g.D.Disk.moment a.begun.before.value; left = g.D.Disk.may_leave a.begun.before.value }
+abbrev pub ghosts-serve_begun-N-Based : goal.ghosts-serve_begun-N-Based
+ghosts-serve_begun-N-Based g a = record { base = a.begun.base.value; from = g.D.Disk.moment a.begun.before.value; left = g.D.Disk.may_leave a.begun.before.value }

@@ -9,7 +9,7 @@ use Rattle.cc_session.proofs.serving.serve_begun.Goals as goal
 pub returns-in_default : goal.returns-in_default
 returns-in_default g c =
     let D = g.D.Disk in
-    let N = g.N.Named in
+    let N = g.N.Based in
     let by = given_by g.S.Spool.taken g.S.Spool.ended in
     let u = c.unserved.ensures in
     let before = map by c.args.spools.items in
@@ -20,7 +20,7 @@ returns-in_default g c =
 pub returns : goal.returns
 returns g c =
     let D = g.D.Disk in
-    let N = g.N.Named in
+    let N = g.N.Based in
     let by = given_by g.S.Spool.taken g.S.Spool.ended in
     let u = c.unserved-in-Err.ensures in
     let left = c.unserved-in-Err.result in

@@ -1,6 +1,6 @@
 use Rattle.std.proofs.Common.{List, refl, subst}
 use Rattle.cc_history.specs.Closing.{AreApart}
-use Rattle.cc_service.specs.Answers.{IsNotClosed}
+use Rattle.cc_recorded.specs.Answers.{IsNotClosed}
 use Rattle.cc_service.specs.Client.{ClientView, holders}
 use Rattle.cc_service.proofs.service.Service.finish.Goals as goal
 

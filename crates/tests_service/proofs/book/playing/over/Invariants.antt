@@ -7,5 +7,5 @@ ghosts-run-N-Ledger g a = record { name = a.blank.name; parts = a.blank.parts }
 abbrev pub ghosts-run-N-Queued : goal.ghosts-run-N-Queued
 ghosts-run-N-Queued g a = record { queue = a.queue }
 
-abbrev pub ghosts-run-N-Named : goal.ghosts-run-N-Named
-ghosts-run-N-Named g a = record { base = a.base; from = 0; left = λ image. Unit {0} }
+abbrev pub ghosts-run-N-Based : goal.ghosts-run-N-Based
+ghosts-run-N-Based g a = record { base = a.base; from = 0; left = λ image. Unit {0} }

@@ -7,5 +7,5 @@ ghosts-each_call-N-Ledger g a = record { name = a.begun.fresh.ledger; parts = 10
 abbrev pub ghosts-each_call-N-Queued : goal.ghosts-each_call-N-Queued
 ghosts-each_call-N-Queued g a = record { queue = a.begun.fresh.queue }
 
-abbrev pub ghosts-each_call-N-Named : goal.ghosts-each_call-N-Named
-ghosts-each_call-N-Named g a = record { base = a.begun.base; from = 0; left = λ image. Unit {0} }
+abbrev pub ghosts-each_call-N-Based : goal.ghosts-each_call-N-Based
+ghosts-each_call-N-Based g a = record { base = a.begun.base; from = 0; left = λ image. Unit {0} }

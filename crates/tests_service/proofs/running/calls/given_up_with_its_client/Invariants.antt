@@ -7,5 +7,5 @@ ghosts-gives_up-N-Ledger g a = record { name = a.begun.fresh.ledger; parts = 102
 abbrev pub ghosts-gives_up-N-Queued : goal.ghosts-gives_up-N-Queued
 ghosts-gives_up-N-Queued g a = record { queue = a.begun.fresh.queue }
 
-abbrev pub ghosts-gives_up-N-Named : goal.ghosts-gives_up-N-Named
-ghosts-gives_up-N-Named g a = record { base = a.begun.base; from = 0; left = λ image. Unit {0} }
+abbrev pub ghosts-gives_up-N-Based : goal.ghosts-gives_up-N-Based
+ghosts-gives_up-N-Based g a = record { base = a.begun.base; from = 0; left = λ image. Unit {0} }

@@ -7,5 +7,5 @@ ghosts-many_clients-N-Ledger g a = record { name = a.begun.fresh.ledger; parts =
 abbrev pub ghosts-many_clients-N-Queued : goal.ghosts-many_clients-N-Queued
 ghosts-many_clients-N-Queued g a = record { queue = a.begun.fresh.queue }
 
-abbrev pub ghosts-many_clients-N-Named : goal.ghosts-many_clients-N-Named
-ghosts-many_clients-N-Named g a = record { base = a.begun.base; from = 0; left = λ image. Unit {0} }
+abbrev pub ghosts-many_clients-N-Based : goal.ghosts-many_clients-N-Based
+ghosts-many_clients-N-Based g a = record { base = a.begun.base; from = 0; left = λ image. Unit {0} }

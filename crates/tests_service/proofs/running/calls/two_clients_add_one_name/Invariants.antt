@@ -7,5 +7,5 @@ ghosts-two_threads-N-Ledger g a = record { name = a.begun.fresh.ledger; parts = 
 abbrev pub ghosts-two_threads-N-Queued : goal.ghosts-two_threads-N-Queued
 ghosts-two_threads-N-Queued g a = record { queue = a.begun.fresh.queue }
 
-abbrev pub ghosts-two_threads-N-Named : goal.ghosts-two_threads-N-Named
-ghosts-two_threads-N-Named g a = record { base = a.begun.base; from = 0; left = λ image. Unit {0} }
+abbrev pub ghosts-two_threads-N-Based : goal.ghosts-two_threads-N-Based
+ghosts-two_threads-N-Based g a = record { base = a.begun.base; from = 0; left = λ image. Unit {0} }

@@ -7,5 +7,5 @@ ghosts-are_replayed-N-Ledger g a = record { name = a.begun.fresh.ledger; parts =
 abbrev pub ghosts-are_replayed-N-Queued : goal.ghosts-are_replayed-N-Queued
 ghosts-are_replayed-N-Queued g a = record { queue = a.begun.fresh.queue }
 
-abbrev pub ghosts-are_replayed-N-Named : goal.ghosts-are_replayed-N-Named
-ghosts-are_replayed-N-Named g a = record { base = a.begun.base; from = 0; left = λ image. Unit {0} }
+abbrev pub ghosts-are_replayed-N-Based : goal.ghosts-are_replayed-N-Based
+ghosts-are_replayed-N-Based g a = record { base = a.begun.base; from = 0; left = λ image. Unit {0} }

@@ -7,5 +7,5 @@ ghosts-five_calls-N-Ledger g a = record { name = a.begun.fresh.ledger; parts = 1
 abbrev pub ghosts-five_calls-N-Queued : goal.ghosts-five_calls-N-Queued
 ghosts-five_calls-N-Queued g a = record { queue = a.begun.fresh.queue }
 
-abbrev pub ghosts-five_calls-N-Named : goal.ghosts-five_calls-N-Named
-ghosts-five_calls-N-Named g a = record { base = a.begun.base; from = 0; left = λ image. Unit {0} }
+abbrev pub ghosts-five_calls-N-Based : goal.ghosts-five_calls-N-Based
+ghosts-five_calls-N-Based g a = record { base = a.begun.base; from = 0; left = λ image. Unit {0} }

@@ -7,5 +7,5 @@ ghosts-fails_at_first-N-Ledger g a = record { name = a.begun.fresh.ledger; parts
 abbrev pub ghosts-fails_at_first-N-Queued : goal.ghosts-fails_at_first-N-Queued
 ghosts-fails_at_first-N-Queued g a = record { queue = a.begun.fresh.queue }
 
-abbrev pub ghosts-fails_at_first-N-Named : goal.ghosts-fails_at_first-N-Named
-ghosts-fails_at_first-N-Named g a = record { base = a.begun.base; from = 0; left = λ image. Unit {0} }
+abbrev pub ghosts-fails_at_first-N-Based : goal.ghosts-fails_at_first-N-Based
+ghosts-fails_at_first-N-Based g a = record { base = a.begun.base; from = 0; left = λ image. Unit {0} }

@@ -7,5 +7,5 @@ ghosts-not_opened-N-Ledger g a = record { name = a.begun.fresh.ledger; parts = 1
 abbrev pub ghosts-not_opened-N-Queued : goal.ghosts-not_opened-N-Queued
 ghosts-not_opened-N-Queued g a = record { queue = a.begun.fresh.queue }
 
-abbrev pub ghosts-not_opened-N-Named : goal.ghosts-not_opened-N-Named
-ghosts-not_opened-N-Named g a = record { base = a.begun.base; from = 0; left = λ image. Unit {0} }
+abbrev pub ghosts-not_opened-N-Based : goal.ghosts-not_opened-N-Based
+ghosts-not_opened-N-Based g a = record { base = a.begun.base; from = 0; left = λ image. Unit {0} }

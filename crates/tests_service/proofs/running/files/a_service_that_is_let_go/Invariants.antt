@@ -8,8 +8,8 @@ ghosts-not_a_library-N-Ledger g a = record { name = a.fresh.ledger; parts = 1025
 abbrev pub ghosts-not_a_library-N-Queued : goal.ghosts-not_a_library-N-Queued
 ghosts-not_a_library-N-Queued g a = record { queue = a.fresh.queue }
 
-abbrev pub ghosts-not_a_library-N-Named : goal.ghosts-not_a_library-N-Named
-ghosts-not_a_library-N-Named g a = record { base = empty; from = 0; left = λ image. Unit {0} }
+abbrev pub ghosts-not_a_library-N-Based : goal.ghosts-not_a_library-N-Based
+ghosts-not_a_library-N-Based g a = record { base = empty; from = 0; left = λ image. Unit {0} }
 
 abbrev pub ghosts-adds-N-Ledger : goal.ghosts-adds-N-Ledger
 ghosts-adds-N-Ledger g a = record { name = a.fresh.ledger; parts = 1025 }
@@ -17,8 +17,8 @@ ghosts-adds-N-Ledger g a = record { name = a.fresh.ledger; parts = 1025 }
 abbrev pub ghosts-adds-N-Queued : goal.ghosts-adds-N-Queued
 ghosts-adds-N-Queued g a = record { queue = a.fresh.queue }
 
-abbrev pub ghosts-adds-N-Named : goal.ghosts-adds-N-Named
-ghosts-adds-N-Named g a = record { base = empty; from = 0; left = λ image. Unit {0} }
+abbrev pub ghosts-adds-N-Based : goal.ghosts-adds-N-Based
+ghosts-adds-N-Based g a = record { base = empty; from = 0; left = λ image. Unit {0} }
 
 abbrev pub ghosts-finds-N-Ledger : goal.ghosts-finds-N-Ledger
 ghosts-finds-N-Ledger g a = record { name = a.fresh.ledger; parts = 1025 }
@@ -26,5 +26,5 @@ ghosts-finds-N-Ledger g a = record { name = a.fresh.ledger; parts = 1025 }
 abbrev pub ghosts-finds-N-Queued : goal.ghosts-finds-N-Queued
 ghosts-finds-N-Queued g a = record { queue = a.fresh.queue }
 
-abbrev pub ghosts-finds-N-Named : goal.ghosts-finds-N-Named
-ghosts-finds-N-Named g a = record { base = empty; from = 0; left = λ image. Unit {0} }
+abbrev pub ghosts-finds-N-Based : goal.ghosts-finds-N-Based
+ghosts-finds-N-Based g a = record { base = empty; from = 0; left = λ image. Unit {0} }

@@ -7,5 +7,5 @@ ghosts-mended-N-Ledger g a = record { name = a.begun.fresh.ledger; parts = 1025 
 abbrev pub ghosts-mended-N-Queued : goal.ghosts-mended-N-Queued
 ghosts-mended-N-Queued g a = record { queue = a.begun.fresh.queue }
 
-abbrev pub ghosts-mended-N-Named : goal.ghosts-mended-N-Named
-ghosts-mended-N-Named g a = record { base = a.begun.base; from = 0; left = λ image. Unit {0} }
+abbrev pub ghosts-mended-N-Based : goal.ghosts-mended-N-Based
+ghosts-mended-N-Based g a = record { base = a.begun.base; from = 0; left = λ image. Unit {0} }

@@ -7,5 +7,5 @@ ghosts-crowded-N-Ledger g a = record { name = a.begun.fresh.ledger; parts = 1025
 abbrev pub ghosts-crowded-N-Queued : goal.ghosts-crowded-N-Queued
 ghosts-crowded-N-Queued g a = record { queue = a.begun.fresh.queue }
 
-abbrev pub ghosts-crowded-N-Named : goal.ghosts-crowded-N-Named
-ghosts-crowded-N-Named g a = record { base = a.begun.base; from = 0; left = λ image. Unit {0} }
+abbrev pub ghosts-crowded-N-Based : goal.ghosts-crowded-N-Based
+ghosts-crowded-N-Based g a = record { base = a.begun.base; from = 0; left = λ image. Unit {0} }

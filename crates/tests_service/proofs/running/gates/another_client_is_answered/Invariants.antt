@@ -7,5 +7,5 @@ ghosts-held_by_a_client-N-Ledger g a = record { name = a.begun.fresh.ledger; par
 abbrev pub ghosts-held_by_a_client-N-Queued : goal.ghosts-held_by_a_client-N-Queued
 ghosts-held_by_a_client-N-Queued g a = record { queue = a.begun.fresh.queue }
 
-abbrev pub ghosts-held_by_a_client-N-Named : goal.ghosts-held_by_a_client-N-Named
-ghosts-held_by_a_client-N-Named g a = record { base = a.begun.base; from = 0; left = λ image. Unit {0} }
+abbrev pub ghosts-held_by_a_client-N-Based : goal.ghosts-held_by_a_client-N-Based
+ghosts-held_by_a_client-N-Based g a = record { base = a.begun.base; from = 0; left = λ image. Unit {0} }

@@ -7,5 +7,5 @@ ghosts-held_by_a_piece-N-Ledger g a = record { name = a.begun.fresh.ledger; part
 abbrev pub ghosts-held_by_a_piece-N-Queued : goal.ghosts-held_by_a_piece-N-Queued
 ghosts-held_by_a_piece-N-Queued g a = record { queue = a.begun.fresh.queue }
 
-abbrev pub ghosts-held_by_a_piece-N-Named : goal.ghosts-held_by_a_piece-N-Named
-ghosts-held_by_a_piece-N-Named g a = record { base = a.begun.base; from = 0; left = λ image. Unit {0} }
+abbrev pub ghosts-held_by_a_piece-N-Based : goal.ghosts-held_by_a_piece-N-Based
+ghosts-held_by_a_piece-N-Based g a = record { base = a.begun.base; from = 0; left = λ image. Unit {0} }

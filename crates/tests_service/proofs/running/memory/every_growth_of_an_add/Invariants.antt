@@ -7,5 +7,5 @@ ghosts-is_added-N-Ledger g a = record { name = a.begun.fresh.ledger; parts = 102
 abbrev pub ghosts-is_added-N-Queued : goal.ghosts-is_added-N-Queued
 ghosts-is_added-N-Queued g a = record { queue = a.begun.fresh.queue }
 
-abbrev pub ghosts-is_added-N-Named : goal.ghosts-is_added-N-Named
-ghosts-is_added-N-Named g a = record { base = a.begun.base; from = 0; left = λ image. Unit {0} }
+abbrev pub ghosts-is_added-N-Based : goal.ghosts-is_added-N-Based
+ghosts-is_added-N-Based g a = record { base = a.begun.base; from = 0; left = λ image. Unit {0} }

@@ -1,0 +1,13 @@
+pub mod Committing
+pub mod Disks
+pub mod Cores
+pub mod Beginning
+pub mod Rewriting
+pub mod Tying
+pub mod Sinces
+pub mod Surviving
+pub mod Putting
+pub mod Holding
+pub mod Mending
+pub mod Crossing
+pub mod Sharing

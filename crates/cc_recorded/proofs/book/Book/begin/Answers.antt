@@ -1,0 +1,24 @@
+use Rattle.std.proofs.Common.{◌≡◌, List, [], Some, None, refl, sym, ap, subst, ◌∙◌}
+use Rattle.std.specs.Prelude.{slice_get}
+use Rattle.cc_build.specs.Compiling.{compiling, Keeps}
+use Rattle.cc_recorded.specs.Book.{BookView}
+use Rattle.cc_recorded.specs.Since.{AreSince, IsSinceOpening}
+use Rattle.cc_recorded.specs.Tie.{IsTied}
+use Rattle.cc_recorded.proofs.Tying.{opening_tied}
+use Rattle.cc_recorded.proofs.Sinces.{one_more, opening_now}
+use Rattle.cc_recorded.proofs.book.Book.begin.Goals as goal
+
+pub invariant_of-result : goal.invariant_of-result
+invariant_of-result g c =
+    let D = g.D.Disk in
+    let book : BookView g.row.D.Denot = c.new-recorded.result in
+    let first : BookView g.row.D.Denot = record { base = c.args.base; library = c.args.library; history = []; failed = [] } in
+    record {
+      tied = λ h. subst (λ (b : BookView g.row.D.Denot). IsTied compiling Keeps D.seen D.may_leave b) (sym c.new-recorded.ensures)
+          (opening_tied compiling Keeps D.seen D.may_leave first refl refl c.requires.usable c.requires.same c.requires.stand (c.requires.records h) (c.requires.settled h));
+      since = λ h. subst (λ (l : List (BookView g.row.D.Denot)). AreSince D.moment D.left_since book l) (sym c.and-since.ensures)
+          (one_more D.moment D.may_leave D.left_since book c.new.result.items c.kept.ensures.replays c.kept.ensures.one (λ image left. g.met.D.Disk.only_now book.library.disk image h left) (c.kept.ensures.images h)
+          (λ k old at. let none : None ≡ Some old = sym (ap (λ (l : List (BookView g.row.D.Denot)). slice_get l k) c.new.ensures) ∙ at in absurd (cc)));
+      opened = λ h. subst (λ (b : BookView g.row.D.Denot). IsSinceOpening D.moment D.left_since g.N.Based.from g.N.Based.left b) (sym c.new-recorded.ensures)
+          (opening_now D.moment D.may_leave D.left_since first g.N.Based.from g.N.Based.left (c.requires.past h));
+    }

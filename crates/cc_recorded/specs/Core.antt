@@ -1,0 +1,140 @@
+-- How a book shows a state of the protocol core, and what a commit is on it. No such state is made at run time: a book shows every
+-- state that has its map, an order that leads to it, its phase, and a disk that reads as its disk does and leaves all that its
+-- disk may leave.
+use Rattle.std.specs.Prelude.{◌≡◌, ◌⊎◌, ℕ, Bool, true, false, IsTrue, List, [], ◌∷◌, ◌++◌, length, Option, Some, None, Result, Ok, Err}
+use Rattle.std.specs.FinMap.{empty, get}
+use Rattle.cc_disk.specs.Model.{bytes_of, IsImage}
+use Rattle.cc_journal.specs.Format.{HoldsRecords, records}
+use Rattle.cc_library.specs.declared.command.Command as made
+use Rattle.cc_library.specs.Apply.{AreAccepted, library_of}
+use Rattle.cc_library.specs.Recovered.{View}
+use Rattle.cc_core.specs.declared.command.Numbered.{Numbered}
+use Rattle.cc_core.specs.declared.command.Reply.{Reply}
+use Rattle.cc_core.specs.declared.command.Reply.TheVariants as replies
+use Rattle.cc_core.specs.declared.contents.Contents.{Contents}
+use Rattle.cc_core.specs.declared.contents.Phase.{Phase}
+use Rattle.cc_core.specs.declared.contents.Phase.TheVariants.{Idle, Failed}
+use Rattle.cc_core.specs.declared.event.Event.{Event}
+use Rattle.cc_core.specs.declared.event.Event.TheVariants as event
+use Rattle.cc_core.specs.declared.fault.Refusal.{Refusal}
+use Rattle.cc_core.specs.declared.fault.Refusal.TheVariants as refusal
+use Rattle.cc_core.specs.declared.ids.ClientId.{ClientId}
+use Rattle.cc_core.specs.declared.job.Job.{Job}
+use Rattle.cc_core.specs.Job.{all_there, command_of}
+use Rattle.cc_core.specs.Rules.{Rules}
+use Rattle.cc_core.specs.StoreState.{StoreState}
+use Rattle.cc_core.specs.Step.{Step, commands}
+use Rattle.cc_history.specs.History.{changes}
+use Rattle.cc_recorded.specs.Book.{BookView}
+use Rattle.cc_history.specs.declared.entry.Receipt.{Receipt}
+use Rattle.cc_recorded.specs.declared.fault.BookFault.{BookFault}
+use Rattle.cc_recorded.specs.declared.fault.BookFault.TheVariants.{Exists, Absent, Full, DiskFault, Closed, Estranged, OutOfMemory}
+
+-- Acknowledged are some commands that lead to the base, all that were there at the opening, and then the changes of the history, each of
+-- which was answered Ok. The order has these, and behind them the change that failed, where one did.
+pub record ShowsOrder {D : Type 0} (book : BookView D) (order acknowledged : List Numbered) : Type 0 where
+  pub earlier : List made.Command
+  pub base : library_of earlier ≡ book.base
+  pub accepted : AreAccepted empty earlier
+  pub acked : commands acknowledged ≡ earlier ++ changes book.history
+  pub failing : List Numbered
+  pub in_order : order ≡ acknowledged ++ failing
+  pub failed : commands failing ≡ book.failed
+
+-- idle; once the device has failed, failed, with the change that failed, where one did
+abbrev pub IsPhase : (closed : Bool) (failed : List made.Command) → Phase → Type 0
+IsPhase false failed phase = (failed ≡ []) × (phase ≡ Idle)
+IsPhase true [] phase = phase ≡ Failed None
+IsPhase true (change ∷ others) phase = (last : Numbered) × (last.command ≡ change) × (phase ≡ Failed (Some last))
+
+-- A store that leaves all that the disk may leave. While no device call has failed, it reads as the disk does, and its records are
+-- those of the disk, in the same area. (After that nobody reads before the disk is opened again.)
+pub record ShowsDisk {D : Type 0} (honest : Bool) (seen : D → List ℕ) (may_leave : D → List ℕ → Type 0) (view : View D) (store : StoreState) : Type 0 where
+  pub area : store.area ≡ view.area
+  pub used : view.closed ≡ false → store.used ≡ length (records view.bodies)
+  pub bytes : IsTrue honest → view.closed ≡ false → bytes_of store.cells ≡ seen view.disk
+  pub images : IsTrue honest → (image : List ℕ) → may_leave view.disk image → IsImage store.cells image
+  pub holds : IsTrue honest → view.closed ≡ false → (h : HoldsRecords (seen view.disk) view.area view.bodies) × (h.area_byte ≡ store.area_byte)
+
+module _ {D P : Type 0} (honest : Bool) (seen : D → List ℕ) (may_leave : D → List ℕ → Type 0) where
+  -- the book shows this state: live map, order, phase and disk
+  pub record Shows (book : BookView D) (s : Contents P) : Type 0 where
+    pub library : s.core.library ≡ book.library.units
+    pub order : ShowsOrder book s.core.order s.core.acknowledged
+    pub phase : IsPhase book.library.closed book.failed s.core.phase
+    pub disk : ShowsDisk honest seen may_leave book.library s.core.store
+
+module _ {P : Type 0} (rules : Rules P) where
+  -- events with their replies, one step after the other
+  abbrev pub Steps : Contents P → List (Event P × Option Reply) → Contents P → Type 0
+  Steps old [] new = new ≡ old
+  Steps old (one ∷ others) new = (mid : Contents P) × Step rules old one.0 one.1 mid × Steps mid others new
+
+  -- a commit from Begin to Ack
+  abbrev pub done_steps : ClientId → List (Event P × Option Reply)
+  done_steps client =
+      (event.Begin client, None) ∷ (event.WriteBody, None) ∷ (event.SyncBody, None) ∷ (event.WriteGate, None) ∷ (event.SyncGate, None)
+      ∷ (event.Ack client, Some replies.Done) ∷ []
+
+  -- one that is refused
+  abbrev pub refused_steps : ClientId → Refusal → List (Event P × Option Reply)
+  refused_steps client why = (event.Begin client, Some (replies.Refused why)) ∷ []
+
+  -- one whose first or second device step fails, and one whose third or fourth does
+  abbrev pub failed_first : ClientId → List (Event P × Option Reply)
+  failed_first client = (event.Begin client, None) ∷ (event.Fail, Some (replies.Refused refusal.DiskFault)) ∷ []
+
+  abbrev pub failed_last : ClientId → List (Event P × Option Reply)
+  failed_last client =
+      (event.Begin client, None) ∷ (event.WriteBody, None) ∷ (event.SyncBody, None) ∷ (event.Fail, Some (replies.Refused refusal.DiskFault)) ∷ []
+
+  -- a client has a job whose pieces are all there and give this change
+  pub record Has (s : Contents P) (client : ClientId) (c : made.Command) : Type 0 where
+    pub its : Job P
+    pub held : get s.jobs client.number ≡ Some its
+    pub there : IsTrue (all_there its.pieces)
+    pub gives : command_of rules its its.request ≡ Ok c
+
+  -- what a commit with this answer is for the client that has the job: Begin to Ack, or to a refusal or Fail. One that is refused by
+  -- 39 or 40 never begins
+  abbrev pub IsCommitOf : (Contents P → Type 0) → Contents P → ClientId → Result Receipt BookFault → Type 0
+  IsCommitOf Shown s client (Ok receipt) = (new : Contents P) × Steps s (done_steps client) new × Shown new
+  IsCommitOf Shown s client (Err (Exists receipt)) = (new : Contents P) × Steps s (refused_steps client refusal.Exists) new × Shown new
+  IsCommitOf Shown s client (Err (Absent receipt)) = (new : Contents P) × Steps s (refused_steps client refusal.Absent) new × Shown new
+  IsCommitOf Shown s client (Err Full) = (new : Contents P) × Steps s (refused_steps client refusal.Full) new × Shown new
+  IsCommitOf Shown s client (Err Closed) = (new : Contents P) × Steps s (refused_steps client refusal.Closed) new × Shown new
+  IsCommitOf Shown s client (Err DiskFault) =
+      (new : Contents P) × (Steps s (failed_first client) new ⊎ Steps s (failed_last client) new) × Shown new
+  IsCommitOf Shown s client (Err (Estranged number found)) = Shown s
+  IsCommitOf Shown s client (Err OutOfMemory) = Shown s
+
+-- what happens beside commits, rewrites, failures and crashes: a job is handed in, a piece is taken, its result comes
+abbrev pub IsBeside : {P : Type 0} → Event P → Type 0
+IsBeside (event.Submit client call request) = Unit {0}
+IsBeside (event.Take worker client part) = Unit {0}
+IsBeside (event.Done worker piece) = Unit {0}
+IsBeside (event.Refuse worker number) = Unit {0}
+IsBeside other = ⊥
+
+-- a rewrite, one whose first or second device step failed, and one whose third or fourth did
+module _ {P : Type 0} where
+  abbrev pub rewritten_steps : List (Event P × Option Reply)
+  rewritten_steps = (event.RewriteAll, None) ∷ (event.SyncAll, None) ∷ (event.WriteArea, None) ∷ (event.SyncArea, None) ∷ []
+
+  abbrev pub rewrite_failed_first : List (Event P × Option Reply)
+  rewrite_failed_first = (event.RewriteAll, None) ∷ (event.Fail, None) ∷ []
+
+  abbrev pub rewrite_failed_last : List (Event P × Option Reply)
+  rewrite_failed_last = (event.RewriteAll, None) ∷ (event.SyncAll, None) ∷ (event.Fail, None) ∷ []
+
+-- what a compaction with this answer is; one that is refused otherwise never begins
+abbrev pub IsRewriteOf : {P : Type 0} (rules : Rules P) → (Contents P → Type 0) → Contents P → Result (Unit {0}) BookFault → Type 0
+IsRewriteOf rules Shown s (Ok done) = (new : Contents _) × Steps rules s rewritten_steps new × Shown new
+IsRewriteOf rules Shown s (Err DiskFault) =
+    (new : Contents _) × (Steps rules s rewrite_failed_first new ⊎ Steps rules s rewrite_failed_last new) × Shown new
+IsRewriteOf rules Shown s (Err (Exists receipt)) = Shown s
+IsRewriteOf rules Shown s (Err (Absent receipt)) = Shown s
+IsRewriteOf rules Shown s (Err Full) = Shown s
+IsRewriteOf rules Shown s (Err Closed) = Shown s
+IsRewriteOf rules Shown s (Err (Estranged number found)) = Shown s
+IsRewriteOf rules Shown s (Err OutOfMemory) = Shown s

@@ -1,0 +1,328 @@
+// The value of a service's lock.
+ghost use Rattle.std.specs.Prelude.{◌≡◌, ◌⊎◌, ℕ, List, [], ◌∷◌, ◌++◌, true, false, IsTrue, IfErr, IfOk, MatchResult, OnOk, Some, slice_get, length, map};
+ghost use Rattle.std.specs.FinMap.{empty};
+ghost use Rattle.cc_disk.specs.Images.{LeavesAlone, OnlyReads};
+ghost use Rattle.cc_journal.specs.Format.{HoldsRecords};
+ghost use Rattle.cc_core.specs.Run.{EachUnit, IsRightOr};
+ghost use Rattle.cc_library.specs.Answers.{IsMended, OpenFaults};
+ghost use Rattle.cc_library.specs.Apply.{Units};
+ghost use Rattle.cc_library.specs.Recovered.{Recovers, RecoversAlone, StandFor};
+ghost use Rattle.cc_build.specs.Compiling.{compiling, Keeps, is_right};
+ghost use Rattle.cc_history.specs.Calls.{change_of};
+ghost use Rattle.cc_history.specs.Closing.{AreApart, ReceiptsStand};
+ghost use Rattle.cc_history.specs.History.{LastStands};
+ghost use Rattle.cc_recorded.specs.Book.{BookView};
+ghost use Rattle.cc_recorded.specs.Answers.{IsBegun, IsLook, IsNotClosed, LookAnswers};
+ghost use Rattle.cc_recorded.specs.Changed.{AllRecover, ChangesAtOnce, IsBookChanged, IsBookCompacted};
+ghost use Rattle.cc_recorded.specs.Compacting.{CompactingAnswers};
+ghost use Rattle.cc_recorded.specs.Promise.{IsGivenUp, IsSound};
+ghost use Rattle.cc_recorded.specs.Since.{HoldsFrom, IsPast};
+ghost use Rattle.cc_recorded.specs.Tie.{IsTied};
+ghost use Rattle.cc_recorded.specs.internal.Early.{IsRefusedEarly};
+
+use crate::fault::BookFault;
+use crate::member::{HasReceipts, Member};
+use crate::named::Based;
+use crate::recorded::{Ended, RecordedLibrary};
+use cc_build::{CcBuild, made_units_are_built};
+use cc_core::laws::{crash_law, turn_law, units_law};
+use cc_disk::{Disk, History};
+use cc_history::{Asked, Command, Receipt, units_agree};
+use cc_library::{Library, LibraryFault, UnitMap};
+use std::alloc::Global;
+use std::marker::Model;
+use std::sync::ledger::{self, Share};
+
+/// The value of a service's lock: the library with the history of its calls.
+///
+/// Its type keeps the tie to the crash theorem: on an honest disk some run of the protocol core, from an opened disk on, leads to a state
+/// that this book shows. It keeps too what a crash at any moment since the opening, or since any call, has left. A clause sees the
+/// book, and the books as they were: at the opening and after each call.
+pub struct Book<N: Based, D: Disk> {
+    pub(crate) recorded: RecordedLibrary<N, D>,
+    // How it was at the opening and after each call, for contracts alone.
+    pub(crate) since: History<RecordedLibrary<N, D>>,
+}
+
+// By hand, so that crates above call it and do not prove anew how each part is dropped.
+impl<N: Based, D: Disk + Drop> Drop for Book<N, D> {
+    fn drop(self) {
+        let Book { recorded, since } = self;
+    }
+}
+
+impl<N: Based, D: Disk> Model for Book<N, D> {
+    ghost use Rattle.cc_recorded.specs.contracts.recorded.RecordedLibrary as recorded;
+    ghost use Rattle.cc_recorded.specs.Since.{BookSince, since_code};
+    ghost use Rattle.cc_recorded.specs.Promise.{IsBook};
+    ghost use Rattle.cc_recorded.specs.Book.{BookView, book_code};
+    ghost use Rattle.cc_library.specs.contracts.units.UnitMap as units;
+    ghost use Rattle.cc_library.specs.contracts.command.Command as change;
+    ghost use Rattle.cc_history.specs.contracts.entry.Entry as entry;
+
+    ghost Value = { BookSince D };
+
+    ghost coded = { since_code (book_code D.code units.the_row.coded entry.the_row.coded change.the_row.coded) };
+
+    ghost view = { λ b. record { book = b.recorded; since = b.since.items } };
+
+    ghost invariant = { λ b. IsBook D.honest D.seen D.may_leave D.moment D.left_since N.from N.left (record { book = b.recorded; since = b.since.items }) };
+}
+
+impl<N: Based, D: Disk> Book<N, D> {
+    /// Opens the library on a disk, and begins a history over it: the map that was found is the base.
+    ///
+    /// Refusals, with the disk handed back: those of the library's opening, in its order, 35 where the device failed in the call, 38
+    /// where there is no right header, 37 where an open record does not fit its area or the records are no list of accepted commands.
+    /// 40 where memory ran out. No refusal changes a byte.
+    pub fn open(
+        alloc: Global,
+        disk: D,
+        calls: ledger::Book<N>,
+    ) -> Result<Book<N, D>, (LibraryFault, D)>
+        // The base that the service's parameter names, where an honest disk's bytes recover to one.
+        requires named { IsTrue D.honest → (units : Units) → Recovers (D.seen disk) units → units ≡ N.base }
+        // The moment that it names, and what a crash has left since then.
+        requires past { IsTrue D.honest → IsPast D.moment D.left_since N.from N.left disk }
+        requires counted { calls.total ≡ 0 }
+
+        // No call has been made yet, and the base is what was recovered.
+        ensures begun { IfOk result (λ b. IsBegun b.book) }
+        ensures since { IfOk result (λ b. b.since ≡ b.book ∷ []) }
+        ensures recovered { IfOk result (λ b. IsTrue D.honest → Recovers (D.seen disk) b.book.base) }
+        ensures kept { IfOk result (λ b. IsTrue D.honest → (image : List ℕ) → D.may_leave b.book.library.disk image → RecoversAlone image b.book.base) }
+        ensures records { IfOk result (λ b. IsTrue D.honest → HoldsRecords (D.seen disk) b.book.library.area b.book.library.bodies) }
+        ensures fresh { IfOk result (λ b. IsTrue D.honest → (area : ℕ) → HoldsRecords (D.seen disk) area [] → b.book.base ≡ empty) }
+
+        // When each refusal comes.
+        ensures sound { IfOk result (λ b. D.failures b.book.library.disk ≡ D.failures disk) }
+        ensures refused { IfErr result (λ e. OpenFaults D.honest (D.seen disk) (D.failures disk) (D.failures e.1) e.0) }
+
+        // The disk has the same size and the same bytes, and no crash leaves anything new.
+        ensures size { MatchResult result (λ b. D.size b.book.library.disk ≡ D.size disk) (λ e. D.size e.1 ≡ D.size disk) }
+        ensures reads { MatchResult result
+            (λ b. IsTrue D.honest → OnlyReads D.seen D.may_leave D.moment D.left_since disk b.book.library.disk)
+            (λ e. IsTrue D.honest → OnlyReads D.seen D.may_leave D.moment D.left_since disk e.1) }
+    {
+        match Library::open(alloc, disk) {
+            Ok(library) => match library.units().again() {
+                Ok(base) => Ok(Book::begin(alloc, base, library, calls)),
+                Err(_) => {
+                    drop(calls);
+                    Err((LibraryFault::OutOfMemory, library.into_disk()))
+                }
+            },
+            Err(refused) => {
+                drop(calls);
+                Err(refused)
+            }
+        }
+    }
+
+    // The book over a library that was opened, whose map is the base.
+    fn begin(
+        alloc: Global,
+        base: UnitMap,
+        library: Library<D>,
+        calls: ledger::Book<N>,
+    ) -> Book<N, D>
+        requires same { base ≡ library.units }
+        requires usable { library.closed ≡ false }
+        requires named { IsTrue D.honest → base ≡ N.base }
+        requires images { IsTrue D.honest → (image : List ℕ) → D.may_leave library.disk image → RecoversAlone image library.units }
+        requires stand { StandFor library.bodies library.units }
+        requires records { IsTrue D.honest → HoldsRecords (D.seen library.disk) library.area library.bodies }
+        requires settled { IsTrue D.honest → LeavesAlone (D.seen library.disk) (D.may_leave library.disk) }
+        requires past { IsTrue D.honest → IsPast D.moment D.left_since N.from N.left library.disk }
+        requires counted { calls.total ≡ 0 }
+        ensures book { result.book ≡ record { base = base; library = library; history = []; failed = [] } }
+        ensures since { result.since ≡ result.book ∷ [] }
+    {
+        let recorded = RecordedLibrary::new(alloc, base, library, calls);
+        recorded.kept();
+        let since = History::new().and(&recorded);
+        Book { recorded, since }
+    }
+
+    /// Makes a change, and puts the call into the history with its answer. At Ok it is kept: every crash from then on leaves it.
+    ///
+    /// Refusals, in this order: 36 where the device has failed before; 39 where the client's last receipt does not stand; 31
+    /// where the name to be added has a unit, 32 where the one to be replaced or withdrawn has none, both of them in the history
+    /// with a receipt; 34 where the record does not fit; 35 where the device failed. 40 where memory ran out, before the first
+    /// device call. After 34, 36, 39 and 40 all is as before; after 35 history and map are, and the disk has the map with or
+    /// without the change.
+    pub fn commit(
+        &mut self,
+        alloc: Global,
+        client: &mut Member<N>,
+        command: Command,
+    ) -> Result<Receipt, BookFault>
+        ensures changed { IsBookChanged D.Disk self.old.book client.old command self.new.book client.new result }
+        ensures since { self.new.since ≡ self.old.since ++ self.new.book ∷ [] }
+    {
+        self.recorded.kept();
+        command.kept();
+        made_units_are_built();
+        turn_law::<CcBuild>();
+        let result = self.recorded.commit(alloc, client, command);
+        self.recorded.kept();
+        self.since = self.since.and(&self.recorded);
+        result
+    }
+
+    /// Makes a change as `commit` does; but where 34 would refuse it, and would not behind a `compact`, that comes first. It makes no
+    /// entry in the history, and the map stays.
+    ///
+    /// Refusals as `commit` has them. 34 comes where the record does not fit behind compacted records either, without a call of the
+    /// device; and where `compact` was refused: then nothing of the change was begun, and every crash leaves the map as it was, though
+    /// the library is closed where the device failed, and answers 36 from then on.
+    pub fn commit_compacting(
+        &mut self,
+        alloc: Global,
+        client: &mut Member<N>,
+        command: Command,
+    ) -> Result<Receipt, BookFault>
+        ensures answers { CompactingAnswers D.honest D.failures D.seen D.may_leave self.old.book client.old command self.new.book client.new result }
+        // Nothing was done, or the book afterwards is the newest.
+        ensures since { (self.new ≡ self.old) ⊎ ((between : List (BookView D)) × (self.new.since ≡ self.old.since ++ (between ++ self.new.book ∷ []))) }
+
+        ensures moments { ChangesAtOnce D.Disk command self.old.book self.new.book }
+        // From then on, too: at Ok the map after it, alone.
+        ensures kept { AllRecover D.Disk self.new.book }
+    {
+        self.kept();
+        match self.is_mended_by_compact(client, &command) {
+            Ok(true) => {}
+            Ok(false) => return self.commit(alloc, client, command),
+            Err(fault) => return Err(fault),
+        }
+        match self.compact(alloc) {
+            Ok(()) => self.commit(alloc, client, command),
+            Err(_) => Err(BookFault::Full),
+        }
+    }
+
+    // Whether 34 would refuse a change of this client now, and would not behind a `compact`.
+    fn is_mended_by_compact(&self, client: &Member<N>, command: &Command) -> Result<bool, BookFault>
+        ensures mended { IfOk result (λ mended. IsTrue mended → IsMended self.now.book.library (change_of command.now)) }
+        ensures stands { IfOk result (λ mended. IsTrue mended → LastStands self.now.book.history client.now.receipts) }
+        ensures not { IfOk result (λ mended. mended ≡ false → ¬ IsMended self.now.book.library (change_of command.now)) }
+        ensures refused { IfErr result (λ fault. IsRefusedEarly self.now.book.history client.now fault) }
+        ensures idle { IfErr result (λ _. self.now.book.library.closed ≡ false) }
+    {
+        self.recorded.is_mended_by_compact(client, command)
+    }
+
+    // What its type keeps of what a crash leaves now. It does nothing.
+    fn kept(&self)
+        ensures images { AllRecover D.Disk self.now.book }
+        ensures idle { self.now.book.library.closed ≡ false → self.now.book.failed ≡ [] }
+    {
+        self.recorded.kept();
+    }
+
+    /// Looks at a name or at all names, and puts the call into the history with its answer, which is in the receipt's entry.
+    ///
+    /// 39 where the client's last receipt does not stand; 40 where memory ran out. After both all is as before. Whether the
+    /// device has failed does not matter.
+    pub fn look(
+        &mut self,
+        alloc: Global,
+        client: &mut Member<N>,
+        asked: Asked,
+    ) -> Result<Receipt, BookFault>
+        requires { IsLook asked }
+        ensures answers { LookAnswers self.old.book client.old asked self.new.book client.new result }
+        ensures since { self.new.since ≡ self.old.since ++ self.new.book ∷ [] }
+    {
+        self.recorded.kept();
+        let result = self.recorded.look(alloc, client, asked);
+        self.recorded.kept();
+        self.since = self.since.and(&self.recorded);
+        result
+    }
+
+    /// Writes the library's records anew, one Add per name. It makes no entry in the history, and the map stays, at every moment.
+    ///
+    /// Refusals, in this order: 36 where the device has failed before, 34 where the new records do not fit, 35 where the device
+    /// failed. 40 where memory ran out, before the first device call. After 34, 36 and 40 all is as before.
+    pub fn compact(&mut self, alloc: Global) -> Result<(), BookFault>
+        ensures compacted { IsBookCompacted D.Disk self.old.book self.new.book result }
+        ensures since { self.new.since ≡ self.old.since ++ self.new.book ∷ [] }
+    {
+        self.recorded.kept();
+        turn_law::<CcBuild>();
+        let result = self.recorded.compact(alloc);
+        self.recorded.kept();
+        self.since = self.since.and(&self.recorded);
+        result
+    }
+
+    /// The disk, which no call reaches any more.
+    pub fn into_disk(self) -> D
+        ensures { result ≡ self.book.library.disk }
+    {
+        let Book { recorded, since } = self;
+        drop(since);
+        recorded.into_disk()
+    }
+
+    /// That it can be ended with these clients, as many as were made.
+    ///
+    /// 39 for the first receipt that does not stand; 39 with the history's length and no entry where these are not all the clients that
+    /// were made; 40 where memory ran out.
+    pub fn ready<C: HasReceipts>(&self, made: u64, clients: &[C]) -> Result<(), BookFault>
+        ensures many { OnOk result (length clients.now ≡ made) }
+        ensures apart { OnOk result (AreApart (map C.holder clients.now)) }
+        ensures stand { OnOk result (ReceiptsStand self.now.book.history (map C.holder clients.now)) }
+        ensures err { IfErr result (λ f. IsNotClosed self.now.book.history made (map C.holder clients.now) f) }
+    {
+        self.recorded.ready(made, clients)
+    }
+
+    /// Ends it, with a share that is the whole ledger: what that share counts is then all of the history.
+    pub fn end(self, whole: Share<N>) -> Ended<D>
+        requires parts { whole.parts ≡ N.parts }
+        ensures sound { IsSound D.honest D.may_leave D.left_since N.base N.from N.left (record { base = result.base; library = result.library; history = result.history.items; failed = result.failed.items }) }
+        ensures counted { length result.history.items ≡ whole.amount }
+        // It is the book's library, with what was known of it.
+        ensures of_book { ◌≡◌ {A = BookView D} (record { base = result.base; library = result.library; history = result.history.items; failed = result.failed.items }) self.book }
+    {
+        self.survives();
+        let Book { recorded, since } = self;
+        drop(since);
+        recorded.end(whole)
+    }
+
+    /// The disk, and whether these are all clients of its history. It takes no memory.
+    pub fn give_up<C: HasReceipts>(self, clients: &[C]) -> (D, bool)
+        ensures { IsGivenUp D.honest D.may_leave D.left_since N.base N.from N.left (map C.holder clients.now) result.1 result.0 }
+    {
+        self.survives();
+        let are_all = self.recorded.is_whole(clients);
+        (self.into_disk(), are_all)
+    }
+
+    /// What is known of a book at any time, whatever order the calls of all threads took the lock in: a law, which does nothing.
+    pub fn survives(&self)
+        // Some run of the core leads from an opened disk to a state that the book shows.
+        ensures reached { IsTrue D.honest → IsTied compiling Keeps D.seen D.may_leave self.now.book }
+
+        // The history is legal, the map is the base with its changes; what a crash leaves now holds each acknowledged command, what it has
+        // left since the opening a prefix of the calls, and the units in it are right.
+        ensures sound { IsSound D.honest D.may_leave D.left_since N.base N.from N.left self.now.book }
+
+        // Whatever a crash has left since the end of the opening, or since any call, holds all calls until then.
+        ensures since { IsTrue D.honest → (k : ℕ) (then' : BookView D) → slice_get self.now.since k ≡ Some then' → (image : List ℕ)
+            → D.left_since self.now.book.library.disk (D.moment then'.library.disk) image → HoldsFrom self.now.book (length then'.history) image }
+
+        // Each unit of what is recovered so is one that was found at the opening, or its image agrees with its source.
+        ensures units { (entries : ℕ) (image : List ℕ) (library : Units) → HoldsFrom self.now.book entries image → Recovers image library
+            → EachUnit (IsRightOr is_right self.now.book.base) library }
+    {
+        self.recorded.kept();
+        units_agree();
+        units_law::<CcBuild>();
+        crash_law::<CcBuild>();
+    }
+}

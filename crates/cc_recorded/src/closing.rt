@@ -1,0 +1,114 @@
+// Whether a library with its history can be ended with its clients.
+ghost use Rattle.std.specs.Prelude.{◌≡◌, ℕ, ◌↔◌, false, IsTrue, IfErr, OnErr, OnOk, length, map};
+ghost use Rattle.cc_history.specs.Closing.{AreApart, AreOwn, IsClosed, IsNotWhole, ReceiptsStand, SomeoneAstray, receipts_of};
+ghost use Rattle.cc_recorded.specs.Answers.{IsNotClosed};
+ghost use Rattle.cc_recorded.specs.internal.Apart.{HaveOwnNumbers};
+
+use crate::fault::BookFault;
+use crate::member::HasReceipts;
+use crate::named::Based;
+use crate::recorded::RecordedLibrary;
+use cc_disk::Disk;
+use cc_history::{SharedEntry, all_stand, receipts_count_up};
+
+// Whether no two clients have one number.
+fn are_apart<C: HasReceipts>(clients: &[C]) -> bool
+    ensures { IsTrue result ↔ HaveOwnNumbers C.holder clients.now }
+{
+    for i in 0..clients.len() {
+        for j in 0..i {
+            if clients[i].number() == clients[j].number() {
+                return false;
+            }
+        }
+    }
+    true
+}
+
+// That all receipts of all these clients stand.
+fn stand_in<C: HasReceipts>(history: &[SharedEntry], clients: &[C]) -> Result<(), BookFault>
+    ensures stand { OnOk result (ReceiptsStand history.now (map C.holder clients.now)) }
+    ensures err { IfErr result (λ f. (made : ℕ) → IsNotClosed history.now made (map C.holder clients.now) f) }
+    ensures astray { OnErr result (SomeoneAstray history.now (map C.holder clients.now)) }
+{
+    for client in clients {
+        match all_stand(history, client.receipts()) {
+            Ok(()) => {}
+            Err(fault) => return Err(BookFault::from(fault)),
+        }
+    }
+    Ok(())
+}
+
+// How many receipts all these clients have.
+fn count_receipts<C: HasReceipts>(clients: &[C]) -> u128
+    ensures count { result ≡ receipts_of (map C.holder clients.now) }
+    // The receipts of each are of its own calls.
+    ensures own { AreOwn (map C.holder clients.now) }
+{
+    let mut count = 0;
+    for client in clients {
+        count += client.receipts().len() as u128;
+    }
+    count
+}
+
+impl<N: Based, D: Disk> RecordedLibrary<N, D> {
+    // That all receipts of all these clients stand.
+    fn stands<C: HasReceipts>(&self, clients: &[C]) -> Result<(), BookFault>
+        ensures stand { OnOk result (ReceiptsStand self.now.history (map C.holder clients.now)) }
+        ensures err { IfErr result (λ f. (made : ℕ) → IsNotClosed self.now.history made (map C.holder clients.now) f) }
+        ensures astray { OnErr result (SomeoneAstray self.now.history (map C.holder clients.now)) }
+    {
+        stand_in(self.history.as_slice(), clients)
+    }
+
+    // How many entries its history has.
+    fn entries(&self) -> u64
+        ensures { result ≡ length self.now.history }
+    {
+        self.history.len() as u64
+    }
+
+    // That it can be ended with these clients, as many as were made: these are all, and their receipts stand.
+    pub(crate) fn ready<C: HasReceipts>(&self, made: u64, clients: &[C]) -> Result<(), BookFault>
+        ensures many { OnOk result (length clients.now ≡ made) }
+        ensures apart { OnOk result (AreApart (map C.holder clients.now)) }
+        ensures stand { OnOk result (ReceiptsStand self.now.history (map C.holder clients.now)) }
+        ensures err { IfErr result (λ f. IsNotClosed self.now.history made (map C.holder clients.now) f) }
+    {
+        match self.stands(clients) {
+            Ok(()) => {}
+            Err(fault) => return Err(fault),
+        }
+        if clients.len() as u64 != made || !are_apart(clients) {
+            return Err(BookFault::Estranged {
+                number: self.entries(),
+                found: None,
+            });
+        }
+        Ok(())
+    }
+
+    // Whether these are all clients of its history: all their receipts stand, no two have one number, and the receipts are as many as the
+    // entries.
+    pub(crate) fn is_whole<C: HasReceipts>(&self, clients: &[C]) -> bool
+        ensures own { AreOwn (map C.holder clients.now) }
+        ensures closed { IsTrue result → IsClosed self.now.history (map C.holder clients.now) }
+        ensures why { result ≡ false → IsNotWhole self.now.history (map C.holder clients.now) }
+    {
+        receipts_count_up();
+        let receipts = count_receipts(clients);
+        match self.stands(clients) {
+            Ok(()) => {}
+            Err(fault) => {
+                drop(fault);
+                return false;
+            }
+        }
+        if !are_apart(clients) {
+            return false;
+        }
+        receipts == u128::from(self.entries())
+    }
+}

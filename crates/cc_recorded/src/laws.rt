@@ -1,0 +1,56 @@
+// What a commit is on the state of the protocol core that a book shows.
+ghost use Rattle.std.specs.Prelude.{◌≡◌, [], false, true, IsTrue, Option, Result};
+ghost use Rattle.cc_disk.specs.Images.{LeavesAlone};
+ghost use Rattle.cc_journal.specs.Format.{HoldsRecords};
+ghost use Rattle.cc_library.specs.Recovered.{StandFor};
+ghost use Rattle.cc_core.specs.Run.{IsOpened};
+ghost use Rattle.cc_core.specs.declared.contents.Contents.{Contents};
+ghost use Rattle.cc_core.specs.declared.ids.ClientId.{ClientId};
+ghost use Rattle.cc_history.specs.declared.command.Command.{Command};
+ghost use Rattle.cc_history.specs.declared.entry.Receipt.{Receipt};
+ghost use Rattle.cc_history.specs.Calls.{change_of};
+ghost use Rattle.cc_history.specs.History.{Holder};
+ghost use Rattle.cc_recorded.specs.declared.fault.BookFault.{BookFault};
+ghost use Rattle.cc_recorded.specs.Book.{BookView};
+ghost use Rattle.cc_recorded.specs.Answers.{CommitAnswers, CompactAnswers};
+ghost use Rattle.cc_recorded.specs.Disk.{ChangesDisk, CompactsDisk};
+ghost use Rattle.cc_recorded.specs.Core.{Has, IsBeside, IsCommitOf, IsRewriteOf, Shows};
+ghost use Rattle.cc_core.specs.Step.{Step};
+ghost use Rattle.cc_core.specs.declared.event.Event.{Event};
+ghost use Rattle.cc_core.specs.declared.command.Reply.{Reply};
+
+use cc_core::build::Build;
+use cc_disk::Disk;
+
+/// Whatever state of the core a book shows: a commit with its answer is, for a client that has a job with that command, Begin to
+/// Ack, or to a refusal or Fail; and the book afterwards shows the state that is reached.
+pub fn commits_are_steps<D: Disk, B: Build>()
+    ensures { (before after : BookView D) (old new : Holder) (command : Command) (result : Result Receipt BookFault) (s : Contents B.Piece) (client : ClientId)
+        → CommitAnswers D.failures before old command after new result
+        → (IsTrue D.honest → ChangesDisk D.seen D.may_leave (change_of command) before.library after.library result)
+        → Shows D.honest D.seen D.may_leave before s → Has B.rules s client (change_of command)
+        → IsCommitOf B.rules (Shows D.honest D.seen D.may_leave after) s client result }
+{}
+
+/// A book over a library that was opened on an honest disk shows a state of the core, which is a beginning of it: so what the core's
+/// runs keep holds of every state that is shown later.
+pub fn opened_books_begin<D: Disk, B: Build>()
+    ensures { (book : BookView D) → book.history ≡ [] → book.failed ≡ [] → book.library.closed ≡ false → book.base ≡ book.library.units
+        → StandFor book.library.bodies book.library.units → HoldsRecords (D.seen book.library.disk) book.library.area book.library.bodies
+        → LeavesAlone (D.seen book.library.disk) (D.may_leave book.library.disk)
+        → (s : Contents B.Piece) × Shows true D.seen D.may_leave book s × IsOpened s }
+{}
+
+/// Handing in a job, taking a piece and its result change nothing that a book shows.
+pub fn jobs_are_beside<D: Disk, B: Build>()
+    ensures { (book : BookView D) (old new : Contents B.Piece) (event : Event B.Piece) (reply : Option Reply)
+        → IsBeside event → Step B.rules old event reply new → Shows D.honest D.seen D.may_leave book old → Shows D.honest D.seen D.may_leave book new }
+{}
+
+/// The same of a compaction: a rewrite's four device steps, or those up to the failure.
+pub fn compactions_are_rewrites<D: Disk, B: Build>()
+    ensures { (before after : BookView D) (result : Result (Unit {0}) BookFault) (s : Contents B.Piece)
+        → CompactAnswers D.failures before after result
+        → (IsTrue D.honest → CompactsDisk D.seen D.may_leave before.library after.library result)
+        → Shows D.honest D.seen D.may_leave before s → IsRewriteOf B.rules (Shows D.honest D.seen D.may_leave after) s result }
+{}

@@ -1,0 +1,99 @@
+// Who calls, as the book knows it.
+ghost use Rattle.std.specs.Prelude.{◌≡◌, ◌+◌, [], length};
+ghost use Rattle.cc_history.specs.History.{IsOwn};
+
+use crate::named::Based;
+use cc_history::Receipt;
+use std::alloc::Global;
+use std::marker::Model;
+use std::sync::ledger::Share;
+
+/// Whoever has a number, and the receipts of its calls: a member, or what holds one.
+pub trait HasReceipts {
+    ghost use Rattle.cc_history.specs.History.{Holder};
+
+    /// Its number with its receipts.
+    ghost holder: { Self → Holder };
+
+    /// Its number.
+    fn number(&self) -> u64
+        ensures { result ≡ (holder self.now).number };
+
+    /// The receipts so far, which are of its own calls, in their order. It takes no memory.
+    fn receipts(&self) -> &[Receipt]
+        ensures answer { result.now ≡ (holder self.now).receipts }
+        ensures own { IsOwn (holder self.now) };
+}
+
+/// What the book knows of a client: its number, the receipts of its calls, and its share of the ledger, which counts them. A clause
+/// sees its number and its receipts.
+pub struct Member<N: Based> {
+    pub(crate) number: u64,
+    pub(crate) receipts: Vec<Receipt>,
+    pub(crate) share: Share<N>,
+}
+
+// By hand, so that crates above call it and do not prove anew how each part is dropped.
+impl<N: Based> Drop for Member<N> {
+    fn drop(self) {
+        let Member {
+            number: _,
+            receipts,
+            share,
+        } = self;
+    }
+}
+
+impl<N: Based> Model for Member<N> {
+    ghost use Rattle.cc_history.specs.History.{Holder};
+    ghost use Rattle.cc_recorded.specs.Client.{IsClient};
+
+    ghost Value = { Holder };
+
+    ghost view = { λ c. record { number = c.number; receipts = c.receipts.items } };
+
+    ghost invariant = { λ c. IsClient (record { number = c.number; receipts = c.receipts.items }) c.share.parts c.share.amount };
+}
+
+impl<N: Based> Member<N> {
+    /// A member that has made no call, with one part of the ledger.
+    pub fn new(alloc: Global, number: u64, share: Share<N>) -> Member<N>
+        requires part { share.parts ≡ 1 }
+        requires none { share.amount ≡ 0 }
+        ensures { result ≡ record { number = number; receipts = [] } }
+    {
+        Member {
+            number,
+            receipts: Vec::new(alloc),
+            share,
+        }
+    }
+
+    /// Puts its share to the rest of the ledger, and hands out its receipts.
+    pub fn leave(self, rest: &mut Share<N>) -> Vec<Receipt>
+        ensures receipts { result.items ≡ self.receipts }
+        ensures parts { rest.new.parts ≡ rest.old.parts + 1 }
+        ensures amount { rest.new.amount ≡ rest.old.amount + length self.receipts }
+        ensures own { IsOwn self }
+    {
+        let Member {
+            number: _,
+            receipts,
+            share,
+        } = self;
+        rest.merge(share);
+        receipts
+    }
+}
+
+impl<N: Based> HasReceipts for Member<N> {
+    ghost holder = { λ m. m };
+
+    fn number(&self) -> u64 {
+        self.number
+    }
+
+    fn receipts(&self) -> &[Receipt] {
+        self.receipts.as_slice()
+    }
+}

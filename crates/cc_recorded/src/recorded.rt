@@ -1,0 +1,347 @@
+// The library with the history of its calls.
+ghost use Rattle.std.specs.Prelude.{◌≡◌, ◌≤◌, ℕ, List, [], false, IsTrue, IfErr, IfOk, length};
+ghost use Rattle.cc_library.specs.Answers.{IsMended};
+ghost use Rattle.cc_library.specs.Apply.{apply};
+ghost use Rattle.cc_library.specs.Recovered.{RecoversAlone};
+ghost use Rattle.cc_history.specs.Calls.{change_of, reply_of, reply_of_change};
+ghost use Rattle.cc_history.specs.History.{HaveAgreed, LastStands, Replays};
+ghost use Rattle.cc_recorded.specs.Book.{AllAgreed, BookView, chronicle_of};
+ghost use Rattle.cc_recorded.specs.Answers.{IsLook, LookAnswers};
+ghost use Rattle.cc_recorded.specs.Changed.{AllRecover, IsBookChanged, IsBookCompacted};
+ghost use Rattle.cc_recorded.specs.internal.Decide.{answer_reply};
+ghost use Rattle.cc_recorded.specs.internal.Early.{IsRefusedEarly};
+
+use crate::entering::{enter, prepare};
+use crate::fault::BookFault;
+use crate::member::Member;
+use crate::named::Based;
+use cc_disk::{Disk, History};
+use cc_history::{
+    Asked, Command, Entry, NameList, Receipt, Reply, SharedEntry, calls_are_recorded, last_stands,
+};
+use cc_library::{Command as Change, Library, LibraryFault, SharedUnit, UnitMap};
+use std::alloc::{AllocError, Global};
+use std::marker::Model;
+use std::sync::Arc;
+use std::sync::ledger::{self, Share};
+
+/// What lies under a service's lock: the library, and the history of the calls. A clause sees the map that the service began
+/// with, the library, the history, and the change in whose call the device failed, where one did.
+#[derive(Drop)]
+pub struct RecordedLibrary<N: Based, D: Disk> {
+    pub(crate) base: UnitMap,
+    pub(crate) library: Library<D>,
+    pub(crate) history: Vec<SharedEntry>,
+    pub(crate) calls: ledger::Book<N>,
+    // For contracts alone.
+    pub(crate) failed: History<Change>,
+}
+
+impl<N: Based, D: Disk> Model for RecordedLibrary<N, D> {
+    ghost use Rattle.std.specs.Coded.{codes};
+    ghost use Rattle.cc_library.specs.contracts.units.UnitMap as units;
+    ghost use Rattle.cc_library.specs.contracts.command.Command as change;
+    ghost use Rattle.cc_history.specs.contracts.entry.Entry as entry;
+    ghost use Rattle.cc_recorded.specs.Book.{BookView, IsRecordedLibrary, book_code};
+
+    ghost Value = { BookView D };
+
+    ghost coded = { book_code D.code units.the_row.coded entry.the_row.coded change.the_row.coded };
+
+    ghost view = { λ b. record { base = b.base; library = b.library; history = b.history.items; failed = b.failed.items } };
+
+    ghost invariant = { λ b. IsRecordedLibrary D.honest D.may_leave N.base b.calls.total (record { base = b.base; library = b.library; history = b.history.items; failed = b.failed.items }) };
+}
+
+/// What is left of a library with its history: the map that it began with, the library, and the history.
+#[derive(Drop)]
+pub struct Ended<D: Disk> {
+    pub base: UnitMap,
+    pub library: Library<D>,
+    pub history: Vec<SharedEntry>,
+    /// The change in whose call the device failed, where one did. For contracts alone.
+    pub failed: History<Change>,
+}
+
+impl<N: Based, D: Disk> RecordedLibrary<N, D> {
+    /// The book of a service that begins: over a library that was opened, whose map is the base.
+    pub(crate) fn new(
+        alloc: Global,
+        base: UnitMap,
+        library: Library<D>,
+        calls: ledger::Book<N>,
+    ) -> RecordedLibrary<N, D>
+        requires same { base ≡ library.units }
+        requires usable { library.closed ≡ false }
+        requires named { IsTrue D.honest → base ≡ N.base }
+        requires images { IsTrue D.honest → (image : List ℕ) → D.may_leave library.disk image → RecoversAlone image library.units }
+        requires counted { calls.total ≡ 0 }
+        ensures { result ≡ record { base = base; library = library; history = []; failed = [] } }
+    {
+        RecordedLibrary {
+            base,
+            library,
+            history: Vec::new(alloc),
+            calls,
+            failed: History::new(),
+        }
+    }
+
+    pub(crate) fn into_disk(self) -> D
+        ensures { result ≡ self.library.disk }
+    {
+        let RecordedLibrary { library, .. } = self;
+        library.into_disk()
+    }
+
+    /// What its type keeps. It does nothing.
+    pub(crate) fn kept(&self)
+        ensures base { IsTrue D.honest → self.now.base ≡ N.base }
+        ensures replays { Replays (chronicle_of self.now) }
+        ensures idle { self.now.library.closed ≡ false → self.now.failed ≡ [] }
+        ensures one { length self.now.failed ≤ 1 }
+        ensures agreed { HaveAgreed self.now.history }
+        ensures agreed_failed { AllAgreed self.now.failed }
+        ensures images { AllRecover D.Disk self.now }
+    {
+        let _ = &self.base;
+    }
+
+    /// Makes a change, and puts the call into the history with its answer. At Ok it is kept: every crash from then on leaves it.
+    ///
+    /// Refusals, in this order: 36 where the device has failed before; 39 where the client's last receipt does not stand; 31
+    /// where the name to be added has a unit, 32 where the one to be replaced or withdrawn has none, both of them in the history
+    /// with a receipt; 34 where the record does not fit; 35 where the device failed. 40 where memory ran out, before the first
+    /// device call. After 34, 36, 39 and 40 all is as before; after 35 history and map are, and the disk has the map with or
+    /// without the change.
+    pub fn commit(
+        &mut self,
+        alloc: Global,
+        client: &mut Member<N>,
+        command: Command,
+    ) -> Result<Receipt, BookFault>
+        ensures changed { IsBookChanged D.Disk self.old client.old command self.new client.new result }
+    {
+        calls_are_recorded();
+        let RecordedLibrary {
+            library,
+            history,
+            calls,
+            failed,
+            ..
+        } = self;
+        let Member {
+            number,
+            receipts,
+            share,
+        } = client;
+        if library.is_closed() {
+            return Err(BookFault::Closed);
+        }
+        match last_stands(history.as_slice(), receipts.as_slice()) {
+            Ok(()) => {}
+            Err(fault) => return Err(BookFault::from(fault)),
+        }
+        let answer = decide(library, &command);
+        let Ok(change) = command.change() else {
+            return Err(BookFault::OutOfMemory);
+        };
+        let entry = Entry {
+            client: *number,
+            call: receipts.len() as u64 + 1,
+            asked: Asked::Change(command),
+            reply: answer.reply(),
+        };
+        let Ok(owners) = prepare(alloc, history, receipts, entry) else {
+            return Err(BookFault::OutOfMemory);
+        };
+        match answer {
+            Answer::Exists => Err(BookFault::Exists(enter(
+                history, calls, receipts, share, owners,
+            ))),
+            Answer::Absent => Err(BookFault::Absent(enter(
+                history, calls, receipts, share, owners,
+            ))),
+            Answer::Done => {
+                let failing = failed.and(&change);
+                match library.change(alloc, change) {
+                    Ok(()) => Ok(enter(history, calls, receipts, share, owners)),
+                    Err(LibraryFault::DiskFault) => {
+                        *failed = failing;
+                        Err(BookFault::DiskFault)
+                    }
+                    Err(LibraryFault::Full) => Err(BookFault::Full),
+                    Err(_) => Err(BookFault::OutOfMemory),
+                }
+            }
+        }
+    }
+
+    /// Whether 34 would refuse the change now, and would not behind a compaction.
+    ///
+    /// 39 where the client's last receipt does not stand; 40 where memory ran out.
+    pub(crate) fn is_mended_by_compact(
+        &self,
+        client: &Member<N>,
+        command: &Command,
+    ) -> Result<bool, BookFault>
+        ensures mended { IfOk result (λ mended. IsTrue mended → IsMended self.now.library (change_of command.now)) }
+        ensures stands { IfOk result (λ mended. IsTrue mended → LastStands self.now.history client.now.receipts) }
+        ensures not { IfOk result (λ mended. mended ≡ false → ¬ IsMended self.now.library (change_of command.now)) }
+        ensures refused { IfErr result (λ fault. IsRefusedEarly self.now.history client.now fault) }
+        ensures idle { IfErr result (λ _. self.now.library.closed ≡ false) }
+    {
+        if self.library.is_closed() {
+            return Ok(false);
+        }
+        let Ok(change) = command.change() else {
+            return Err(BookFault::OutOfMemory);
+        };
+        // The library is asked first: receipts are compared by their units.
+        if !self.library.is_mended_by_compact(&change) {
+            return Ok(false);
+        }
+        match last_stands(self.history.as_slice(), client.receipts.as_slice()) {
+            Ok(()) => Ok(true),
+            Err(fault) => Err(BookFault::from(fault)),
+        }
+    }
+
+    /// Looks at a name or at all names, and puts the call into the history with its answer, which is in the receipt's entry.
+    ///
+    /// 39 where the client's last receipt does not stand; 40 where memory ran out. After both all is as before. Whether the
+    /// device has failed does not matter.
+    pub fn look(
+        &mut self,
+        alloc: Global,
+        client: &mut Member<N>,
+        asked: Asked,
+    ) -> Result<Receipt, BookFault>
+        requires { IsLook asked }
+        ensures { LookAnswers self.old client.old asked self.new client.new result }
+    {
+        calls_are_recorded();
+        let RecordedLibrary {
+            library,
+            history,
+            calls,
+            ..
+        } = self;
+        let Member {
+            number,
+            receipts,
+            share,
+        } = client;
+        match last_stands(history.as_slice(), receipts.as_slice()) {
+            Ok(()) => {}
+            Err(fault) => return Err(BookFault::from(fault)),
+        }
+        let Ok(reply) = looked(alloc, library, &asked) else {
+            return Err(BookFault::OutOfMemory);
+        };
+        let entry = Entry {
+            client: *number,
+            call: receipts.len() as u64 + 1,
+            asked,
+            reply,
+        };
+        let Ok(owners) = prepare(alloc, history, receipts, entry) else {
+            return Err(BookFault::OutOfMemory);
+        };
+        Ok(enter(history, calls, receipts, share, owners))
+    }
+
+    /// Writes the library's records anew, one Add per name. It makes no entry in the history, and the map stays, at every moment.
+    ///
+    /// Refusals, in this order: 36 where the device has failed before, 34 where the new records do not fit, 35 where the device
+    /// failed. 40 where memory ran out, before the first device call. After 34, 36 and 40 all is as before.
+    pub fn compact(&mut self, alloc: Global) -> Result<(), BookFault>
+        ensures compacted { IsBookCompacted D.Disk self.old self.new result }
+    {
+        match self.library.compact(alloc) {
+            Ok(()) => {}
+            Err(LibraryFault::DiskFault) => return Err(BookFault::DiskFault),
+            Err(LibraryFault::Closed) => return Err(BookFault::Closed),
+            Err(LibraryFault::Full) => return Err(BookFault::Full),
+            Err(_) => return Err(BookFault::OutOfMemory),
+        }
+        Ok(())
+    }
+
+    /// Ends it, with a share that is the whole ledger: what that share counts is then all of the history.
+    pub(crate) fn end(self, mut whole: Share<N>) -> Ended<D>
+        requires parts { whole.parts ≡ N.parts }
+        ensures counted { length result.history.items ≡ whole.amount }
+        // It is the book's library, with what was known of it.
+        ensures of_book { ◌≡◌ {A = BookView D} (record { base = result.base; library = result.library; history = result.history.items; failed = result.failed.items }) self }
+    {
+        let RecordedLibrary {
+            base,
+            library,
+            history,
+            mut calls,
+            failed,
+        } = self;
+        calls.audit(&mut whole);
+        Ended {
+            base,
+            library,
+            history,
+            failed,
+        }
+    }
+}
+
+// The reply to a look.
+fn looked<D: Disk>(alloc: Global, library: &Library<D>, asked: &Asked) -> Result<Reply, AllocError>
+    requires { IsLook asked.now }
+    ensures { IfOk result (λ reply. reply ≡ reply_of library.now.units asked.now) }
+{
+    match asked {
+        // It is none.
+        Asked::Change(_) => Err(AllocError),
+        Asked::Fetch(name) => match library.get(name) {
+            Some(unit) => Ok(Reply::Unit(SharedUnit::new(Arc::try_clone(unit)?))),
+            None => Ok(Reply::Absent),
+        },
+        Asked::Names => Ok(Reply::Names(NameList::new(library.list(alloc)?))),
+    }
+}
+
+// The answer to a change.
+#[derive(Clone, Copy)]
+pub(crate) enum Answer {
+    Done,
+    Exists,
+    Absent,
+}
+
+impl Answer {
+    fn reply(self) -> Reply
+        ensures { result ≡ answer_reply self }
+    {
+        match self {
+            Answer::Done => Reply::Done,
+            Answer::Exists => Reply::Exists,
+            Answer::Absent => Reply::Absent,
+        }
+    }
+}
+
+// The answer to a change on a library that is not closed.
+fn decide<D: Disk>(library: &Library<D>, command: &Command) -> Answer
+    ensures { answer_reply result ≡ reply_of_change (apply library.now.units (change_of command.now)) }
+{
+    match command {
+        Command::Add(name, _) => if library.get(name).is_some() {
+            Answer::Exists
+        } else {
+            Answer::Done
+        },
+        Command::Replace(name, _) | Command::Withdraw(name) => if library.get(name).is_some() {
+            Answer::Done
+        } else {
+            Answer::Absent
+        },
+    }
+}

@@ -1,5 +1,0 @@
-use Rattle.cc_service.proofs.Beginning.{begins}
-use Rattle.cc_service.proofs.laws.opened_books_begin.Goals as goal
-
-pub returns : goal.returns
-returns g c = begins g.D.Disk.seen g.D.Disk.may_leave

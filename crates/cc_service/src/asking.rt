@@ -1,0 +1,50 @@
+// What a client asks of a book.
+ghost use Rattle.std.specs.Prelude.{◌≡◌, IfErr, IfOk};
+ghost use Rattle.cc_history.specs.declared.reply.Reply.TheVariants as reply;
+ghost use Rattle.cc_recorded.specs.Answers.{IsLook, LookAnswers};
+ghost use Rattle.cc_service.specs.Serving.{IsEntered, IsTurnedDown};
+
+use crate::client::Client;
+use crate::named::Named;
+use cc_disk::Disk;
+use cc_history::{Asked, Command, Receipt};
+use cc_recorded::{Book, BookFault};
+use std::alloc::Global;
+
+impl<N: Named> Client<N> {
+    /// Makes a change of the book: `commit_compacting` of it where the client's changes compact, else `commit`.
+    #[tactic(auto, using(crate::proofs::Answering::entered_where_ok, crate::proofs::Answering::turned_down_where_err, crate::proofs::Mending::compacting_entered, crate::proofs::Mending::compacting_turned_down))]
+    pub fn change<D: Disk>(
+        &mut self,
+        alloc: Global,
+        book: &mut Book<N, D>,
+        command: Command,
+    ) -> Result<Receipt, BookFault>
+        ensures ok { IfOk result (λ receipt. IsEntered (λ c. c ≡ command) self.old.holder reply.Done self.new.holder receipt) }
+        ensures err { IfErr result (λ fault. IsTurnedDown (λ c. c ≡ command) self.old.holder self.new.holder fault) }
+        ensures sent { self.new.sent ≡ self.old.sent }
+    {
+        let Client {
+            member, compacts, ..
+        } = self;
+        if *compacts {
+            book.commit_compacting(alloc, member, command)
+        } else {
+            book.commit(alloc, member, command)
+        }
+    }
+
+    /// Looks at a name or at all names of the book.
+    pub fn look<D: Disk>(
+        &mut self,
+        alloc: Global,
+        book: &mut Book<N, D>,
+        asked: Asked,
+    ) -> Result<Receipt, BookFault>
+        requires { IsLook asked }
+        ensures answers { LookAnswers book.old.book self.old.holder asked book.new.book self.new.holder result }
+        ensures sent { self.new.sent ≡ self.old.sent }
+    {
+        book.look(alloc, &mut self.member, asked)
+    }
+}
