@@ -5,19 +5,24 @@ use Rattle.std.proofs.Math.Nat.{ℕ_set}
 use Rattle.std.proofs.lemmas.List.{length-map}
 use Rattle.cc_tokens.specs.declared.fault.SyntaxFault.{SyntaxFault}
 use Rattle.cc_tokens.specs.declared.fault.SyntaxFault.TheVariants as syntax
+use Rattle.cc_tokens.specs.Fault.{fault_number as syntax_number}
 use Rattle.cc_ast.specs.Tree.{Name, Source}
-use Rattle.cc_ast.specs.Parse.{SpellsText, IsParseRefusal}
+use Rattle.cc_ast.specs.Parse.{IsParseRefusal}
 use Rattle.cc_syntax.proofs.Determined.{answers_are_one}
 use Rattle.cc_typing.specs.declared.fault.TypeFault.{TypeFault}
 use Rattle.cc_typing.specs.declared.fault.TypeFault.TheVariants as typing
+use Rattle.cc_typing.specs.Fault.{fault_number as type_number}
 use Rattle.cc_typing.specs.Limits.{past, function_names, externals_excesses, word_excesses, objects}
-use Rattle.cc_typing.specs.Typed.{IsTyped, IsWithinLimits, IsTypeRefusal, defined_names}
+use Rattle.cc_typing.specs.Typed.{IsWithinLimits, defined_names}
 use Rattle.cc_typing.specs.Verdict.{Verdict, NoTree, NotTyped, Program, IsVerdict}
 use Rattle.cc_typing.proofs.Determined.{verdicts_are_one}
 use Rattle.cc_typing.proofs.Verdict.{both_empty}
+use Rattle.cc_link.specs.Text.{IsProgramText, IsRefusedTree, IsTextRefusal, text_fault_number}
+use Rattle.cc_link.specs.declared.text.TextFault.{TextFault}
+use Rattle.cc_link.specs.declared.text.TextFault.TheVariants as link
 use Rattle.cc_core.specs.Fault.{RefusesPlan}
 use Rattle.cc_build.specs.Plan.{pieces_of, IsPlan, IsPlanBy}
-use Rattle.cc_build.specs.internal.Refusals.{of_syntax, of_typing}
+use Rattle.cc_build.specs.internal.Refusals.{refused_by}
 
 -- a text's verdict comes to its plan, and to no other
 planned : (text : List ℕ) (v : Verdict) → IsVerdict text v → IsPlan text (pieces_of v)
@@ -38,7 +43,7 @@ one_plan text a b p q =
     known a b (∥∥₁_map₂ p q (λ (f : IsPlanBy text a) (g : IsPlanBy text b).
     f.plan_is ∙ ap pieces_of (verdicts_are_one answers_are_one text f.verdict g.verdict f.is g.is) ∙ sym g.plan_is))
 
-pub text_refused : (text : List ℕ) (fault : SyntaxFault) → IsParseRefusal text fault → RefusesPlan (of_syntax fault) (IsPlan text)
+text_refused : (text : List ℕ) (fault : SyntaxFault) → IsParseRefusal text fault → RefusesPlan (refused_by (syntax_number fault)) (IsPlan text)
 text_refused text (syntax.BadByte p) h = planned text (NoTree (syntax.BadByte p)) h
 text_refused text (syntax.UnclosedComment p) h = planned text (NoTree (syntax.UnclosedComment p)) h
 text_refused text (syntax.BadConstant p) h = planned text (NoTree (syntax.BadConstant p)) h
@@ -48,38 +53,42 @@ text_refused text (syntax.TooDeep p) h = planned text (NoTree (syntax.TooDeep p)
 text_refused text syntax.SourceTooLarge h = planned text (NoTree syntax.SourceTooLarge) h
 text_refused text syntax.OutOfMemory h = tt
 
-module _ (text : List ℕ) (s : Source) (same : s.text ≡ text) (fits : length text ≤ 65536) (spelled : SpellsText text s.externals) where
-  not_typed : (fault : TypeFault) → IsTypeRefusal s fault → IsPlan text (pieces_of (NotTyped fault))
-  not_typed fault h = planned text (NotTyped fault) (s.externals, (fits, spelled), subst (λ (z : List ℕ). IsTypeRefusal (record { text = z; externals = s.externals }) fault) same h)
+not_typed : (text : List ℕ) (fault : TypeFault) → IsRefusedTree text fault → IsPlan text (pieces_of (NotTyped fault))
+not_typed text fault h = planned text (NotTyped fault) (h.tree, (h.fits, h.spelled), h.refused)
 
-  pub type_refused : (fault : TypeFault) → (fault ≡ typing.OutOfMemory) ⊎ IsTypeRefusal s fault → RefusesPlan (of_typing fault) (IsPlan text)
-  type_refused typing.OutOfMemory h = tt
-  type_refused (typing.Unknown p) (inl e) = absurd (cc)
-  type_refused (typing.Unknown p) (inr h) = not_typed (typing.Unknown p) h
-  type_refused (typing.Redeclared p) (inl e) = absurd (cc)
-  type_refused (typing.Redeclared p) (inr h) = not_typed (typing.Redeclared p) h
-  type_refused (typing.WrongKind p) (inl e) = absurd (cc)
-  type_refused (typing.WrongKind p) (inr h) = not_typed (typing.WrongKind p) h
-  type_refused (typing.WrongCount p) (inl e) = absurd (cc)
-  type_refused (typing.WrongCount p) (inr h) = not_typed (typing.WrongCount p) h
-  type_refused (typing.VoidValue p) (inl e) = absurd (cc)
-  type_refused (typing.VoidValue p) (inr h) = not_typed (typing.VoidValue p) h
-  type_refused (typing.BadReturn p) (inl e) = absurd (cc)
-  type_refused (typing.BadReturn p) (inr h) = not_typed (typing.BadReturn p) h
-  type_refused (typing.BadAssign p) (inl e) = absurd (cc)
-  type_refused (typing.BadAssign p) (inr h) = not_typed (typing.BadAssign p) h
-  type_refused (typing.BadBreak p) (inl e) = absurd (cc)
-  type_refused (typing.BadBreak p) (inr h) = not_typed (typing.BadBreak p) h
-  type_refused (typing.NoMain p) (inl e) = absurd (cc)
-  type_refused (typing.NoMain p) (inr h) = not_typed (typing.NoMain p) h
-  type_refused (typing.Undefined p) (inl e) = absurd (cc)
-  type_refused (typing.Undefined p) (inr h) = not_typed (typing.Undefined p) h
-  type_refused (typing.TooMany p) (inl e) = absurd (cc)
-  type_refused (typing.TooMany p) (inr h) = not_typed (typing.TooMany p) h
+type_refused : (text : List ℕ) (fault : TypeFault) → (fault ≡ typing.OutOfMemory) ⊎ IsRefusedTree text fault → RefusesPlan (refused_by (type_number fault)) (IsPlan text)
+type_refused text typing.OutOfMemory h = tt
+type_refused text (typing.Unknown p) (inl e) = absurd (cc)
+type_refused text (typing.Unknown p) (inr h) = not_typed text (typing.Unknown p) h
+type_refused text (typing.Redeclared p) (inl e) = absurd (cc)
+type_refused text (typing.Redeclared p) (inr h) = not_typed text (typing.Redeclared p) h
+type_refused text (typing.WrongKind p) (inl e) = absurd (cc)
+type_refused text (typing.WrongKind p) (inr h) = not_typed text (typing.WrongKind p) h
+type_refused text (typing.WrongCount p) (inl e) = absurd (cc)
+type_refused text (typing.WrongCount p) (inr h) = not_typed text (typing.WrongCount p) h
+type_refused text (typing.VoidValue p) (inl e) = absurd (cc)
+type_refused text (typing.VoidValue p) (inr h) = not_typed text (typing.VoidValue p) h
+type_refused text (typing.BadReturn p) (inl e) = absurd (cc)
+type_refused text (typing.BadReturn p) (inr h) = not_typed text (typing.BadReturn p) h
+type_refused text (typing.BadAssign p) (inl e) = absurd (cc)
+type_refused text (typing.BadAssign p) (inr h) = not_typed text (typing.BadAssign p) h
+type_refused text (typing.BadBreak p) (inl e) = absurd (cc)
+type_refused text (typing.BadBreak p) (inr h) = not_typed text (typing.BadBreak p) h
+type_refused text (typing.NoMain p) (inl e) = absurd (cc)
+type_refused text (typing.NoMain p) (inr h) = not_typed text (typing.NoMain p) h
+type_refused text (typing.Undefined p) (inl e) = absurd (cc)
+type_refused text (typing.Undefined p) (inr h) = not_typed text (typing.Undefined p) h
+type_refused text (typing.TooMany p) (inl e) = absurd (cc)
+type_refused text (typing.TooMany p) (inr h) = not_typed text (typing.TooMany p) h
 
-  pub program_planned : IsTyped s.externals → IsWithinLimits s.externals → IsPlan text (Ok (length (defined_names s)))
-  program_planned typed limits =
-      subst (λ (n : ℕ). IsPlan text (Ok n)) (sym (length-map (function_names s.externals) (λ (x : Name). x.text))) (planned text (Program s.externals) ((fits, spelled), (typed, limits)))
+-- 40 says nothing
+pub refused : (text : List ℕ) (fault : TextFault) → IsTextRefusal text fault → RefusesPlan (refused_by (text_fault_number fault)) (IsPlan text)
+refused text (link.Syntax fault) h = text_refused text fault h
+refused text (link.Typing fault) h = type_refused text fault h
+
+pub program_planned : (text : List ℕ) (s : Source) → length text ≤ 65536 → IsProgramText text s.externals → IsPlan text (Ok (length (defined_names s)))
+program_planned text s fits is =
+    subst (λ (n : ℕ). IsPlan text (Ok n)) (sym (length-map (function_names s.externals) (λ (x : Name). x.text))) (planned text (Program s.externals) ((fits, is.spelled), (is.typed, is.limits)))
 
 none_past : (n : ℕ) (names : List Name) → past n names ≡ [] → length names ≤ n
 none_past zero [] e = omega arith

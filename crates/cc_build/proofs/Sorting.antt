@@ -178,7 +178,7 @@ module _ (tokens : TokensAreOne) (trees : TreesAreOne) (mains : TypedUnitsHaveMa
       let planned : IsPlan unit.source (Ok (length so.pieces)) =
       ∥∥₁_elim m.spelled ∥∥₁_prop (λ (h : SpellsText s.text s.externals).
       subst (λ (k : ℕ). IsPlan unit.source (Ok k)) (defined_long s ∙ sym so.many)
-      (program_planned unit.source s (sym text) fits (subst (λ (t : List ℕ). SpellsText t s.externals) (sym text) h) m.checked.typed m.checked.limits)) in
+      (program_planned unit.source s fits (record { spelled = subst (λ (t : List ℕ). SpellsText t s.externals) (sym text) h; typed = m.checked.typed; limits = m.checked.limits }))) in
       let unit_is : build.unit_of unit.source so.pieces ≡ Ok unit =
       result_is (build.unit_of unit.source so.pieces) unit (λ a. Coded-set stored.the_row.coded a unit) (∥∥₁_elim m.spelled ∥∥₁_prop (λ (h : SpellsText s.text s.externals).
       ∥∥₁_map (one_tree tokens trees s.text s.externals h so.pieces (texts s.text 0 so.pieces so.own)) (λ (t : AreOfTree s.externals so.pieces). make_unit s unit so.pieces text so.own some whole t))) in

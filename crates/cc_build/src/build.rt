@@ -4,20 +4,18 @@ ghost use Rattle.cc_build.specs.Plan.{IsPlan};
 ghost use Rattle.cc_build.specs.Compiling.{compiling, Keeps, is_right};
 ghost use Rattle.cc_build.specs.internal.Law.{sources_are_planned, whole_units_agree};
 
-use crate::refusal::{link_refusal, text_refusal, type_refusal};
+use crate::refusal::refusal;
 use cc_core::build::Build;
 use cc_core::fault::BuildFault;
 use cc_emit::Piece;
-use cc_link::{link_lent, linked_units_agree};
-use cc_syntax::parse;
-use cc_typing::check;
+use cc_link::{link_lent, linked_units_agree, typed_unit};
 use cc_unit::StoredUnit;
 use std::alloc::Global;
 use std::sync::Arc;
 
 /// The build that compiles: a piece is the code of one function, and pieces are linked.
 ///
-/// A source is refused with the number of its fault, 1 to 7 or 11 to 21, as `parse` and then `check` answer. Pieces are refused as linking
+/// A source is refused with the number of its fault, 1 to 7 or 11 to 21, as `typed_unit` answers. Pieces are refused as linking
 /// refuses them: with 28 where one is of another source, with 27 where one comes twice, with 26 where one is missing, with 25 where the
 /// image would be too large.
 #[derive(Drop)]
@@ -33,17 +31,12 @@ impl Build for CcBuild {
     ghost is_right = { is_right };
 
     fn plan(&self, alloc: Global, source: &[u8]) -> Result<u32, BuildFault> {
-        let parsed = match parse(alloc, source) {
-            Ok(parsed) => parsed,
-            Err(fault) => return Err(text_refusal(fault)),
-        };
-        match check(alloc, parsed) {
+        match typed_unit(alloc, source) {
             Ok(unit) => {
                 let functions = unit.functions() as u32;
-                drop(unit);
                 Ok(functions)
             }
-            Err(fault) => Err(type_refusal(fault)),
+            Err(fault) => Err(refusal(fault.number())),
         }
     }
 
@@ -68,12 +61,8 @@ impl Build for CcBuild {
             return Err(BuildFault::Refused(28));
         }
         match link_lent(alloc, first.unit(), pieces) {
-            Ok(compiled) => {
-                let shared = Arc::try_clone(compiled.stored());
-                drop(compiled);
-                Ok(shared?)
-            }
-            Err(fault) => Err(link_refusal(fault)),
+            Ok(compiled) => Ok(Arc::try_clone(compiled.stored())?),
+            Err(fault) => Err(refusal(fault.number())),
         }
     }
 

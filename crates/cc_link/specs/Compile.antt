@@ -1,16 +1,11 @@
 -- Why a function has no piece, and why a text has no image.
 use Rattle.std.specs.Prelude.{◌≡◌, ℕ, ◌<◌, ◌⊎◌, List, length, slice_get, All, Option, Some, None, Err}
 use Rattle.cc_tokens.specs.declared.place.Place.{Place}
-use Rattle.cc_tokens.specs.Fault as tokens
 use Rattle.cc_ast.specs.Tree.{Name, External}
 use Rattle.cc_ast.specs.Source.{source}
 use Rattle.cc_ast.specs.Grammar.{Measured, SpellsExternal}
-use Rattle.cc_ast.specs.Parse.{SpellsText, IsParseRefusal}
-use Rattle.cc_typing.specs.declared.fault.TypeFault.{TypeFault}
-use Rattle.cc_typing.specs.declared.fault.TypeFault.TheVariants as typing
-use Rattle.cc_typing.specs.Fault as typed
 use Rattle.cc_typing.specs.Limits.{function_names}
-use Rattle.cc_typing.specs.Typed.{IsTyped, IsWithinLimits, IsTypeRefusal, definitions}
+use Rattle.cc_typing.specs.Typed.{definitions}
 use Rattle.cc_typing.specs.Verdict.{source_with}
 use Rattle.cc_semantics.specs.Meaning.{functions}
 use Rattle.cc_emit.specs.Piece as emit
@@ -18,11 +13,12 @@ use Rattle.cc_link.specs.Fault.{link_fault_number}
 use Rattle.cc_link.specs.Linked.{linked}
 use Rattle.cc_link.specs.Made.{IsCompiled}
 use Rattle.cc_link.specs.Pieces.{AreFrom}
+use Rattle.cc_link.specs.Text.{IsProgramText, IsTextRefusal, text_fault_number, text_fault_place}
 use Rattle.cc_link.specs.declared.fault.LinkFault.TheVariants as link
 use Rattle.cc_link.specs.declared.piece_fault.PieceFault.{PieceFault}
 use Rattle.cc_link.specs.declared.piece_fault.PieceFault.TheVariants as piece
 use Rattle.cc_link.specs.declared.build_fault.BuildFault.{BuildFault}
-use Rattle.cc_link.specs.declared.build_fault.BuildFault.TheVariants.{Syntax, Typing, Piece, Link}
+use Rattle.cc_link.specs.declared.build_fault.BuildFault.TheVariants.{Text, Piece, Link}
 
 -- ---- the numbers and the places of the faults
 
@@ -32,14 +28,12 @@ piece_fault_number (piece.Unvalidated at count label) = 24
 piece_fault_number piece.OutOfMemory = 40
 
 abbrev pub build_fault_number : BuildFault → ℕ
-build_fault_number (Syntax f) = tokens.fault_number f
-build_fault_number (Typing f) = typed.fault_number f
+build_fault_number (Text f) = text_fault_number f
 build_fault_number (Piece f) = piece_fault_number f
 build_fault_number (Link f) = link_fault_number f
 
 abbrev pub build_fault_place : BuildFault → Option Place
-build_fault_place (Syntax f) = tokens.fault_place f
-build_fault_place (Typing f) = typed.fault_place f
+build_fault_place (Text f) = text_fault_place f
 build_fault_place (Piece f) = None
 build_fault_place (Link f) = None
 
@@ -59,18 +53,6 @@ IsPieceRefusal unit f (piece.Unvalidated at count label) = IsNameAt unit f at co
 IsPieceRefusal unit f piece.OutOfMemory = Unit {0}
 
 -- ---- why a text has no image
-
--- the tree of a text, which breaks no rule and passes no limit
-pub record IsProgramText (text : List ℕ) (tree : List External) : Type 0 where
-  pub spelled : SpellsText text tree
-  pub typed : IsTyped tree
-  pub limits : IsWithinLimits tree
-
--- the text spells a tree that is refused
-pub record IsRefusedTree (text : List ℕ) (fault : TypeFault) : Type 0 where
-  pub tree : List External
-  pub spelled : SpellsText text tree
-  pub refused : IsTypeRefusal (source_with text tree) fault
 
 -- the text is a program's, and the fault names this function of it: one of more than 256 tokens for 22, any for 24, where nothing says that
 -- it has no piece
@@ -103,10 +85,9 @@ pub record IsTooLarge (text : List ℕ) : Type 0 where
   pub count : length pieces ≡ length (functions tree)
   pub refused : linked (source_with text tree) pieces ≡ Err link.ImageTooLarge
 
--- 1 to 7 and 11 to 21 exactly as `parse` and `check` have them, 40 set aside. Only a program has another fault: that of the first function
--- without a piece; or, of linking's refusals, 25 alone, where pieces of all functions are refused so.
+-- A text that is no program's is refused as one. Only a program has another fault: that of the first function without a piece; or, of
+-- linking's refusals, 25 alone, where pieces of all functions are refused so.
 abbrev pub IsBuildRefusal : List ℕ → BuildFault → Type 0
-IsBuildRefusal text (Syntax f) = IsParseRefusal text f
-IsBuildRefusal text (Typing f) = (f ≡ typing.OutOfMemory) ⊎ IsRefusedTree text f
+IsBuildRefusal text (Text f) = IsTextRefusal text f
 IsBuildRefusal text (Piece f) = IsFirstWithout text f
 IsBuildRefusal text (Link f) = (f ≡ link.OutOfMemory) ⊎ ((f ≡ link.ImageTooLarge) × IsTooLarge text)

@@ -1,3 +1,5 @@
+-- which text is a program's, and why another is not
+pub mod Text
 -- when an image agrees with a text
 pub mod Agree
 -- the image that pieces make

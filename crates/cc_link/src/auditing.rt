@@ -19,14 +19,14 @@ use crate::fault::LinkFault;
 use crate::function::{emitted, prepared};
 use crate::laws::made_units_are_certified;
 use crate::linking::link;
+use crate::text::typed_unit;
 use cc_emit::Piece;
-use cc_ltl::{LtlFault, read_ltl};
-use cc_rtl::RtlFault;
+use cc_ltl::{Ltl, LtlFault, read_ltl};
+use cc_rtl::{RtlFault, RtlPair};
 use cc_rv32::image::Image;
-use cc_syntax::{SyntaxFault, parse};
-use cc_typing::{TypeFault, TypedUnit, check};
+use cc_typing::TypedUnit;
 use cc_unit::StoredUnit;
-use cc_validate::{Refused, ValidateFault, validate};
+use cc_validate::{ValidateFault, validate};
 use std::alloc::{AllocError, Global};
 use std::sync::Arc;
 
@@ -49,9 +49,7 @@ pub fn audit(
         return Ok(Audit::Unconfirmed);
     };
     made_units_are_certified();
-    let same = is_of(made.stored(), source, certificate, image);
-    drop(made);
-    if same {
+    if is_of(made.stored(), source, certificate, image) {
         Ok(Audit::Confirmed)
     } else {
         Ok(Audit::Unconfirmed)
@@ -78,31 +76,10 @@ fn made_again(
     source: &[u8],
     certificate: &[u8],
 ) -> Result<Option<CompiledUnit>, AllocError> {
-    let Some(unit) = typed(alloc, source)? else {
-        return Ok(None);
-    };
-    let made = linked(alloc, &unit, certificate);
-    drop(unit);
-    made
-}
-
-// The unit of a text, where it is a program's.
-fn typed(alloc: Global, text: &[u8]) -> Result<Option<Arc<TypedUnit>>, AllocError> {
-    let unit = match parse(alloc, text) {
-        Ok(unit) => unit,
-        Err(SyntaxFault::OutOfMemory) => return Err(AllocError),
-        Err(fault) => {
-            drop(fault);
-            return Ok(None);
-        }
-    };
-    match check(alloc, unit) {
-        Ok(unit) => Ok(Some(Arc::new(alloc, unit)?)),
-        Err(TypeFault::OutOfMemory) => Err(AllocError),
-        Err(fault) => {
-            drop(fault);
-            Ok(None)
-        }
+    match typed_unit(alloc, source) {
+        Ok(unit) => linked(alloc, &unit, certificate),
+        Err(fault) if fault.number() == 40 => Err(AllocError),
+        Err(_) => Ok(None),
     }
 }
 
@@ -135,11 +112,9 @@ fn pieces(
     let mut pieces = Vec::new(alloc);
     for function in 0..unit.functions() {
         let Some((bytes, behind)) = first_ltl(rest) else {
-            drop(pieces);
             return Ok(None);
         };
         let Some(piece) = piece(alloc, unit, function, bytes)? else {
-            drop(pieces);
             return Ok(None);
         };
         pieces.push(piece)?;
@@ -157,30 +132,24 @@ fn piece(
 ) -> Result<Option<Piece>, AllocError>
     requires { function < length (defined_names (source (arc_value unit.now))) }
 {
-    let ltl = match read_ltl(alloc, bytes) {
-        Ok(ltl) => ltl,
-        Err(LtlFault::Damaged) => return Ok(None),
-        Err(LtlFault::OutOfMemory) => return Err(AllocError),
-    };
-    let rtl = match prepared(alloc, unit, function) {
-        Ok(rtl) => rtl,
-        Err(RtlFault::FunctionTooLarge) => {
-            drop(ltl);
-            return Ok(None);
-        }
-        Err(RtlFault::OutOfMemory) => {
-            drop(ltl);
-            return Err(AllocError);
-        }
-    };
+    match read_ltl(alloc, bytes) {
+        Ok(ltl) => match prepared(alloc, unit, function) {
+            Ok(rtl) => validated(alloc, rtl, ltl),
+            Err(RtlFault::FunctionTooLarge) => Ok(None),
+            Err(RtlFault::OutOfMemory) => Err(AllocError),
+        },
+        Err(LtlFault::Damaged) => Ok(None),
+        Err(LtlFault::OutOfMemory) => Err(AllocError),
+    }
+}
+
+// The piece of a function in RTL by this LTL, where the validator accepts it.
+fn validated(alloc: Global, rtl: RtlPair, ltl: Ltl) -> Result<Option<Piece>, AllocError> {
     match validate(alloc, rtl, ltl) {
         Ok(pair) => Ok(Some(emitted(alloc, pair)?)),
-        Err(Refused { pair, fault }) => {
-            drop(pair);
-            match fault {
-                ValidateFault::Unvalidated { .. } => Ok(None),
-                ValidateFault::OutOfMemory => Err(AllocError),
-            }
-        }
+        Err(refused) => match refused.fault {
+            ValidateFault::Unvalidated { .. } => Ok(None),
+            ValidateFault::OutOfMemory => Err(AllocError),
+        },
     }
 }

@@ -5,19 +5,16 @@ ghost use Rattle.cc_link.specs.Compile.{build_fault_number, build_fault_place};
 
 use crate::fault::LinkFault;
 use crate::piece_fault::PieceFault;
-use cc_syntax::{Place, SyntaxFault};
-use cc_typing::TypeFault;
+use crate::text::TextFault;
+use cc_syntax::Place;
 use thiserror::Error;
 
 /// Why a text has no image: the faults of the stages, in their order.
 #[derive(Debug, Drop, Error)]
 pub enum BuildFault {
-    /// 1 to 7, 40: the text has no tree.
+    /// 1 to 7, 11 to 21, 40: the text is no program's.
     #[error(transparent)]
-    Syntax(SyntaxFault),
-    /// 11 to 21, 40: the tree breaks a rule.
-    #[error(transparent)]
-    Typing(TypeFault),
+    Text(TextFault),
     /// 22, 24, 40: a function has no piece.
     #[error(transparent)]
     Piece(PieceFault),
@@ -32,8 +29,7 @@ impl BuildFault {
         ensures { result ≡ build_fault_number self.now }
     {
         match self {
-            BuildFault::Syntax(fault) => fault.number(),
-            BuildFault::Typing(fault) => fault.number(),
+            BuildFault::Text(fault) => fault.number(),
             BuildFault::Piece(fault) => fault.number(),
             BuildFault::Link(fault) => fault.number(),
         }
@@ -44,8 +40,7 @@ impl BuildFault {
         ensures { result ≡ build_fault_place self.now }
     {
         match self {
-            BuildFault::Syntax(fault) => fault.place(),
-            BuildFault::Typing(fault) => fault.place(),
+            BuildFault::Text(fault) => fault.place(),
             BuildFault::Piece(_) | BuildFault::Link(_) => None,
         }
     }

@@ -50,10 +50,7 @@ pub(crate) fn prepared(
     ensures large { IfErr result (λ fault. fault ≡ FunctionTooLarge → IsLong (source (arc_value unit.now)).externals function) }
 {
     match with_live_sets(alloc, unit, function) {
-        Ok(Colourable { rtl, live }) => {
-            drop(live);
-            Ok(rtl)
-        }
+        Ok(Colourable { rtl, .. }) => Ok(rtl),
         Err(fault) => Err(fault),
     }
 }
@@ -88,18 +85,13 @@ fn pruned(alloc: Global, pair: CminorPair) -> Result<Colourable, RtlFault>
     };
     match drop_faint(alloc, &mut rtl) {
         Ok(live) => Ok(Colourable { rtl, live }),
-        Err(_) => {
-            drop(rtl);
-            Err(RtlFault::OutOfMemory)
-        }
+        Err(_) => Err(RtlFault::OutOfMemory),
     }
 }
 
 // LTL by registers, of which these are live.
 fn coloured(alloc: Global, rtl: &Rtl, live: Liveness) -> Result<Ltl, AllocError> {
-    let ltl = colour(alloc, rtl, &live);
-    drop(live);
-    ltl
+    colour(alloc, rtl, &live)
 }
 
 // Validated LTL in which each pseudo-register has a slot of its own.
@@ -110,15 +102,9 @@ fn spilled(alloc: Global, pair: RtlPair) -> Result<LtlPair, ValidateFault>
     match spill_all(alloc, pair.code()) {
         Ok(ltl) => match validate(alloc, pair, ltl) {
             Ok(made) => Ok(made),
-            Err(Refused { pair, fault }) => {
-                drop(pair);
-                Err(fault)
-            }
+            Err(Refused { fault, .. }) => Err(fault),
         },
-        Err(_) => {
-            drop(pair);
-            Err(ValidateFault::OutOfMemory)
-        }
+        Err(_) => Err(ValidateFault::OutOfMemory),
     }
 }
 
@@ -137,20 +123,9 @@ fn allocated(alloc: Global, colourable: Colourable) -> Result<LtlPair, ValidateF
                     fault: ValidateFault::Unvalidated { .. },
                 },
             ) => spilled(alloc, pair),
-            Err(
-                Refused {
-                    pair,
-                    fault: ValidateFault::OutOfMemory,
-                },
-            ) => {
-                drop(pair);
-                Err(ValidateFault::OutOfMemory)
-            }
+            Err(Refused { fault, .. }) => Err(fault),
         },
-        Err(_) => {
-            drop(pair);
-            Err(ValidateFault::OutOfMemory)
-        }
+        Err(_) => Err(ValidateFault::OutOfMemory),
     }
 }
 

@@ -52,9 +52,7 @@ fn add_object(alloc: Global, words: &mut Vec<u32>, tree: &Object) -> Result<(), 
         Width::Byte => {
             let mut bytes = Vec::new(alloc);
             add_words(&mut bytes, tree)?;
-            let added = add_packed(words, bytes.as_slice());
-            drop(bytes);
-            added
+            add_packed(words, bytes.as_slice())
         }
     }
 }

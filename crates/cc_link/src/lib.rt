@@ -1,4 +1,5 @@
-//! Linking: from the pieces of a unit's functions to the unit that the library keeps, with its certificate; and the audit of such a unit.
+//! The compiler as a whole: from a text to its program, from the pieces of a program's functions to the unit that the library keeps, with its
+//! certificate; and the audit of such a unit.
 #![tactic(auto)]
 
 mod audit_answer;
@@ -14,6 +15,7 @@ mod laws;
 mod linking;
 mod order;
 mod piece_fault;
+mod text;
 mod words;
 
 pub use audit_answer::Audit;
@@ -27,3 +29,4 @@ pub use function::compile_function;
 pub use laws::{linked_units_agree, made_units_are_certified};
 pub use linking::{link, link_lent};
 pub use piece_fault::PieceFault;
+pub use text::{TextFault, typed_unit};

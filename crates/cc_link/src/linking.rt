@@ -49,23 +49,17 @@ fn image(alloc: Global, unit: &TypedUnit, bodies: &[&[Item]]) -> Result<Image, A
     ensures { IfOk result (λ image. image ≡ image_of (source unit.now).externals (lent bodies.now)) }
 {
     unit_laws();
-    let mut elements = Vec::new(alloc);
-    let layout = lay_out(alloc, &mut elements, unit.externals())?;
-    let main = layout.function(MAIN);
-    drop(layout);
-    drop(elements);
+    let main = {
+        let mut elements = Vec::new(alloc);
+        lay_out(alloc, &mut elements, unit.externals())?.function(MAIN)
+    };
     let words = image_words(alloc, unit.externals())?;
     let globals = match Globals::new(words) {
         Ok(globals) => globals,
         Err(_) => unreachable!(),
     };
-    match code(alloc, main, bodies) {
-        Ok(code) => Ok(Image { code, globals }),
-        Err(error) => {
-            drop(globals);
-            Err(error)
-        }
-    }
+    let code = code(alloc, main, bodies)?;
+    Ok(Image { code, globals })
 }
 
 // What the library keeps of a unit and its functions, whose pieces these are.
@@ -82,25 +76,12 @@ fn stored(
     ensures { IfOk result (λ stored. arc_value stored ≡ record { source = (source unit.now).text; image = image_of (source unit.now).externals (lent bodies.now); certificate = Some (certificate_of (all_ltl (lent_pieces pieces.now))) }) }
 {
     let image = image(alloc, unit, bodies)?;
-    let source = match source_of(alloc, unit) {
-        Ok(source) => source,
-        Err(error) => {
-            drop(image);
-            return Err(error);
-        }
-    };
-    let certificate = match certificate(alloc, pieces) {
-        Ok(certificate) => Some(certificate),
-        Err(error) => {
-            drop(image);
-            drop(source);
-            return Err(error);
-        }
-    };
+    let source = source_of(alloc, unit)?;
+    let certificate = certificate(alloc, pieces)?;
     let unit = StoredUnit {
         source,
         image,
-        certificate,
+        certificate: Some(certificate),
     };
     Ok(Arc::new(alloc, unit)?)
 }
@@ -134,15 +115,12 @@ pub fn link_lent(
         Err(_) => return Err(LinkFault::OutOfMemory),
     };
     if !fits(bodies.as_slice()) {
-        drop(bodies);
         return Err(LinkFault::ImageTooLarge);
     }
     unit_laws();
     linked_units_agree();
     let _externals = unit.externals();
     let made = stored(alloc, unit, bodies.as_slice(), ordered.as_slice());
-    drop(bodies);
-    drop(ordered);
     Ok(CompiledUnit::new(made?))
 }
 
@@ -159,10 +137,7 @@ pub fn link(
         Ok(lent) => lent,
         Err(_) => return Err(LinkFault::OutOfMemory),
     };
-    let made = link_lent(alloc, unit, lent.as_slice());
-    drop(lent);
-    drop(pieces);
-    made
+    link_lent(alloc, unit, lent.as_slice())
 }
 
 // References to pieces, in their order.

@@ -83,11 +83,9 @@ pub(crate) fn in_order<'a>(
     let mut ordered = Vec::new(alloc);
     for function in 0..functions {
         let Some(piece) = piece_of(pieces, function) else {
-            drop(ordered);
             return Err(LinkFault::Missing { function });
         };
         if ordered.push(piece).is_err() {
-            drop(ordered);
             return Err(LinkFault::OutOfMemory);
         }
     }

@@ -149,7 +149,6 @@ pub(crate) fn code(alloc: Global, main: usize, bodies: &[&[Item]]) -> Result<Cod
     let mut words = Vec::with_capacity(alloc, room(bodies))?;
     add_head(&mut words, places.as_slice(), main)?;
     add_functions(&mut words, places.as_slice(), bodies)?;
-    drop(places);
     match Code::new(words) {
         Ok(code) => Ok(code),
         Err(_) => unreachable!(),

@@ -1,10 +1,6 @@
 -- What the program answers of a text.
-use Rattle.std.specs.Prelude.{ℕ, ◌≡◌, ◌⊎◌, List}
+use Rattle.std.specs.Prelude.{ℕ, ◌≡◌, List}
 use Rattle.cc_ast.specs.Tree.{Source}
-use Rattle.cc_ast.specs.Parse.{SpellsText, IsParseRefusal}
-use Rattle.cc_typing.specs.Typed.{IsTyped, IsWithinLimits, IsTypeRefusal}
-use Rattle.cc_typing.specs.declared.fault.TypeFault.{TypeFault}
-use Rattle.cc_typing.specs.declared.fault.TypeFault.TheVariants as type_fault
 use Rattle.cc_semantics.specs.Meaning.{source_behavior}
 use Rattle.cc_meaning.specs.Erase.{outcome_tree}
 use Rattle.cc_rv32.specs.declared.image.Image.{Image}
@@ -14,24 +10,20 @@ use Rattle.cc_hex.specs.Contents.{Holds, Says}
 use Rattle.cc_hex.specs.Layout.{image_text}
 use Rattle.cc_link.specs.Agree.{Agree}
 use Rattle.cc_link.specs.Compile.{IsBuildRefusal}
+use Rattle.cc_link.specs.Text.{IsProgramText, IsTextRefusal}
+use Rattle.cc_link.specs.declared.build_fault.BuildFault.TheVariants as build
 use Rattle.cc_command_line.specs.declared.command_line.Task.{Task}
 use Rattle.cc_command_line.specs.declared.command_line.Task.TheVariants.{Check, Interpret, Run, Asm, Image as ImageTask}
 use Rattle.cc_program.specs.declared.answer.Answer.{Answer}
 use Rattle.cc_program.specs.declared.answer.Answer.TheVariants.{Accepted, Ran, Executed, Listed, Image as InHex}
 use Rattle.cc_program.specs.declared.fault.Fault.{Fault}
-use Rattle.cc_program.specs.declared.fault.Fault.TheVariants.{Syntax, Typing, Meaning, Build, UnknownFunction, OutOfMemory, Read, Write}
-
--- the text spells the tree, which breaks no rule, defines main and passes no limit
-pub record IsProgram (s : Source) : Type 0 where
-  pub spelled : SpellsText s.text s.externals
-  pub typed : IsTyped s.externals
-  pub limits : IsWithinLimits s.externals
+use Rattle.cc_program.specs.declared.fault.Fault.TheVariants.{Text, Meaning, Piece, Link, UnknownFunction, OutOfMemory, Read, Write}
 
 -- the program of a text
 pub record ProgramOf (text : List ℕ) : Type 0 where
   pub program : Source
   pub whose : program.text ≡ text
-  pub is : IsProgram program
+  pub is : IsProgramText text program.externals
 
 -- what `check` answers: that the text is a program
 abbrev pub IsAccepted : (text : List ℕ) → Answer → Type 0
@@ -76,19 +68,12 @@ Answers (Run steps words) text answer = IsExecuted steps words.items text answer
 Answers Asm text answer = IsListed text answer
 Answers ImageTask text answer = IsImage text answer
 
--- the text spells a tree that is refused for a rule, a limit or the lack of main
-pub record IsTextRefusal (text : List ℕ) (fault : TypeFault) : Type 0 where
-  pub program : Source
-  pub whose : program.text ≡ text
-  pub spelled : SpellsText program.text program.externals
-  pub refused : IsTypeRefusal program fault
-
--- why a text gets no answer: it spells no tree, its tree is refused, it has no image, or memory was
+-- why a text gets no answer: it is no program's, it has no image, or memory was refused
 abbrev pub IsRefused : List ℕ → Fault → Type 0
-IsRefused text (Syntax f) = IsParseRefusal text f
-IsRefused text (Typing f) = (f ≡ type_fault.OutOfMemory) ⊎ IsTextRefusal text f
+IsRefused text (Text f) = IsTextRefusal text f
 IsRefused text (Meaning f) = Unit {0}
-IsRefused text (Build f) = IsBuildRefusal text f
+IsRefused text (Piece f) = IsBuildRefusal text (build.Piece f)
+IsRefused text (Link f) = IsBuildRefusal text (build.Link f)
 IsRefused text UnknownFunction = ⊥
 IsRefused text OutOfMemory = Unit {0}
 IsRefused text Read = ⊥

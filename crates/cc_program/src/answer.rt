@@ -1,21 +1,18 @@
 // The answer to a task for a text.
 
-ghost use Rattle.std.specs.Prelude.{◌≡◌, IfOk, IfErr};
-ghost use Rattle.cc_ast.specs.Source.{source};
+ghost use Rattle.std.specs.Prelude.{IfOk, IfErr};
 ghost use Rattle.cc_link.specs.Agree.{Agree};
-ghost use Rattle.cc_program.specs.Answer.{IsProgram, IsAccepted, IsRan, IsRunOf, IsExecuted, IsListed, IsImage, Answers, IsRefused};
+ghost use Rattle.cc_program.specs.Answer.{IsAccepted, IsRan, IsRunOf, IsExecuted, IsListed, IsImage, Answers, IsRefused};
 
 use super::fault::Fault;
 use cc_command_line::Task;
 use cc_hex::image::write;
-use cc_link::{CompiledUnit, compile};
+use cc_link::{BuildFault, CompiledUnit, compile, typed_unit};
 use cc_meaning::{Outcome, interpret};
 use cc_rv32::image::Image;
 use cc_rv32::listing::list;
 use cc_rv32::machine::Machine;
 use cc_rv32::outcome::MachineOutcome;
-use cc_syntax::parse;
-use cc_typing::{TypedUnit, check};
 use std::alloc::{AllocError, Global};
 
 /// What a task answers, before it is written.
@@ -33,33 +30,16 @@ pub enum Answer {
     Image(Vec<u8>),
 }
 
-// The program of a text.
-pub(crate) fn program(alloc: Global, text: &[u8]) -> Result<TypedUnit, Fault>
-    ensures text { IfOk result (λ program. (source program).text ≡ text.now) }
-    ensures program { IfOk result (λ program. IsProgram (source program)) }
-    ensures refused { IfErr result (λ fault. IsRefused text.now fault) }
-{
-    match parse(alloc, text) {
-        Err(fault) => Err(Fault::Syntax(fault)),
-        Ok(unit) => match check(alloc, unit) {
-            Err(fault) => Err(Fault::Typing(fault)),
-            Ok(program) => Ok(program),
-        },
-    }
-}
-
 // That the text is a program.
 fn accepted(alloc: Global, text: &[u8]) -> Result<Answer, Fault>
     ensures answer { IfOk result (λ answer. IsAccepted text.now answer) }
     ensures refused { IfErr result (λ fault. IsRefused text.now fault) }
 {
-    match program(alloc, text) {
-        Err(fault) => Err(fault),
-        Ok(program) => {
-            drop(program);
-            Ok(Answer::Accepted)
-        }
-    }
+    let _program = match typed_unit(alloc, text) {
+        Ok(program) => program,
+        Err(fault) => return Err(Fault::Text(fault)),
+    };
+    Ok(Answer::Accepted)
 }
 
 // What the program does on the input words. 40 where memory was refused as it ran.
@@ -67,16 +47,12 @@ fn ran(alloc: Global, text: &[u8], words: &[u32], steps: u64) -> Result<Answer, 
     ensures answer { IfOk result (λ answer. IsRan steps words.now text.now answer) }
     ensures refused { IfErr result (λ fault. IsRefused text.now fault) }
 {
-    match program(alloc, text) {
-        Err(fault) => Err(fault),
-        Ok(program) => {
-            let outcome = interpret(alloc, &program, words, steps);
-            drop(program);
-            match outcome {
-                Ok(outcome) => Ok(Answer::Ran(outcome)),
-                Err(fault) => Err(Fault::Meaning(fault)),
-            }
-        }
+    match typed_unit(alloc, text) {
+        Ok(program) => match interpret(alloc, &program, words, steps) {
+            Ok(outcome) => Ok(Answer::Ran(outcome)),
+            Err(fault) => Err(Fault::Meaning(fault)),
+        },
+        Err(fault) => Err(Fault::Text(fault)),
     }
 }
 
@@ -87,7 +63,9 @@ fn compiled(alloc: Global, text: &[u8]) -> Result<CompiledUnit, Fault>
 {
     match compile(alloc, text) {
         Ok(unit) => Ok(unit),
-        Err(fault) => Err(Fault::Build(fault)),
+        Err(BuildFault::Text(fault)) => Err(Fault::Text(fault)),
+        Err(BuildFault::Piece(fault)) => Err(Fault::Piece(fault)),
+        Err(BuildFault::Link(fault)) => Err(Fault::Link(fault)),
     }
 }
 
@@ -104,12 +82,9 @@ pub fn run_image(
         return Err(AllocError);
     };
     let Ok(outcome) = machine.run(steps) else {
-        drop(machine);
         return Err(AllocError);
     };
-    let output = Vec::from_slice(alloc, machine.output());
-    drop(machine);
-    match output {
+    match Vec::from_slice(alloc, machine.output()) {
         Ok(output) => Ok(Answer::Executed(output, outcome)),
         Err(_) => Err(AllocError),
     }
@@ -124,9 +99,7 @@ fn executed(alloc: Global, text: &[u8], words: &[u32], steps: u64) -> Result<Ans
         Ok(unit) => unit,
         Err(fault) => return Err(fault),
     };
-    let answer = run_image(alloc, &unit.stored().image, words, steps);
-    drop(unit);
-    match answer {
+    match run_image(alloc, &unit.stored().image, words, steps) {
         Ok(answer) => Ok(answer),
         Err(_) => Err(Fault::OutOfMemory),
     }
@@ -139,14 +112,10 @@ fn listed(alloc: Global, text: &[u8]) -> Result<Answer, Fault>
 {
     match compiled(alloc, text) {
         Err(fault) => Err(fault),
-        Ok(unit) => {
-            let lines = list(alloc, &unit.stored().image);
-            drop(unit);
-            match lines {
-                Ok(lines) => Ok(Answer::Listed(lines)),
-                Err(_) => Err(Fault::OutOfMemory),
-            }
-        }
+        Ok(unit) => match list(alloc, &unit.stored().image) {
+            Ok(lines) => Ok(Answer::Listed(lines)),
+            Err(_) => Err(Fault::OutOfMemory),
+        },
     }
 }
 
@@ -157,20 +126,16 @@ fn in_hex(alloc: Global, text: &[u8]) -> Result<Answer, Fault>
 {
     match compiled(alloc, text) {
         Err(fault) => Err(fault),
-        Ok(unit) => {
-            let lines = write(alloc, &unit.stored().image);
-            drop(unit);
-            match lines {
-                Ok(lines) => Ok(Answer::Image(lines)),
-                Err(_) => Err(Fault::OutOfMemory),
-            }
-        }
+        Ok(unit) => match write(alloc, &unit.stored().image) {
+            Ok(lines) => Ok(Answer::Image(lines)),
+            Err(_) => Err(Fault::OutOfMemory),
+        },
     }
 }
 
 /// The answer to a task for a text: `check` and `interpret` by its tree, `run`, `asm` and `image` by its image, which agrees with it.
 ///
-/// Refusals: those of `parse`, then those of `check`; for `run`, `asm` and `image` then 22, 24 and 25 of `compile`; 40 where memory was
+/// Refusals: those of `typed_unit`; for `run`, `asm` and `image` then 22, 24 and 25 of `compile`; 40 where memory was
 /// refused.
 pub fn answer_for(alloc: Global, task: &Task, text: &[u8]) -> Result<Answer, Fault>
     ensures answer { IfOk result (λ answer. Answers task.now text.now answer) }

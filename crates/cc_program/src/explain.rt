@@ -3,7 +3,7 @@
 use super::fault::Fault;
 use cc_command_line::Task;
 use cc_diagnostic::{Diagnostic, further_of_typing, of_name, of_syntax, of_typing, warnings};
-use cc_link::{BuildFault, LinkFault, PieceFault};
+use cc_link::{LinkFault, PieceFault, TextFault};
 use cc_meaning::Cause;
 use cc_run_diagnostic::of_wrong;
 use std::alloc::{AllocError, Global};
@@ -14,7 +14,7 @@ fn words_of(fault: &Fault) -> Option<&'static str> {
     match fault {
         Fault::Read => Some("the text could not be read"),
         Fault::Write => Some("the answer could not be written"),
-        Fault::Build(BuildFault::Link(LinkFault::ImageTooLarge)) => {
+        Fault::Link(LinkFault::ImageTooLarge) => {
             Some("the image would have more than 131072 words of code")
         }
         _ if fault.number() == 40 => Some("memory ran out"),
@@ -45,14 +45,10 @@ pub fn of_piece(
 // What is told of a fault in the text.
 fn of_fault(alloc: Global, text: &[u8], fault: &Fault) -> Result<Option<Diagnostic>, AllocError> {
     match fault {
-        Fault::Syntax(fault) | Fault::Build(BuildFault::Syntax(fault)) => {
-            Ok(Some(of_syntax(alloc, text, fault)?))
-        }
-        Fault::Typing(fault) | Fault::Build(BuildFault::Typing(fault)) => {
-            of_typing(alloc, text, fault)
-        }
-        Fault::Build(BuildFault::Piece(fault)) => of_piece(alloc, text, *fault),
-        Fault::Build(BuildFault::Link(_))
+        Fault::Text(TextFault::Syntax(fault)) => Ok(Some(of_syntax(alloc, text, fault)?)),
+        Fault::Text(TextFault::Typing(fault)) => of_typing(alloc, text, fault),
+        Fault::Piece(fault) => of_piece(alloc, text, *fault),
+        Fault::Link(_)
         | Fault::Meaning(_)
         | Fault::UnknownFunction
         | Fault::OutOfMemory
@@ -88,15 +84,11 @@ fn write_further<W: Write>(
     fault: &Fault,
     writer: &mut W,
 ) -> io::Result<()> {
-    let (Fault::Typing(first) | Fault::Build(BuildFault::Typing(first))) = fault else {
+    let Fault::Text(TextFault::Typing(first)) = fault else {
         return Ok(());
     };
     match further_of_typing(alloc, text, first) {
-        Ok(list) => {
-            let written = write_each(list.as_slice(), text, writer);
-            drop(list);
-            written
-        }
+        Ok(list) => write_each(list.as_slice(), text, writer),
         Err(_) => Ok(()),
     }
 }
@@ -121,11 +113,7 @@ pub fn explain_fault<W: Write>(
 /// Writes what is warned of in a text that is a program. Nothing where memory for that runs out.
 pub fn explain_program<W: Write>(alloc: Global, text: &[u8], writer: &mut W) -> io::Result<()> {
     match warnings(alloc, text) {
-        Ok(list) => {
-            let written = write_each(list.as_slice(), text, writer);
-            drop(list);
-            written
-        }
+        Ok(list) => write_each(list.as_slice(), text, writer),
         Err(_) => Ok(()),
     }
 }

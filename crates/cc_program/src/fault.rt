@@ -4,10 +4,9 @@ ghost use Rattle.std.specs.Prelude.{◌≡◌};
 ghost use Rattle.cc_program.specs.Fault.{fault_number, fault_place};
 ghost use Rattle.cc_program.specs.internal.Pieces.{function_fault};
 
-use cc_link::{BuildFault, PieceFault};
+use cc_link::{LinkFault, PieceFault, TextFault};
 use cc_meaning::MeaningFault;
-use cc_syntax::{Place, SyntaxFault};
-use cc_typing::TypeFault;
+use cc_tokens::Place;
 use std::alloc::AllocError;
 use std::fmt::Display;
 use std::io::{self, Write};
@@ -16,18 +15,18 @@ use thiserror::Error;
 /// Why a task was not done.
 #[derive(Debug, Drop, Error)]
 pub enum Fault {
-    /// 1 to 7, 40: the text has no tree.
+    /// 1 to 7, 11 to 21, 40: the text is no program's.
     #[error(transparent)]
-    Syntax(SyntaxFault),
-    /// 11 to 21, 40: the tree breaks a rule.
-    #[error(transparent)]
-    Typing(TypeFault),
+    Text(TextFault),
     /// 40: memory was refused as the program ran.
     #[error(transparent)]
     Meaning(MeaningFault),
-    /// 1 to 7, 11 to 22, 24, 25, 40: the text has no image.
+    /// 22, 24, 40: a function of the text has no piece.
     #[error(transparent)]
-    Build(BuildFault),
+    Piece(PieceFault),
+    /// 25, 40: the pieces make no image.
+    #[error(transparent)]
+    Link(LinkFault),
     /// 59: the program defines no function of the name that is asked for.
     #[error("UnknownFunction")]
     UnknownFunction,
@@ -54,10 +53,10 @@ impl Fault {
         ensures { result ≡ fault_number self.now }
     {
         match self {
-            Fault::Syntax(fault) => fault.number(),
-            Fault::Typing(fault) => fault.number(),
+            Fault::Text(fault) => fault.number(),
             Fault::Meaning(fault) => fault.number(),
-            Fault::Build(fault) => fault.number(),
+            Fault::Piece(fault) => fault.number(),
+            Fault::Link(fault) => fault.number(),
             Fault::UnknownFunction => 59,
             Fault::OutOfMemory => 40,
             Fault::Read => 53,
@@ -70,10 +69,10 @@ impl Fault {
         ensures { result ≡ fault_place self.now }
     {
         match self {
-            Fault::Syntax(fault) => fault.place(),
-            Fault::Typing(fault) => fault.place(),
-            Fault::Build(fault) => fault.place(),
+            Fault::Text(fault) => fault.place(),
             Fault::Meaning(_)
+            | Fault::Piece(_)
+            | Fault::Link(_)
             | Fault::UnknownFunction
             | Fault::OutOfMemory
             | Fault::Read
@@ -86,7 +85,7 @@ impl Fault {
         ensures { result ≡ function_fault self.now }
     {
         match self {
-            Fault::Build(BuildFault::Piece(fault)) => Some(*fault),
+            Fault::Piece(fault) => Some(*fault),
             _ => None,
         }
     }

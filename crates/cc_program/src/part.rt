@@ -90,16 +90,10 @@ fn explain_absent<W: Write>(
     let Ok(found) = units.names(alloc) else {
         return Ok(());
     };
-    let written = match slices_of(alloc, found.as_slice()) {
-        Ok(names) => {
-            let written = explain_unknown("unit", name, names.as_slice(), writer);
-            drop(names);
-            written
-        }
+    match slices_of(alloc, found.as_slice()) {
+        Ok(names) => explain_unknown("unit", name, names.as_slice(), writer),
         Err(_) => Ok(()),
-    };
-    drop(found);
-    written
+    }
 }
 
 // The bytes of each name.

@@ -5,17 +5,15 @@ ghost use Rattle.cc_program.specs.internal.Shown.{IsUnknown, IsTextRefused};
 ghost use Rattle.cc_program.specs.internal.Stages.{fault_of_stages};
 ghost use Rattle.cc_program.specs.declared.fault.Fault.TheVariants.{UnknownFunction};
 
-use super::answer::program;
 use super::explain::{explain_fault, explain_program};
 use super::fault::Fault;
 use super::unknown::explain_unknown;
 use super::work::{Performed, read_text, refused, status};
-use cc_link::BuildFault;
+use cc_link::typed_unit;
 use cc_stages::{StagesFault, stages};
 use cc_typing::TypedUnit;
 use std::alloc::{AllocError, Global};
 use std::io::{self, Read, Write};
-use std::sync::Arc;
 
 // The program's fault for one of the stages.
 fn fault_of(fault: StagesFault) -> Fault
@@ -23,8 +21,8 @@ fn fault_of(fault: StagesFault) -> Fault
 {
     match fault {
         StagesFault::UnknownFunction => Fault::UnknownFunction,
-        StagesFault::Piece(fault) => Fault::Build(BuildFault::Piece(fault)),
-        StagesFault::Link(fault) => Fault::Build(BuildFault::Link(fault)),
+        StagesFault::Piece(fault) => Fault::Piece(fault),
+        StagesFault::Link(fault) => Fault::Link(fault),
         StagesFault::OutOfMemory => Fault::OutOfMemory,
         StagesFault::Write => Fault::Write,
     }
@@ -40,16 +38,11 @@ fn show<W: Write>(
     ensures refused { IfErr result (λ fault. IsTextRefused text.now fault) }
     ensures unknown { IsErrOf result UnknownFunction → MatchOption function.entry ⊥ (λ name. IsUnknown text.now name.now) }
 {
-    let unit = match program(alloc, text) {
+    let unit = match typed_unit(alloc, text) {
         Ok(unit) => unit,
-        Err(fault) => return Err(fault),
+        Err(fault) => return Err(Fault::Text(fault)),
     };
-    let Ok(unit) = Arc::new(alloc, unit) else {
-        return Err(Fault::OutOfMemory);
-    };
-    let written = stages(alloc, &unit, function, writer);
-    drop(unit);
-    match written {
+    match stages(alloc, &unit, function, writer) {
         Ok(()) => Ok(()),
         Err(fault) => Err(fault_of(fault)),
     }
@@ -107,19 +100,13 @@ fn explain_name<W: Write>(
     name: &[u8],
     writer: &mut W,
 ) -> io::Result<()> {
-    let Ok(unit) = program(alloc, text) else {
+    let Ok(unit) = typed_unit(alloc, text) else {
         return Ok(());
     };
-    let written = match names_of(alloc, &unit) {
-        Ok(names) => {
-            let written = explain_unknown("function", name, names.as_slice(), writer);
-            drop(names);
-            written
-        }
+    match names_of(alloc, &unit) {
+        Ok(names) => explain_unknown("function", name, names.as_slice(), writer),
         Err(_) => Ok(()),
-    };
-    drop(unit);
-    written
+    }
 }
 
 // Explains what was told of a text.

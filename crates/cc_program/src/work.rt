@@ -87,7 +87,6 @@ fn tell<W: Write>(
         Ok(answer) => {
             let written = write_answer(&answer, writer);
             let cause = cause_of(&answer);
-            drop(answer);
             match written {
                 Ok(()) => Ok(cause),
                 Err(_) => Err(Fault::Write),
@@ -151,12 +150,10 @@ fn explain<W: Write>(alloc: Global, task: &Task, performed: &Performed, writer: 
 pub(crate) fn status(performed: Performed) -> u8
     ensures { result ≤ 1 }
 {
-    let status = match &performed.told {
+    match &performed.told {
         Ok(_) => 0,
         Err(_) => 1,
-    };
-    drop(performed);
-    status
+    }
 }
 
 /// Does a task: reads the text from `reader`, and writes the answer or the fault's line to `writer`.
@@ -172,7 +169,6 @@ pub fn perform<H: AllocGlobal, R: Read, W: Write>(
     ensures { result ≤ 1 }
 {
     let performed = try_perform(rt.alloc(), &task, reader, writer);
-    drop(task);
     status(performed)
 }
 
@@ -191,6 +187,5 @@ pub fn perform_and_explain<H: AllocGlobal, R: Read, W: Write, E: Write>(
 {
     let performed = try_perform(rt.alloc(), &task, reader, writer);
     explain(rt.alloc(), &task, &performed, explanations);
-    drop(task);
     status(performed)
 }

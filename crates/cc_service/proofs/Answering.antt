@@ -22,7 +22,7 @@ use Rattle.cc_service.specs.internal.Under.{IsSeen, MakesAnswers}
 use Rattle.cc_recorded.specs.declared.fault.BookFault.{BookFault}
 use Rattle.cc_recorded.specs.declared.fault.BookFault.TheVariants as book
 use Rattle.cc_service.specs.declared.fault.ServiceFault.{ServiceFault}
-use Rattle.cc_service.specs.declared.fault.ServiceFault.TheVariants.{Opening, TooManyClients, BadName, Syntax, Typing, Piece, WorkersGone, ImageTooLarge, Book, OutOfMemory}
+use Rattle.cc_service.specs.declared.fault.ServiceFault.TheVariants.{Opening, TooManyClients, BadName, Text, Piece, WorkersGone, ImageTooLarge, Book, OutOfMemory}
 
 -- ---- what the book answers to a look
 
@@ -105,8 +105,7 @@ module _ (Asks : Command → Type 0) (command : Command) (asked : Asks command) 
   put name source named program (Err (Opening f)) none = none
   put name source named program (Err TooManyClients) none = none
   put name source named program (Err BadName) none = absurd none
-  put name source named program (Err (Syntax f)) none = absurd none
-  put name source named program (Err (Typing f)) none = absurd none
+  put name source named program (Err (Text f)) none = absurd none
   put name source named program (Err (Piece function f)) none = absurd none
   put name source named program (Err WorkersGone) none = absurd none
   put name source named program (Err ImageTooLarge) none = absurd none
@@ -114,8 +113,7 @@ module _ (Asks : Command → Type 0) (command : Command) (asked : Asks command) 
 
 -- of a text that was not compiled
 pub not_put : (Asks : Command → Type 0) (name source : List ℕ) (old new : Holder) → IsTrue (is_name name) → new ≡ old → (fault : ServiceFault) → IsCompileRefusal source fault → PutAnswers Asks name source old new (Err fault)
-not_put Asks name source old new named same (Syntax f) e = (named, e, same)
-not_put Asks name source old new named same (Typing f) e = (named, e, same)
+not_put Asks name source old new named same (Text f) e = (named, e, same)
 not_put Asks name source old new named same (Piece function f) e = (named, e, same)
 not_put Asks name source old new named same WorkersGone e = (named, e, same)
 not_put Asks name source old new named same ImageTooLarge e = (named, e, same)

@@ -1,16 +1,15 @@
 -- Why a text is not compiled by the workers.
 use Rattle.std.specs.Prelude.{◌≡◌, ◌⊎◌, ℕ, List, length}
 use Rattle.cc_ast.specs.Tree.{External}
-use Rattle.cc_ast.specs.Parse.{IsParseRefusal}
 use Rattle.cc_semantics.specs.Meaning.{functions}
-use Rattle.cc_typing.specs.declared.fault.TypeFault.TheVariants as typing
-use Rattle.cc_link.specs.Compile.{IsProgramText, IsRefusedTree, IsTooLarge}
+use Rattle.cc_link.specs.Compile.{IsTooLarge}
+use Rattle.cc_link.specs.Text.{IsProgramText, IsTextRefusal}
 use Rattle.cc_pool.specs.Fault.{IsJobRefusal}
 use Rattle.cc_pool.specs.Shared.{HasSentSome}
 use Rattle.cc_pool.specs.declared.item.Item.{Item}
 use Rattle.cc_pool.specs.declared.fault.PoolFault.TheVariants as pool
 use Rattle.cc_service.specs.declared.fault.ServiceFault.{ServiceFault}
-use Rattle.cc_service.specs.declared.fault.ServiceFault.TheVariants.{Opening, TooManyClients, BadName, Syntax, Typing, Piece, WorkersGone, ImageTooLarge, Book, OutOfMemory}
+use Rattle.cc_service.specs.declared.fault.ServiceFault.TheVariants.{Opening, TooManyClients, BadName, Text, Piece, WorkersGone, ImageTooLarge, Book, OutOfMemory}
 
 -- the text spells a tree that breaks no rule and passes no limit
 pub record IsProgram (text : List ℕ) : Type 0 where
@@ -22,11 +21,10 @@ pub record IsProgram (text : List ℕ) : Type 0 where
 abbrev pub HasSentFor : (text : List ℕ) → (before after : List Item) → Type 0
 HasSentFor text before after = (after ≡ before) ⊎ ((tree : List External) × IsProgramText text tree × HasSentSome before after (length (functions tree)))
 
--- 1 to 7 and 11 to 21 exactly as `parse` and `check` have them, 40 set aside. Only a program has another fault: 22 or 24 of the first
--- function that has no piece; 41; 25 where linking refuses pieces of all functions so.
+-- A text that is no program's is refused as one. Only a program has another fault: 22 or 24 of the first function that has no piece; 41;
+-- 25 where linking refuses pieces of all functions so.
 abbrev pub IsCompileRefusal : List ℕ → ServiceFault → Type 0
-IsCompileRefusal text (Syntax f) = IsParseRefusal text f
-IsCompileRefusal text (Typing f) = (f ≡ typing.OutOfMemory) ⊎ IsRefusedTree text f
+IsCompileRefusal text (Text f) = IsTextRefusal text f
 IsCompileRefusal text (Piece function f) = IsProgram text × IsJobRefusal text (pool.Piece function f)
 IsCompileRefusal text WorkersGone = IsProgram text
 IsCompileRefusal text ImageTooLarge = IsTooLarge text

@@ -20,7 +20,7 @@ use Rattle.cc_service.specs.Compiling.{IsCompileRefusal, IsProgram}
 use Rattle.cc_recorded.specs.declared.fault.BookFault.{BookFault}
 use Rattle.cc_recorded.specs.declared.fault.BookFault.TheVariants as book
 use Rattle.cc_service.specs.declared.fault.ServiceFault.{ServiceFault}
-use Rattle.cc_service.specs.declared.fault.ServiceFault.TheVariants.{Opening, BadName, Syntax, Typing, Piece, WorkersGone, ImageTooLarge, Book, OutOfMemory}
+use Rattle.cc_service.specs.declared.fault.ServiceFault.TheVariants.{Opening, BadName, Text, Piece, WorkersGone, ImageTooLarge, Book, OutOfMemory}
 
 -- ---- what a call asks of the book
 
@@ -79,8 +79,7 @@ IsTurnedDown Asks old new book.OutOfMemory = new ≡ old
 abbrev pub PutAnswers : (Asks : Command → Type 0) (name source : List ℕ) (old new : Holder) → Result Receipt ServiceFault → Type 0
 PutAnswers Asks name source old new (Ok receipt) = IsTrue (is_name name) × IsProgram source × IsEntered Asks old reply.Done new receipt
 PutAnswers Asks name source old new (Err BadName) = (¬ IsTrue (is_name name)) × (new ≡ old)
-PutAnswers Asks name source old new (Err (Syntax f)) = IsTrue (is_name name) × IsCompileRefusal source (Syntax f) × (new ≡ old)
-PutAnswers Asks name source old new (Err (Typing f)) = IsTrue (is_name name) × IsCompileRefusal source (Typing f) × (new ≡ old)
+PutAnswers Asks name source old new (Err (Text f)) = IsTrue (is_name name) × IsCompileRefusal source (Text f) × (new ≡ old)
 PutAnswers Asks name source old new (Err (Piece function f)) = IsTrue (is_name name) × IsCompileRefusal source (Piece function f) × (new ≡ old)
 PutAnswers Asks name source old new (Err WorkersGone) = IsTrue (is_name name) × IsCompileRefusal source WorkersGone × (new ≡ old)
 PutAnswers Asks name source old new (Err ImageTooLarge) = IsTrue (is_name name) × IsCompileRefusal source ImageTooLarge × (new ≡ old)

@@ -25,13 +25,14 @@ impl<N: Named> Client<N> {
         ensures sent { self.new.sent ≡ self.old.sent }
     {
         let Client {
-            member, compacts, ..
+            member,
+            compacts,
+            ..
         } = self;
         if *compacts {
-            book.commit_compacting(alloc, member, command)
-        } else {
-            book.commit(alloc, member, command)
+            return book.commit_compacting(alloc, member, command);
         }
+        book.commit(alloc, member, command)
     }
 
     /// Looks at a name or at all names of the book.

@@ -2,22 +2,20 @@
 ghost use Rattle.std.specs.Prelude.{◌≡◌, length, All, IfErr, IfOk};
 ghost use Rattle.std.specs.Arc.{arc_value};
 ghost use Rattle.cc_ast.specs.Source.{source};
-ghost use Rattle.cc_ast.specs.Parse.{SpellsText};
 ghost use Rattle.cc_typing.specs.Typed.{defined_names};
 ghost use Rattle.cc_link.specs.Agree.{Agree};
-ghost use Rattle.cc_link.specs.Compile.{IsProgramText};
 ghost use Rattle.cc_link.specs.Made.{IsCompiled};
 ghost use Rattle.cc_link.specs.Pieces.{AreFrom};
+ghost use Rattle.cc_link.specs.Text.{IsProgramText};
 ghost use Rattle.cc_pool.specs.Shared.{HasSentSome};
 ghost use Rattle.cc_service.specs.Compiling.{HasSentFor, IsCompileRefusal, IsProgram};
 
 use crate::fault::ServiceFault;
 use crate::named::Named;
 use cc_emit::Piece;
-use cc_link::{CompiledUnit, LinkFault, link};
+use cc_link::{CompiledUnit, LinkFault, link, typed_unit};
 use cc_pool::{Pass, Pool, PoolFault};
-use cc_syntax::parse;
-use cc_typing::{TypedUnit, check};
+use cc_typing::TypedUnit;
 use std::alloc::Global;
 use std::sync::{Arc, Wait};
 
@@ -35,17 +33,9 @@ pub(crate) fn compiled<N: Named + Send + Sync + 'static, R: Wait>(
     ensures refused { IfErr result (λ fault. IsCompileRefusal source.now fault) }
     ensures sent { HasSentFor source.now pass.old.sent pass.new.sent }
 {
-    let unit = match parse(alloc, source) {
-        Ok(unit) => unit,
-        Err(fault) => return Err(ServiceFault::Syntax(fault)),
-    };
-    let unit = match check(alloc, unit) {
-        Ok(unit) => unit,
-        Err(fault) => return Err(ServiceFault::Typing(fault)),
-    };
-    match Arc::new(alloc, unit) {
+    match typed_unit(alloc, source) {
         Ok(unit) => made(rt, alloc, pool, pass, unit),
-        Err(_) => Err(ServiceFault::OutOfMemory),
+        Err(fault) => Err(ServiceFault::Text(fault)),
     }
 }
 
@@ -57,14 +47,12 @@ fn made<N: Named + Send + Sync + 'static, R: Wait>(
     pass: &mut Pass<N>,
     unit: Arc<TypedUnit>,
 ) -> Result<CompiledUnit, ServiceFault>
-    requires spelled { SpellsText (source (arc_value unit)).text (source (arc_value unit)).externals }
+    requires program { IsProgramText (source (arc_value unit)).text (source (arc_value unit)).externals }
     ensures source { IfOk result (λ made. made.source ≡ (source (arc_value unit)).text) }
     ensures agrees { IfOk result (λ made. Agree made.source made.image) }
-    ensures program { IsProgram (source (arc_value unit)).text }
     ensures refused { IfErr result (λ fault. IsCompileRefusal (source (arc_value unit)).text fault) }
     ensures sent { HasSentFor (source (arc_value unit)).text pass.old.sent pass.new.sent }
 {
-    let _externals = unit.externals();
     let Ok(theirs) = Arc::try_clone(&unit) else {
         return Err(ServiceFault::OutOfMemory);
     };

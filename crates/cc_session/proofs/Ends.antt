@@ -50,8 +50,7 @@ not_opened_on honest seen later base before after service.OutOfMemory same it =
     (it.0, λ h. subst (λ (bytes : List ℕ). Recovers bytes base) (same h) (it.1 h))
 not_opened_on honest seen later base before after service.TooManyClients same it = it
 not_opened_on honest seen later base before after service.BadName same it = it
-not_opened_on honest seen later base before after (service.Syntax f) same it = it
-not_opened_on honest seen later base before after (service.Typing f) same it = it
+not_opened_on honest seen later base before after (service.Text f) same it = it
 not_opened_on honest seen later base before after (service.Piece function f) same it = it
 not_opened_on honest seen later base before after service.ImageTooLarge same it = it
 not_opened_on honest seen later base before after (service.Book f) same it = it

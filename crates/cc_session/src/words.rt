@@ -1,6 +1,7 @@
 // What a person is told of a fault beside its line.
 
 use cc_diagnostic::{Diagnostic, of_syntax, of_typing};
+use cc_link::TextFault;
 use cc_program::{of_piece, write_told};
 use cc_service::ServiceFault;
 use std::alloc::{AllocError, Global};
@@ -52,8 +53,8 @@ fn of_refusal(
     fault: &ServiceFault,
 ) -> Result<Option<Diagnostic>, AllocError> {
     match fault {
-        ServiceFault::Syntax(fault) => Ok(Some(of_syntax(alloc, source, fault)?)),
-        ServiceFault::Typing(fault) => of_typing(alloc, source, fault),
+        ServiceFault::Text(TextFault::Syntax(fault)) => Ok(Some(of_syntax(alloc, source, fault)?)),
+        ServiceFault::Text(TextFault::Typing(fault)) => of_typing(alloc, source, fault),
         ServiceFault::Piece { function: _, fault } => of_piece(alloc, source, *fault),
         _ => Ok(None),
     }

@@ -43,13 +43,9 @@ fn pieces(alloc: Global, unit: &Arc<TypedUnit>) -> Result<Vec<Piece>, StagesFaul
     for function in 0..unit.functions() {
         let piece = match compile_function(alloc, unit, function) {
             Ok(piece) => piece,
-            Err(fault) => {
-                drop(pieces);
-                return Err(StagesFault::Piece(fault));
-            }
+            Err(fault) => return Err(StagesFault::Piece(fault)),
         };
         if pieces.push(piece).is_err() {
-            drop(pieces);
             return Err(StagesFault::OutOfMemory);
         }
     }
@@ -99,9 +95,7 @@ fn lines(alloc: Global, unit: &Arc<TypedUnit>, pieces: Vec<Piece>) -> Result<Vec
         Ok(linked) => linked,
         Err(fault) => return Err(StagesFault::Link(fault)),
     };
-    let lines = list(alloc, &linked.stored().image);
-    drop(linked);
-    match lines {
+    match list(alloc, &linked.stored().image) {
         Ok(lines) => Ok(lines),
         Err(_) => Err(StagesFault::OutOfMemory),
     }
@@ -113,24 +107,8 @@ pub(crate) fn list_unit(alloc: Global, unit: &Arc<TypedUnit>) -> Result<Listing,
     ensures { IfErr result (λ fault. ¬ (fault ≡ UnknownFunction)) }
 {
     let pieces = pieces(alloc, unit)?;
-    let Ok(sizes) = sizes(alloc, pieces.as_slice()) else {
-        drop(pieces);
-        return Err(StagesFault::OutOfMemory);
-    };
-    let lines = match lines(alloc, unit, pieces) {
-        Ok(lines) => lines,
-        Err(fault) => {
-            drop(sizes);
-            return Err(fault);
-        }
-    };
-    let places = places(alloc, lines.as_slice(), sizes.as_slice());
-    drop(sizes);
-    match places {
-        Ok(places) => Ok(Listing { lines, places }),
-        Err(_) => {
-            drop(lines);
-            Err(StagesFault::OutOfMemory)
-        }
-    }
+    let sizes = sizes(alloc, pieces.as_slice())?;
+    let lines = lines(alloc, unit, pieces)?;
+    let places = places(alloc, lines.as_slice(), sizes.as_slice())?;
+    Ok(Listing { lines, places })
 }

@@ -30,10 +30,7 @@ fn kept<T: Drop>(made: T, written: io::Result<()>) -> Result<T, StagesFault>
 {
     match written {
         Ok(()) => Ok(made),
-        Err(_) => {
-            drop(made);
-            Err(StagesFault::Write)
-        }
+        Err(_) => Err(StagesFault::Write),
     }
 }
 
@@ -89,7 +86,6 @@ fn pruned<W: Write>(
     ensures { IfErr result (λ fault. ¬ (fault ≡ UnknownFunction)) }
 {
     if drop_faint(alloc, &mut rtl).is_err() {
-        drop(rtl);
         return Err(StagesFault::OutOfMemory);
     }
     let written = Stage::Pruned.write(name.bytes, rtl.code(), writer);
@@ -125,7 +121,6 @@ fn allocated<W: Write>(
     let begun = Stage::Ltl.begin(name.bytes, writer);
     let rtl = kept(rtl, begun)?;
     let Ok(ltl) = coloured(alloc, rtl.code()) else {
-        drop(rtl);
         return Err(StagesFault::OutOfMemory);
     };
     match validate(alloc, rtl, ltl) {
@@ -138,10 +133,7 @@ fn allocated<W: Write>(
                 let written = write_refusal("coloured", label, writer);
                 spilled(alloc, kept(pair, written)?, name, writer)
             }
-            ValidateFault::OutOfMemory => {
-                drop(pair);
-                Err(StagesFault::OutOfMemory)
-            }
+            ValidateFault::OutOfMemory => Err(StagesFault::OutOfMemory),
         },
     }
 }
@@ -156,7 +148,6 @@ fn spilled<W: Write>(
     ensures { IfErr result (λ fault. ¬ (fault ≡ UnknownFunction)) }
 {
     let Ok(ltl) = spill_all(alloc, rtl.code()) else {
-        drop(rtl);
         return Err(StagesFault::OutOfMemory);
     };
     match validate(alloc, rtl, ltl) {
@@ -164,16 +155,13 @@ fn spilled<W: Write>(
             let written = write_ltl("spilled", &ltl, writer);
             kept(ltl, written)
         }
-        Err(Refused { pair, fault }) => {
-            drop(pair);
-            match fault {
-                ValidateFault::Unvalidated { label } => {
-                    write_refusal("spilled", label, writer)?;
-                    Err(name.unvalidated(label))
-                }
-                ValidateFault::OutOfMemory => Err(StagesFault::OutOfMemory),
+        Err(Refused { fault, .. }) => match fault {
+            ValidateFault::Unvalidated { label } => {
+                write_refusal("spilled", label, writer)?;
+                Err(name.unvalidated(label))
             }
-        }
+            ValidateFault::OutOfMemory => Err(StagesFault::OutOfMemory),
+        },
     }
 }
 
@@ -227,7 +215,5 @@ pub(crate) fn write_function<W: Write>(
     let Ok(selected) = select(alloc, linear) else {
         return Err(StagesFault::OutOfMemory);
     };
-    let written = write_selected(&selected, name, writer);
-    drop(selected);
-    Ok(written?)
+    Ok(write_selected(&selected, name, writer)?)
 }

@@ -89,18 +89,9 @@ pub fn stages<W: Write>(
         None => None,
     };
     let code = list_unit(alloc, unit);
-    let written = write_all(alloc, unit, wanted, &code, writer);
+    write_all(alloc, unit, wanted, &code, writer)?;
     match code {
-        Ok(listing) => {
-            drop(listing);
-            written
-        }
-        Err(fault) => match written {
-            Ok(()) => Err(fault),
-            Err(earlier) => {
-                drop(fault);
-                Err(earlier)
-            }
-        },
+        Ok(_) => Ok(()),
+        Err(fault) => Err(fault),
     }
 }

@@ -1,12 +1,12 @@
 // What an audit says of units as they were made, and of units that were changed.
 
-use super::orders::{add_pieces, shared_unit};
+use super::orders::add_pieces;
 use super::padded::rtl_of;
 use super::rows::LONG;
 use cc_colour::spill_all;
 use cc_emit::{Piece, emit};
 use cc_linear::linearise;
-use cc_link::{Audit, CompiledUnit, StoredUnit, audit, compile, link};
+use cc_link::{Audit, CompiledUnit, StoredUnit, audit, compile, link, typed_unit};
 use cc_live::{drop_dead, liveness};
 use cc_ltl::{read_ltl, write_ltl};
 use cc_rv32::image::{Code, Globals, Image};
@@ -293,7 +293,7 @@ fn spilled_piece(alloc: Global, unit: &Arc<TypedUnit>, function: usize) -> Resul
 
 // A text linked from such pieces.
 fn spilled_unit(alloc: Global, text: &[u8]) -> Result<CompiledUnit, Fail> {
-    let unit = shared_unit(alloc, text)?;
+    let unit = typed_unit(alloc, text)?;
     let mut pieces = Vec::new(alloc);
     for function in 0..unit.functions() {
         pieces.push(spilled_piece(alloc, &unit, function)?)?;

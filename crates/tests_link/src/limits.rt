@@ -2,10 +2,9 @@
 
 use super::helpers::{Part, Run, image_runs, runs, text_of};
 use super::numbered::{deep, many};
-use super::orders::shared_unit;
 use super::padded::{blocks, padded};
 use super::rows::{LONG, WORDS};
-use cc_link::{CompiledUnit, LinkFault};
+use cc_link::{CompiledUnit, LinkFault, typed_unit};
 use cc_rv32::outcome::MachineOutcome;
 use cc_typing::TypedUnit;
 use std::alloc::Global;
@@ -158,7 +157,7 @@ fn most_words(alloc: Global, unit: &Arc<TypedUnit>) -> Result<bool, Fail> {
 
 #[test]
 fn most_words_of_code(rt: HostRuntime) -> Result<(), Fail> {
-    let unit = shared_unit(rt.alloc(), LONG.as_bytes())?;
+    let unit = typed_unit(rt.alloc(), LONG.as_bytes())?;
     let right = most_words(rt.alloc(), &unit);
     drop(unit);
     assert!(rt; right?);
@@ -209,7 +208,7 @@ fn first_wrong_of_all(
 
 #[test]
 fn branches_near_and_far(rt: HostRuntime) -> Result<(), Fail> {
-    let unit = shared_unit(rt.alloc(), LOOP.as_bytes())?;
+    let unit = typed_unit(rt.alloc(), LOOP.as_bytes())?;
     let wrong = first_wrong_of_all(rt.alloc(), &unit);
     drop(unit);
     let wrong = wrong?;

@@ -3,20 +3,12 @@
 use super::helpers::{Run, image_runs};
 use super::rows::{LONG, QUOTIENTS, WORDS};
 use cc_emit::Piece;
-use cc_link::{CompiledUnit, LinkFault, compile_function, link, link_lent};
+use cc_link::{CompiledUnit, LinkFault, compile_function, link, link_lent, typed_unit};
 use cc_rv32::outcome::MachineOutcome;
-use cc_syntax::parse;
-use cc_typing::{TypedUnit, check};
+use cc_typing::TypedUnit;
 use std::alloc::{AllocError, Global};
 use std::sync::Arc;
 use std::test::Fail;
-
-/// A text's typed unit.
-pub fn shared_unit(alloc: Global, text: &[u8]) -> Result<Arc<TypedUnit>, Fail> {
-    let unit = parse(alloc, text)?;
-    let typed = check(alloc, unit)?;
-    Ok(Arc::new(alloc, typed)?)
-}
 
 /// The piece of the function with this number.
 pub fn piece(alloc: Global, unit: &Arc<TypedUnit>, function: usize) -> Result<Piece, Fail> {
@@ -142,9 +134,9 @@ fn wrong_list(alloc: Global, unit: &Arc<TypedUnit>, pieces: &[Piece]) -> Option<
 #[test]
 fn lists_of_pieces(rt: HostRuntime) -> Result<(), Fail> {
     let alloc = rt.alloc();
-    let unit = shared_unit(alloc, LONG.as_bytes())?;
-    let other = shared_unit(alloc, QUOTIENTS.as_bytes())?;
-    let again = shared_unit(alloc, LONG.as_bytes())?;
+    let unit = typed_unit(alloc, LONG.as_bytes())?;
+    let other = typed_unit(alloc, QUOTIENTS.as_bytes())?;
+    let again = typed_unit(alloc, LONG.as_bytes())?;
     let mut pieces = Vec::new(alloc);
     add_pieces(alloc, &mut pieces, &unit)?;
     add_pieces(alloc, &mut pieces, &other)?;
@@ -160,7 +152,7 @@ fn lists_of_pieces(rt: HostRuntime) -> Result<(), Fail> {
 
 // The unit of 24 locals, its two pieces made and given up in the other order.
 fn reversed(alloc: Global) -> Result<CompiledUnit, Fail> {
-    let unit = shared_unit(alloc, LONG.as_bytes())?;
+    let unit = typed_unit(alloc, LONG.as_bytes())?;
     let mut pieces = Vec::new(alloc);
     pieces.push(piece(alloc, &unit, 1)?)?;
     pieces.push(piece(alloc, &unit, 0)?)?;
@@ -244,7 +236,7 @@ fn wrong_order(
 #[test]
 fn every_order(rt: HostRuntime) -> Result<(), Fail> {
     let alloc = rt.alloc();
-    let unit = shared_unit(alloc, FOUR.as_bytes())?;
+    let unit = typed_unit(alloc, FOUR.as_bytes())?;
     let mut pieces = Vec::new(alloc);
     add_pieces(alloc, &mut pieces, &unit)?;
     let whole = linked(alloc, &unit, pieces.as_slice(), &[0, 1, 2, 3])?;

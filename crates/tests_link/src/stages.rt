@@ -6,9 +6,8 @@
 mod row;
 
 use super::helpers::{Part, text_of};
-use super::orders::shared_unit;
 use super::rows::LONG;
-use cc_link::compile;
+use cc_link::{compile, typed_unit};
 use cc_rv32::listing::list;
 use cc_stages::{StagesFault, stages};
 use row::ROW;
@@ -52,7 +51,7 @@ struct Written {
 }
 
 fn shown(alloc: Global, text: &[u8], function: Option<&[u8]>) -> Result<Written, Fail> {
-    let unit = shared_unit(alloc, text)?;
+    let unit = typed_unit(alloc, text)?;
     let mut written = Vec::new(alloc);
     let number = match stages(alloc, &unit, function, &mut written) {
         Ok(()) => 0,
@@ -291,7 +290,7 @@ fn a_function_with_too_many_nodes(rt: HostRuntime) -> Result<(), Fail> {
 
 #[test]
 fn a_writer_that_fails(rt: HostRuntime) -> Result<(), Fail> {
-    let unit = shared_unit(rt.alloc(), FORMS.as_bytes())?;
+    let unit = typed_unit(rt.alloc(), FORMS.as_bytes())?;
     let mut room = [0u8; 300];
     let mut writer = room.as_mut_slice();
     let told = stages(rt.alloc(), &unit, None, &mut writer);

@@ -1,9 +1,9 @@
 // Units to hand in, passes, and a gate that holds a job.
 
 use cc_emit::Piece;
+use cc_link::typed_unit;
 use cc_pool::{Gate, Pass, Queued};
-use cc_syntax::parse;
-use cc_typing::{TypedUnit, check};
+use cc_typing::TypedUnit;
 use std::alloc::{AllocError, Global};
 use std::sync::Arc;
 use std::sync::atomic::{AtomicU64, Ordering};
@@ -24,9 +24,7 @@ const TURNS: u64 = 20_000_000;
 
 /// A unit of a text.
 pub fn unit(alloc: Global, text: &[u8]) -> Result<Arc<TypedUnit>, Fail> {
-    let unit = parse(alloc, text)?;
-    let unit = check(alloc, unit)?;
-    Ok(Arc::new(alloc, unit)?)
+    Ok(typed_unit(alloc, text)?)
 }
 
 /// A part this many times.

@@ -1,7 +1,7 @@
 // What `check` refuses, and where. Of several faults the first in the text is answered.
 
 use super::helpers::checks;
-use cc_link::{BuildFault, PieceFault};
+use cc_link::PieceFault;
 use cc_program::Fault;
 
 // Texts, and the line that `check` writes for each.
@@ -109,11 +109,11 @@ fn texts(rt: HostRuntime) {
 #[test]
 fn a_function_that_is_not_validated(rt: HostRuntime) {
     let text = b"int f(int x){return x;}int main(void){}".as_slice();
-    let fault = Fault::Build(BuildFault::Piece(PieceFault::Unvalidated {
+    let fault = Fault::Piece(PieceFault::Unvalidated {
         at: 27,
         length: 4,
         label: 7,
-    }));
+    });
     let mut line = Vec::new(rt.alloc());
     let written = fault.write_line(text, &mut line);
     let right = written.is_ok()

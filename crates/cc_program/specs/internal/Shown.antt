@@ -3,7 +3,7 @@ use Rattle.std.specs.Prelude.{ℕ, List}
 use Rattle.cc_stages.specs.Named.{IsDefined}
 use Rattle.cc_program.specs.Answer.{ProgramOf, IsRefused}
 use Rattle.cc_program.specs.declared.fault.Fault.{Fault}
-use Rattle.cc_program.specs.declared.fault.Fault.TheVariants.{Syntax, Typing, Meaning, Build, UnknownFunction, OutOfMemory, Read, Write}
+use Rattle.cc_program.specs.declared.fault.Fault.TheVariants.{Text, Meaning, Piece, Link, UnknownFunction, OutOfMemory, Read, Write}
 
 -- the text is a program that defines no function of this name
 abbrev pub IsUnknown : (text name : List ℕ) → Type 0
@@ -11,10 +11,10 @@ IsUnknown text name = (p : ProgramOf text) × (IsDefined p.program name → ⊥)
 
 -- of a fault of the text it is said that it is one, as of every task; nothing of the others
 abbrev pub IsTextRefused : (text : List ℕ) → Fault → Type 0
-IsTextRefused text (Syntax f) = IsRefused text (Syntax f)
-IsTextRefused text (Typing f) = IsRefused text (Typing f)
+IsTextRefused text (Text f) = IsRefused text (Text f)
 IsTextRefused text (Meaning f) = Unit {0}
-IsTextRefused text (Build f) = Unit {0}
+IsTextRefused text (Piece f) = Unit {0}
+IsTextRefused text (Link f) = Unit {0}
 IsTextRefused text UnknownFunction = Unit {0}
 IsTextRefused text OutOfMemory = Unit {0}
 IsTextRefused text Read = ⊥

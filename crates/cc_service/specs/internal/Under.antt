@@ -8,7 +8,7 @@ use Rattle.cc_history.specs.declared.entry.Receipt.{Receipt}
 use Rattle.cc_history.specs.declared.reply.Reply.TheVariants as reply
 use Rattle.cc_history.specs.History.{Holder, IsAnswered}
 use Rattle.cc_service.specs.declared.fault.ServiceFault.{ServiceFault}
-use Rattle.cc_service.specs.declared.fault.ServiceFault.TheVariants.{Opening, TooManyClients, BadName, Syntax, Typing, Piece, WorkersGone, ImageTooLarge, Book, OutOfMemory}
+use Rattle.cc_service.specs.declared.fault.ServiceFault.TheVariants.{Opening, TooManyClients, BadName, Text, Piece, WorkersGone, ImageTooLarge, Book, OutOfMemory}
 use Rattle.cc_service.specs.Serving.{IsEntered, IsTurnedDown}
 
 -- the answer to a change that is this one
@@ -18,8 +18,7 @@ MakesAnswers command old new (Err (Book f)) = IsTurnedDown (λ c. c ≡ command)
 MakesAnswers command old new (Err (Opening f)) = ⊥
 MakesAnswers command old new (Err TooManyClients) = ⊥
 MakesAnswers command old new (Err BadName) = ⊥
-MakesAnswers command old new (Err (Syntax f)) = ⊥
-MakesAnswers command old new (Err (Typing f)) = ⊥
+MakesAnswers command old new (Err (Text f)) = ⊥
 MakesAnswers command old new (Err (Piece function f)) = ⊥
 MakesAnswers command old new (Err WorkersGone) = ⊥
 MakesAnswers command old new (Err ImageTooLarge) = ⊥

@@ -9,14 +9,11 @@ use cc_core::sequence::Sequence;
 use cc_core::state::State;
 use cc_emit::Piece;
 use cc_library::Name;
-use cc_link::compile_function;
+use cc_link::{compile_function, typed_unit};
 use cc_rv32::image::Image;
 use cc_rv32::machine::Machine;
 use cc_rv32::outcome::MachineOutcome;
-use cc_syntax::parse;
-use cc_typing::check;
 use std::alloc::{AllocError, Global};
-use std::sync::Arc;
 use std::test::Fail;
 
 /// What happens, by plain numbers: clients and workers by theirs, a piece by its function's, a name by its one letter.
@@ -53,8 +50,7 @@ fn submit(client: u64, request: Request) -> Event<Piece> {
 
 // The piece of a source's function with this number.
 fn compiled(alloc: Global, source: &str, function: usize) -> Result<Piece, Fail> {
-    let parsed = parse(alloc, source.as_bytes())?;
-    let unit = Arc::new(alloc, check(alloc, parsed)?)?;
+    let unit = typed_unit(alloc, source.as_bytes())?;
     if function >= unit.functions() {
         return Err(Fail::from("no such function"));
     }

@@ -8,10 +8,10 @@ use Rattle.cc_link.specs.declared.audit_answer.Audit.TheVariants.{Confirmed}
 use Rattle.cc_link.proofs.Confirming.{confirmed}
 use Rattle.cc_link.proofs.auditing.audit.Goals as goal
 
-pub returns-then-same : goal.returns-then-same
-returns-then-same c =
+pub returns-then-is_of : goal.returns-then-is_of
+returns-then-is_of c =
     let made : StoredUnit = c.in-Some-2.made in
     let bytes = c.in-Some.certificate.now in
-    let same = sym c.stored.ensures.answer ∙ sym c.deref.ensures ∙ c.if-same.ensures.0 refl in
+    let same = sym c.stored.ensures.answer ∙ sym c.deref.ensures ∙ c.if-is_of.ensures.0 refl in
     subst (λ (o : Option (Bor (List ℕ))). AuditSays c.args.source.now (option_map (λ (b : Bor (List ℕ)). b.now) o) c.args.image.now Confirmed) (sym c.in-Some.is)
     (confirmed c.made_units_are_certified.ensures made c.args.source.now bytes c.args.image.now same c.stored.ensures.agrees c.stored.ensures.made)

@@ -4,5 +4,5 @@ use Rattle.cc_ast.specs.Erase.{object_tree}
 use Rattle.cc_link.proofs.Packing.{elements_are_bytes}
 use Rattle.cc_link.proofs.globals.add_object.Goals as goal
 
-pub add_packed-added-requires : goal.add_packed-added-requires
-add_packed-added-requires c = grind (arith, common_steps, elements_are_bytes (object_tree c.args.tree.now))
+pub add_packed-requires : goal.add_packed-requires
+add_packed-requires c = grind (arith, common_steps, elements_are_bytes (object_tree c.args.tree.now))

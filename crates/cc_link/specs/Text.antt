@@ -1,0 +1,44 @@
+-- Which text is a program's, and why another is not.
+use Rattle.std.specs.Prelude.{◌≡◌, ◌≤◌, ℕ, ◌⊎◌, List, length, Option}
+use Rattle.cc_tokens.specs.declared.place.Place.{Place}
+use Rattle.cc_tokens.specs.Fault as tokens
+use Rattle.cc_tokens.specs.Tokens.{most_bytes}
+use Rattle.cc_ast.specs.Tree.{External}
+use Rattle.cc_ast.specs.Parse.{SpellsText, IsParseRefusal}
+use Rattle.cc_typing.specs.declared.fault.TypeFault.{TypeFault}
+use Rattle.cc_typing.specs.declared.fault.TypeFault.TheVariants as typing
+use Rattle.cc_typing.specs.Fault as typed
+use Rattle.cc_typing.specs.Typed.{IsTyped, IsWithinLimits, IsTypeRefusal}
+use Rattle.cc_typing.specs.Verdict.{source_with}
+use Rattle.cc_link.specs.declared.text.TextFault.{TextFault}
+use Rattle.cc_link.specs.declared.text.TextFault.TheVariants.{Syntax, Typing}
+
+-- ---- the numbers and the places of the faults
+
+abbrev pub text_fault_number : TextFault → ℕ
+text_fault_number (Syntax f) = tokens.fault_number f
+text_fault_number (Typing f) = typed.fault_number f
+
+abbrev pub text_fault_place : TextFault → Option Place
+text_fault_place (Syntax f) = tokens.fault_place f
+text_fault_place (Typing f) = typed.fault_place f
+
+-- ---- a program's text
+
+-- the tree of a text, which breaks no rule and passes no limit
+pub record IsProgramText (text : List ℕ) (tree : List External) : Type 0 where
+  pub spelled : SpellsText text tree
+  pub typed : IsTyped tree
+  pub limits : IsWithinLimits tree
+
+-- the text spells a tree that is refused
+pub record IsRefusedTree (text : List ℕ) (fault : TypeFault) : Type 0 where
+  pub tree : List External
+  pub fits : length text ≤ most_bytes
+  pub spelled : SpellsText text tree
+  pub refused : IsTypeRefusal (source_with text tree) fault
+
+-- why a text is no program's: 1 to 7 and 11 to 21 exactly as `parse` and then `check` have them, 40 set aside
+abbrev pub IsTextRefusal : List ℕ → TextFault → Type 0
+IsTextRefusal text (Syntax f) = IsParseRefusal text f
+IsTextRefusal text (Typing f) = (f ≡ typing.OutOfMemory) ⊎ IsRefusedTree text f
