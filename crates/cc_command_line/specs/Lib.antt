@@ -1,2 +1,2 @@
 -- What the program may be asked to do.
-pub mod Task
+pub mod Work

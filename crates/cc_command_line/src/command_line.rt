@@ -1,19 +1,18 @@
 // The command line.
 
 ghost use Rattle.std.specs.Prelude.{◌≤◌, IfOk};
-ghost use Rattle.cc_command_line.specs.Task.{IsWithinLimits, IsAllowed};
+ghost use Rattle.cc_task.specs.Task.{IsWithinLimits};
+ghost use Rattle.cc_command_line.specs.Work.{IsAllowed};
 
 use crate::library::{Session, library_command, library_of};
 use crate::numbers::number_in;
 use crate::spool::{Client, Server, serve_command, serve_of, submit_command, submit_of};
 use crate::unit::{Wanted, image_command, image_of, source_command, source_of};
+use cc_task::{MOST_STEPS, Task};
 use clap::error::ErrorKind;
 use clap::{Arg, ArgAction, ArgMatches, Command, Error};
 use std::alloc::{AllocError, Global};
 use std::convert::AsStr;
-
-/// The largest number of steps or instructions that the command line takes.
-pub const MOST_STEPS: u64 = 1_000_000_000;
 
 const STEPS_RULE: &str = "STEPS is a decimal number from 0 to 1000000000";
 
@@ -69,21 +68,6 @@ pub enum Work {
     Serve(Server),
     /// Leave a script in a folder, and wait for its answer.
     Submit(Client),
-}
-
-/// What the program is asked to do with the text on standard input.
-#[derive(Drop)]
-pub enum Task {
-    /// Say whether the text is a program of the profile.
-    Check,
-    /// Run the program for at most this many steps on these input words.
-    Interpret(u64, Vec<u32>),
-    /// Compile the program and run its image for at most this many instructions on these input words.
-    Run(u64, Vec<u32>),
-    /// Compile the program and list its image.
-    Asm,
-    /// Compile the program and write its image as Intel HEX.
-    Image,
 }
 
 // What is said of a command that runs a program: its name, what it does, its bound, and an example.

@@ -1,9 +1,9 @@
 //! The command line of the program: which words ask for what.
 //!
-//! It stands on `clap` alone and knows nothing of the language, so it is proved beside the crates that do. `command_line` reads it,
-//! `library` has the command for a library, `unit` those that take something out of one, `spool` those of a server and its clients,
-//! `numbers` the numbers. Hands out `read_request`, `line`, `Work` with what each work needs (`Task`, `Wanted`, `Session`, `Server`,
-//! `Client`) and the limits, and the definitions that their contracts name (`specs/`).
+//! It stands on `clap` and `cc_task` alone and knows nothing of the language, so it is proved beside the crates that do. `command_line`
+//! reads it, `library` has the command for a library, `unit` those that take something out of one, `spool` those of a server and its
+//! clients, `numbers` the numbers. Hands out `read_request`, `line`, `Work` with what each work needs (`Task` of `cc_task`, `Wanted`,
+//! `Session`, `Server`, `Client`) and the limits, and the definitions that their contracts name (`specs/`).
 #![tactic(auto)]
 
 mod command_line;
@@ -12,7 +12,7 @@ mod numbers;
 mod spool;
 mod unit;
 
-pub use command_line::{MOST_STEPS, Request, Task, Work, line, read_request, refused_bytes};
+pub use command_line::{Request, Work, line, read_request, refused_bytes};
 pub use library::{LEAST_AREA, MOST_AREA, MOST_WORKERS, Session};
 pub use spool::{Client, MOST_CLIENTS, MOST_DAYS, MOST_WAIT, Server};
-pub use unit::{Part, Wanted};
+pub use unit::Wanted;

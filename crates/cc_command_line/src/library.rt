@@ -1,7 +1,7 @@
 // The command `library`.
 
 ghost use Rattle.std.specs.Prelude.{◌≤◌, IfOk, IfSome};
-ghost use Rattle.cc_command_line.specs.Task.{IsAllowed};
+ghost use Rattle.cc_command_line.specs.Work.{IsAllowed};
 
 use crate::command_line::Work;
 use crate::numbers::number_in;

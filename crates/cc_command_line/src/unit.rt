@@ -1,10 +1,11 @@
 // The commands `image` and `source`: what is taken out of a library. `image` without a library is a task for a text.
 
 ghost use Rattle.std.specs.Prelude.{IfOk};
-ghost use Rattle.cc_command_line.specs.Task.{IsAllowed};
+ghost use Rattle.cc_command_line.specs.Work.{IsAllowed};
 
-use crate::command_line::{Task, Work};
+use crate::command_line::Work;
 use crate::library::{PATH_RULE, path_of};
+use cc_task::{Part, Task};
 use clap::error::ErrorKind;
 use clap::{Arg, ArgMatches, Command, Error};
 use std::alloc::{AllocError, Global};
@@ -42,15 +43,6 @@ pub struct Wanted {
     pub name: String,
     /// Which part is wanted.
     pub part: Part,
-}
-
-/// A part of a unit.
-#[derive(Clone, Copy, Debug, Drop, PartialEq, Eq)]
-pub enum Part {
-    /// Its image, as Intel HEX.
-    Image,
-    /// Its source, to the byte.
-    Source,
 }
 
 // The word that says which file, and the one that says which unit.

@@ -12,8 +12,8 @@ use Rattle.cc_link.specs.Agree.{Agree}
 use Rattle.cc_link.specs.Compile.{IsBuildRefusal}
 use Rattle.cc_link.specs.Text.{IsProgramText, IsTextRefusal}
 use Rattle.cc_link.specs.declared.build_fault.BuildFault.TheVariants as build
-use Rattle.cc_command_line.specs.declared.command_line.Task.{Task}
-use Rattle.cc_command_line.specs.declared.command_line.Task.TheVariants.{Check, Interpret, Run, Asm, Image as ImageTask}
+use Rattle.cc_task.specs.declared.task.Task.{Task}
+use Rattle.cc_task.specs.declared.task.Task.TheVariants.{Check, Interpret, Run, Asm, Image as ImageTask}
 use Rattle.cc_program.specs.declared.answer.Answer.{Answer}
 use Rattle.cc_program.specs.declared.answer.Answer.TheVariants.{Accepted, Ran, Executed, Listed, Image as InHex}
 use Rattle.cc_program.specs.declared.fault.Fault.{Fault}

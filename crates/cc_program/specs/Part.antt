@@ -7,8 +7,8 @@ use Rattle.cc_library.specs.Name.{is_name}
 use Rattle.cc_library.specs.Recovered.{Recovers}
 use Rattle.cc_library.specs.Answers.{OpenFaults}
 use Rattle.cc_library.specs.Fault.{fault_number}
-use Rattle.cc_command_line.specs.declared.unit.Part.{Part}
-use Rattle.cc_command_line.specs.declared.unit.Part.TheVariants.{Image, Source}
+use Rattle.cc_task.specs.declared.part.Part.{Part}
+use Rattle.cc_task.specs.declared.part.Part.TheVariants.{Image, Source}
 use Rattle.cc_program.specs.Answer.{IsHex}
 use Rattle.cc_program.specs.declared.part.PartFault.{PartFault}
 use Rattle.cc_program.specs.declared.part.PartFault.TheVariants.{BadName, Absent, Library, OutOfMemory}

@@ -5,7 +5,6 @@ ghost use Rattle.cc_link.specs.Agree.{Agree};
 ghost use Rattle.cc_program.specs.Answer.{IsAccepted, IsRan, IsRunOf, IsExecuted, IsListed, IsImage, Answers, IsRefused};
 
 use super::fault::Fault;
-use cc_command_line::Task;
 use cc_hex::image::write;
 use cc_link::{BuildFault, CompiledUnit, compile, typed_unit};
 use cc_meaning::{Outcome, interpret};
@@ -13,6 +12,7 @@ use cc_rv32::image::Image;
 use cc_rv32::listing::list;
 use cc_rv32::machine::Machine;
 use cc_rv32::outcome::MachineOutcome;
+use cc_task::Task;
 use std::alloc::{AllocError, Global};
 
 /// What a task answers, before it is written.

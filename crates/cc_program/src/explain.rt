@@ -1,11 +1,11 @@
 // What is told to a person beside the answer: of a fault, and of a run that went wrong.
 
 use super::fault::Fault;
-use cc_command_line::Task;
 use cc_diagnostic::{Diagnostic, further_of_typing, of_name, of_syntax, of_typing, warnings};
 use cc_link::{LinkFault, PieceFault, TextFault};
 use cc_meaning::Cause;
 use cc_run_diagnostic::of_wrong;
+use cc_task::Task;
 use std::alloc::{AllocError, Global};
 use std::io::{self, Write};
 

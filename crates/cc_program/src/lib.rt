@@ -2,8 +2,7 @@
 //!
 //! `source` reads the text, `answer` has the answer to a task for a text, `work` does a task, `stages` shows what the compiler makes of a
 //! text, `part` takes a part of a unit out of a library, `fault` has every refusal with its line, `explain` and `unknown` what a person is
-//! told beside it. Which words ask for which task is the matter of `cc_command_line`, what a text means that of the crates of the
-//! language.
+//! told beside it. Which tasks there are is the matter of `cc_task`, what a text means that of the crates of the language.
 //! Hands out `answer_for`, `run_image`, `perform`, `perform_and_explain`, the same of stages, `part_in`, `take_out`, their types, what writes
 //! an answer and a fault's line and what explains a fault of a function, and the definitions that the contracts name (`specs/`).
 #![tactic(auto)]

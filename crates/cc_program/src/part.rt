@@ -6,10 +6,10 @@ ghost use Rattle.cc_disk.specs.Images.{OnlyReads};
 ghost use Rattle.cc_program.specs.Part.{IsPart, IsPartIn, IsNoPartIn, IsPartOn, IsNoPartOn, part_fault_number};
 
 use super::unknown::explain_unknown;
-use cc_command_line::Part;
 use cc_disk::Disk;
 use cc_hex::image::write;
 use cc_library::{Library, LibraryFault, Name, UnitMap};
+use cc_task::Part;
 use cc_unit::StoredUnit;
 use std::alloc::{AllocError, Global};
 use std::io::{self, Write};

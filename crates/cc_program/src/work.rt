@@ -6,9 +6,9 @@ use super::answer::{Answer, answer_for};
 use super::explain::{explain_fault, explain_program, explain_wrong};
 use super::fault::Fault;
 use super::source::read_source;
-use cc_command_line::Task;
 use cc_meaning::{Cause, Outcome, Stop};
 use cc_rv32::outcome::MachineOutcome;
+use cc_task::Task;
 use std::alloc::Global;
 use std::io::{self, Read, Write};
 

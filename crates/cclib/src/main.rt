@@ -4,7 +4,7 @@
 // `serving`, its clients that of `submitting`, what a person is told that of `telling`, what the stack needs that of `stack`.
 #![tactic(auto)]
 
-ghost use Rattle.cc_command_line.specs.Task.{IsAllowed};
+ghost use Rattle.cc_command_line.specs.Work.{IsAllowed};
 
 mod device;
 mod filing;
@@ -14,8 +14,9 @@ mod submitting;
 mod taking;
 mod telling;
 
-use cc_command_line::{Request, Task, Work, read_request, refused_bytes};
+use cc_command_line::{Request, Work, read_request, refused_bytes};
 use cc_program::{Fault, perform, perform_and_explain, perform_and_explain_stages, perform_stages};
+use cc_task::Task;
 use clap::Error;
 use clap::error::ErrorKind;
 use filing::library;

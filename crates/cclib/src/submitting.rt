@@ -7,11 +7,12 @@ ghost use Rattle.cc_script.specs.declared.command.Dialect.TheVariants.{Served};
 ghost use Rattle.cclib.specs.Sent.{asks_source, has_source, is_whole};
 
 use crate::telling::{Persons, Telling};
-use cc_command_line::{Client, Task};
+use cc_command_line::Client;
 use cc_program::perform_and_explain;
 use cc_script::{Command, Dialect, ScriptFault, command_of};
 use cc_session::{explain_words, words_of};
 use cc_spool::{Layout, SpoolFault, Submission, fault_lines, source_in, submit};
+use cc_task::Task;
 use std::alloc::{AllocError, Global};
 use std::io::{self, BufWriter, Input, Print, Read, Write};
 

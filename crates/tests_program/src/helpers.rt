@@ -1,7 +1,7 @@
 // What a task writes for a text, and texts made of parts.
 
-use cc_command_line::Task;
 use cc_program::perform;
+use cc_task::Task;
 use std::alloc::{AllocError, Global};
 
 /// Whether a task writes these lines for a text, with this status.

@@ -1,7 +1,7 @@
 // Programs that are compiled: what their images write and how they end, the text of an image, and texts without an image.
 
 use super::helpers::{has_no_image, runs, writes};
-use cc_command_line::Task;
+use cc_task::Task;
 
 // Small programs, the instructions of each run, what its image writes on no input and how it ends.
 static IMAGES: [(&str, u64, &str); 10] = [

@@ -1,12 +1,12 @@
 // What is taken out of a library: a unit's image as Intel HEX, its source to the byte, and what is refused. The units are made by hand, so that what
 // was stored is what comes, and not what the compiler makes of a source. The lines of HEX were worked by hand.
 
-use cc_command_line::Part;
 use cc_disk::{Disk, FuseDisk, FuseMode, MemoryDisk};
 use cc_journal::{Journal, format};
 use cc_library::{Library, Name};
 use cc_program::take_out;
 use cc_rv32::image::{Code, Globals, Image};
+use cc_task::Part;
 use cc_unit::{Source, StoredUnit};
 use std::alloc::Global;
 use std::io::{self, ErrorKind, Write};

@@ -1,8 +1,8 @@
 // Small programs, what they write and how they end.
 
 use super::helpers::{checks, interprets, writes};
-use cc_command_line::Task;
 use cc_program::perform;
+use cc_task::Task;
 use std::alloc::{AllocError, Global};
 
 // Small programs, the steps of each run, what it writes on no input and how it ends.

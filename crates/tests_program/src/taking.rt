@@ -1,7 +1,8 @@
 // The command lines of what is shown of a text, and of what is taken out of a library.
 
 use crate::words::is_refused;
-use cc_command_line::{Part, Task, Wanted, Work, line};
+use cc_command_line::{Wanted, Work, line};
+use cc_task::{Part, Task};
 use std::alloc::Global;
 
 // Command lines that show functions, and the one that each names.

@@ -1,6 +1,7 @@
 // The command line.
 
-use cc_command_line::{Request, Session, Task, Work, line, read_request, refused_bytes};
+use cc_command_line::{Request, Session, Work, line, read_request, refused_bytes};
+use cc_task::Task;
 use std::alloc::Global;
 
 fn asks_to_check(alloc: Global, words: &'static [&'static str]) -> bool {

@@ -1,20 +1,8 @@
 -- What the program may be asked to do.
 use Rattle.std.specs.Prelude.{◌≤◌, ℕ, Option, Some, None}
-use Rattle.cc_command_line.specs.declared.command_line.Task.{Task}
-use Rattle.cc_command_line.specs.declared.command_line.Task.TheVariants.{Check, Interpret, Run, Asm, Image}
+use Rattle.cc_task.specs.Task.{IsWithinLimits}
 use Rattle.cc_command_line.specs.declared.command_line.Work.{Work}
 use Rattle.cc_command_line.specs.declared.command_line.Work.TheVariants.{One, Stages, TakeOut, Library, Serve, Submit}
-
--- how many steps a run may take, or instructions
-abbrev pub most_steps : ℕ
-most_steps = 1000000000
-
-abbrev pub IsWithinLimits : Task → Type 0
-IsWithinLimits Check = Unit {0}
-IsWithinLimits (Interpret steps words) = steps ≤ most_steps
-IsWithinLimits (Run steps words) = steps ≤ most_steps
-IsWithinLimits Asm = Unit {0}
-IsWithinLimits Image = Unit {0}
 
 -- how many bytes an area may have, where one is to be made
 abbrev pub IsArea : Option ℕ → Type 0

@@ -1,0 +1,2 @@
+-- What the program may be asked to do with a text.
+pub mod Task
