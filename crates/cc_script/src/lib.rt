@@ -1,14 +1,17 @@
 //! The script of a session: which lines it has, what each asks for, and the sources that stand between them.
 //!
-//! `command` is what a line asks for, in a session's script or in one that is left for a server; `script` reads lines and sources from a
-//! reader; `fault` is why a script or a line of it is refused.
-//! It knows nothing of libraries and services. Hands out `command_of`, `Command`, `Dialect`, `Script`, `Next`, `ScriptFault` and the limits.
+//! `command` is what a line asks for, in a session's script or in one that is left for a server; `commands` lists what lines may ask for,
+//! for a person; `script` reads lines and sources from a reader; `fault` is why a script or a line of it is refused.
+//! It knows nothing of libraries and services. Hands out `command_of`, `Command`, `Dialect`, `COMMANDS`, `Script`, `Next`, `ScriptFault`
+//! and the limits.
 #![tactic(auto)]
 
 mod command;
+mod commands;
 mod fault;
 mod script;
 
 pub use command::{Command, Dialect, MOST_STEPS, command_of};
+pub use commands::{COMMANDS, PLAIN_COMMANDS};
 pub use fault::ScriptFault;
 pub use script::{LINE_BYTES, MOST_BYTES, Next, Script};
