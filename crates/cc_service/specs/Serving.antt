@@ -19,6 +19,8 @@ use Rattle.cc_recorded.specs.Answers.{IsNotClosed}
 use Rattle.cc_service.specs.Compiling.{IsCompileRefusal, IsProgram}
 use Rattle.cc_recorded.specs.declared.fault.BookFault.{BookFault}
 use Rattle.cc_recorded.specs.declared.fault.BookFault.TheVariants as book
+use Rattle.cc_service.specs.declared.service.Put.{Put}
+use Rattle.cc_service.specs.declared.service.Put.TheVariants as put
 use Rattle.cc_service.specs.declared.fault.ServiceFault.{ServiceFault}
 use Rattle.cc_service.specs.declared.fault.ServiceFault.TheVariants.{Opening, BadName, Text, Piece, WorkersGone, ImageTooLarge, Book, OutOfMemory}
 
@@ -37,6 +39,11 @@ Adds name source _ = ⊥
 abbrev pub Replaces : (name source : List ℕ) → Command → Type 0
 Replaces name source (Replace n unit) = (n ≡ name) × IsOf source unit
 Replaces name source _ = ⊥
+
+-- one or the other
+abbrev pub Puts : Put → (name source : List ℕ) → Command → Type 0
+Puts put.Add = Adds
+Puts put.Replace = Replaces
 
 -- the name's unit goes
 abbrev pub Withdraws : (name : List ℕ) → Command → Type 0

@@ -1,5 +1,5 @@
 // The service.
-ghost use Rattle.std.specs.Prelude.{◌≡◌, ◌≤◌, [], IsTrue, IfErr, IfOk, map};
+ghost use Rattle.std.specs.Prelude.{◌≡◌, ◌≤◌, ℕ, List, [], IsTrue, IfErr, IfOk, map};
 ghost use Rattle.cc_disk.specs.Images.{OnlyReads};
 ghost use Rattle.cc_library.specs.Apply.{Units};
 ghost use Rattle.cc_library.specs.Recovered.{Recovers};
@@ -8,7 +8,7 @@ ghost use Rattle.cc_service.specs.Client.{holders};
 ghost use Rattle.cc_service.specs.Compiling.{HasSentFor};
 ghost use Rattle.cc_recorded.specs.Promise.{IsGivenUp, IsSound};
 ghost use Rattle.cc_recorded.specs.Since.{IsPast};
-ghost use Rattle.cc_service.specs.Serving.{Adds, GetAnswers, IsNotCompacted, IsNotEnded, IsNotOpened, IsTurnedAway, ListAnswers, PutAnswers, Replaces, WithdrawAnswers};
+ghost use Rattle.cc_service.specs.Serving.{Adds, GetAnswers, IsNotCompacted, IsNotEnded, IsNotOpened, IsOf, IsTurnedAway, ListAnswers, PutAnswers, Puts, Replaces, WithdrawAnswers};
 ghost use Rattle.cc_recorded.specs.Answers.{IsLook};
 ghost use Rattle.cc_service.specs.internal.Under.{IsSeen, MakesAnswers};
 ghost use Rattle.cc_recorded.specs.declared.fault.BookFault.{BookFault};
@@ -24,11 +24,31 @@ use crate::named::{Fresh, Named};
 use cc_disk::Disk;
 use cc_history::{Asked, Command, Receipt};
 use cc_library::Name;
+use cc_link::CompiledUnit;
 use cc_pool::{Gate, Pool, PoolFault};
 use cc_recorded::{Book, BookFault};
 use std::alloc::Global;
 use std::sync::{Mutex, Wait};
 use std::thread::Threads;
+
+/// How a unit is put under a name.
+#[derive(Clone, Copy, Debug, Drop, PartialEq, Eq)]
+pub enum Put {
+    /// The name has none yet.
+    Add,
+    /// In place of the one that the name has.
+    Replace,
+}
+
+// The change that puts a unit under a name.
+fn change_of(put: Put, name: Name, unit: CompiledUnit) -> Command
+    ensures { (source : List ℕ) → IsOf source unit → Puts put name source result }
+{
+    match put {
+        Put::Add => Command::Add(name, unit),
+        Put::Replace => Command::Replace(name, unit),
+    }
+}
 
 /// A library for many clients on threads of their own. Workers compile function by function; changes are committed one at a time, under
 /// the book's lock.
@@ -116,11 +136,34 @@ impl<N: Named + Send + Sync + 'static, D: Disk> Service<N, D> {
         }
     }
 
-    /// Compiles a text and adds its unit under a name that has none.
+    /// Compiles a text and puts its unit under a name: one that has none, or in place of the unit that it has.
     ///
     /// Refusals, in this order: 33; 7, 1 to 6, 11 to 21 of the text; of the first function of which no piece came 22 or 24, where a
-    /// worker refused it, else 41; 25; then under the lock 36, 39, 31, 34, 35. 40 where memory ran out. Of these 31 has a receipt; the
-    /// others leave number and receipts of the client as they were, and its pass may have sent some of the functions.
+    /// worker refused it, else 41; 25; then under the lock 36, 39, 31 of `Add` and 32 of `Replace`, 34, 35. 40 where memory ran out. Of
+    /// these 31 and 32 have a receipt; the others leave number and receipts of the client as they were, and its pass may have sent some of
+    /// the functions.
+    pub fn put<R: Wait>(
+        &self,
+        rt: &R,
+        alloc: Global,
+        client: &mut Client<N>,
+        put: Put,
+        name: &[u8],
+        source: &[u8],
+    ) -> Result<Receipt, ServiceFault>
+        ensures answers { PutAnswers (Puts put name.now source.now) name.now source.now client.old.holder client.new.holder result }
+        ensures sent { HasSentFor source.now client.old.sent client.new.sent }
+    {
+        let Ok(name) = Name::new(name) else {
+            return Err(ServiceFault::BadName);
+        };
+        match compiled(rt, alloc, &self.pool, &mut client.pass, source) {
+            Ok(unit) => self.change(rt, alloc, client, change_of(put, name, unit)),
+            Err(fault) => Err(fault),
+        }
+    }
+
+    /// Compiles a text and adds its unit under a name that has none: `put` with `Add`.
     pub fn add<R: Wait>(
         &self,
         rt: &R,
@@ -132,18 +175,10 @@ impl<N: Named + Send + Sync + 'static, D: Disk> Service<N, D> {
         ensures answers { PutAnswers (Adds name.now source.now) name.now source.now client.old.holder client.new.holder result }
         ensures sent { HasSentFor source.now client.old.sent client.new.sent }
     {
-        let Ok(name) = Name::new(name) else {
-            return Err(ServiceFault::BadName);
-        };
-        match compiled(rt, alloc, &self.pool, &mut client.pass, source) {
-            Ok(unit) => self.change(rt, alloc, client, Command::Add(name, unit)),
-            Err(fault) => Err(fault),
-        }
+        self.put(rt, alloc, client, Put::Add, name, source)
     }
 
-    /// Compiles a text and puts its unit in place of that of a name.
-    ///
-    /// Refusals as `add` has them, with 32 in place of 31.
+    /// Compiles a text and puts its unit in place of that of a name: `put` with `Replace`.
     pub fn replace<R: Wait>(
         &self,
         rt: &R,
@@ -155,13 +190,7 @@ impl<N: Named + Send + Sync + 'static, D: Disk> Service<N, D> {
         ensures answers { PutAnswers (Replaces name.now source.now) name.now source.now client.old.holder client.new.holder result }
         ensures sent { HasSentFor source.now client.old.sent client.new.sent }
     {
-        let Ok(name) = Name::new(name) else {
-            return Err(ServiceFault::BadName);
-        };
-        match compiled(rt, alloc, &self.pool, &mut client.pass, source) {
-            Ok(unit) => self.change(rt, alloc, client, Command::Replace(name, unit)),
-            Err(fault) => Err(fault),
-        }
+        self.put(rt, alloc, client, Put::Replace, name, source)
     }
 
     /// Takes the unit of a name out.
