@@ -4,8 +4,8 @@ use Rattle.cc_ast.specs.Tree.{Source}
 use Rattle.cc_semantics.specs.Meaning.{source_behavior}
 use Rattle.cc_meaning.specs.Erase.{outcome_tree}
 use Rattle.cc_rv32.specs.declared.image.Image.{Image}
-use Rattle.cc_rv32.specs.Machine.{machine_behavior}
 use Rattle.cc_rv32.specs.Listing.{listing}
+use Rattle.cc_answers.specs.Run.{IsRunOf}
 use Rattle.cc_hex.specs.Contents.{Holds, Says}
 use Rattle.cc_hex.specs.Layout.{image_text}
 use Rattle.cc_link.specs.Agree.{Agree}
@@ -35,14 +35,10 @@ abbrev pub IsRan : (steps : ℕ) → (words text : List ℕ) → Answer → Type
 IsRan steps words text (Ran o) = (p : ProgramOf text) × (outcome_tree o ≡ source_behavior p.program words steps)
 IsRan steps words text answer = ⊥
 
--- what an image does on the input words within this many instructions
-abbrev pub IsRunOf : Image → (steps : ℕ) → (words : List ℕ) → Answer → Type 0
-IsRunOf image steps words (Executed output outcome) = machine_behavior image words steps ≡ record { outcome = outcome; output = output.items }
-IsRunOf image steps words answer = ⊥
-
 -- what `run` answers: what an image that agrees with the text does
 abbrev pub IsExecuted : (steps : ℕ) → (words text : List ℕ) → Answer → Type 0
-IsExecuted steps words text answer = (image : Image) × Agree text image × IsRunOf image steps words answer
+IsExecuted steps words text (Executed done) = (image : Image) × Agree text image × IsRunOf image steps words done
+IsExecuted steps words text answer = ⊥
 
 -- what `asm` answers: the listing of an image that agrees with the text
 abbrev pub IsListed : (text : List ℕ) → Answer → Type 0

@@ -1,5 +1,4 @@
 -- What only private contracts speak of.
-pub mod Pieces
 pub mod Stages
 -- Why the stages of a text's functions are not shown.
 pub mod Shown

@@ -2,18 +2,16 @@
 
 ghost use Rattle.std.specs.Prelude.{IfOk, IfErr};
 ghost use Rattle.cc_link.specs.Agree.{Agree};
-ghost use Rattle.cc_program.specs.Answer.{IsAccepted, IsRan, IsRunOf, IsExecuted, IsListed, IsImage, Answers, IsRefused};
+ghost use Rattle.cc_program.specs.Answer.{IsAccepted, IsRan, IsExecuted, IsListed, IsImage, Answers, IsRefused};
 
 use super::fault::Fault;
+use cc_answers::{ImageRun, run_image};
 use cc_hex::image::write;
 use cc_link::{BuildFault, CompiledUnit, compile, typed_unit};
 use cc_meaning::{Outcome, interpret};
-use cc_rv32::image::Image;
 use cc_rv32::listing::list;
-use cc_rv32::machine::Machine;
-use cc_rv32::outcome::MachineOutcome;
 use cc_task::Task;
-use std::alloc::{AllocError, Global};
+use std::alloc::Global;
 
 /// What a task answers, before it is written.
 #[derive(Drop)]
@@ -23,7 +21,7 @@ pub enum Answer {
     /// What the program does.
     Ran(Outcome),
     /// What the program's image has written, and what its run has come to.
-    Executed(Vec<u32>, MachineOutcome),
+    Executed(ImageRun),
     /// The listing of the program's image.
     Listed(Vec<u8>),
     /// The program's image as Intel HEX.
@@ -69,27 +67,6 @@ fn compiled(alloc: Global, text: &[u8]) -> Result<CompiledUnit, Fault>
     }
 }
 
-/// What an image does on the input words within this many instructions. `AllocError` where memory was refused as it ran.
-pub fn run_image(
-    alloc: Global,
-    image: &Image,
-    words: &[u32],
-    steps: u64,
-) -> Result<Answer, AllocError>
-    ensures { IfOk result (λ answer. IsRunOf image.now steps words.now answer) }
-{
-    let Ok(mut machine) = Machine::new(alloc, image, words) else {
-        return Err(AllocError);
-    };
-    let Ok(outcome) = machine.run(steps) else {
-        return Err(AllocError);
-    };
-    match Vec::from_slice(alloc, machine.output()) {
-        Ok(output) => Ok(Answer::Executed(output, outcome)),
-        Err(_) => Err(AllocError),
-    }
-}
-
 // What the program's image does on the input words. 40 where memory was refused as it ran.
 fn executed(alloc: Global, text: &[u8], words: &[u32], steps: u64) -> Result<Answer, Fault>
     ensures answer { IfOk result (λ answer. IsExecuted steps words.now text.now answer) }
@@ -100,7 +77,7 @@ fn executed(alloc: Global, text: &[u8], words: &[u32], steps: u64) -> Result<Ans
         Err(fault) => return Err(fault),
     };
     match run_image(alloc, &unit.stored().image, words, steps) {
-        Ok(answer) => Ok(answer),
+        Ok(run) => Ok(Answer::Executed(run)),
         Err(_) => Err(Fault::OutOfMemory),
     }
 }

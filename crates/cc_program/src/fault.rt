@@ -2,13 +2,12 @@
 
 ghost use Rattle.std.specs.Prelude.{◌≡◌};
 ghost use Rattle.cc_program.specs.Fault.{fault_number, fault_place};
-ghost use Rattle.cc_program.specs.internal.Pieces.{function_fault};
 
+use cc_answers::{Stands, write_fault_line};
 use cc_link::{LinkFault, PieceFault, TextFault};
 use cc_meaning::MeaningFault;
 use cc_tokens::Place;
 use std::alloc::AllocError;
-use std::fmt::Display;
 use std::io::{self, Write};
 use thiserror::Error;
 
@@ -80,59 +79,22 @@ impl Fault {
         }
     }
 
-    /// The fault of a function, where it is one.
-    fn of_function(&self) -> Option<PieceFault>
-        ensures { result ≡ function_fault self.now }
-    {
+    /// Where in the text the fault stands, for what is told of it there.
+    pub(crate) fn stands(&self) -> Stands<'_> {
         match self {
-            Fault::Piece(fault) => Some(*fault),
-            _ => None,
+            Fault::Text(fault) => Stands::Text(fault),
+            Fault::Piece(fault) => Stands::Function(*fault),
+            Fault::Link(_)
+            | Fault::Meaning(_)
+            | Fault::UnknownFunction
+            | Fault::OutOfMemory
+            | Fault::Read
+            | Fault::Write => Stands::Nowhere,
         }
     }
 
     /// Writes the fault's line for the text that has it, as `write_fault_line` does.
     pub fn write_line<W: Write>(&self, text: &[u8], writer: &mut W) -> io::Result<()> {
-        write_fault_line(
-            self.number(),
-            self,
-            self.place(),
-            self.of_function(),
-            text,
-            writer,
-        )
+        write_fault_line(self.number(), self, self.stands(), text, writer)
     }
-}
-
-/// Writes the line of a fault for the text that has it: its number and its name; where it stands in the text its place, for example
-/// `fault 5 Unexpected at 1:25`; where it is one of a function that one's name, for example `fault 22 FunctionTooLarge in main`.
-pub fn write_fault_line<F: Display, W: Write>(
-    number: u32,
-    fault: &F,
-    place: Option<Place>,
-    function: Option<PieceFault>,
-    text: &[u8],
-    writer: &mut W,
-) -> io::Result<()> {
-    if let Some(Place { line, column }) = place {
-        return writeln!(writer, "fault {number} {fault} at {line}:{column}");
-    }
-    write!(writer, "fault {number} {fault}")?;
-    match function {
-        Some(PieceFault::FunctionTooLarge { at, length }) => {
-            write_name(text, at, length, writer)?;
-        }
-        Some(PieceFault::Unvalidated { at, length, label }) => {
-            write_name(text, at, length, writer)?;
-            write!(writer, " at label {label}")?;
-        }
-        Some(PieceFault::OutOfMemory) | None => {}
-    }
-    writeln!(writer)
-}
-
-// In which function a fault is: the name of this many bytes that begins there in the text.
-fn write_name<W: Write>(text: &[u8], at: usize, length: usize, writer: &mut W) -> io::Result<()> {
-    writer.write_all(b" in ")?;
-    let rest = text.get(at..).unwrap_or(b"");
-    writer.write_all(rest.get(..length).unwrap_or(rest))
 }

@@ -3,8 +3,9 @@
 //! `source` reads the text, `answer` has the answer to a task for a text, `work` does a task, `stages` shows what the compiler makes of a
 //! text, `part` takes a part of a unit out of a library, `fault` has every refusal with its line, `explain` and `unknown` what a person is
 //! told beside it. Which tasks there are is the matter of `cc_task`, what a text means that of the crates of the language.
-//! Hands out `answer_for`, `run_image`, `perform`, `perform_and_explain`, the same of stages, `part_in`, `take_out`, their types, what writes
-//! an answer and a fault's line and what explains a fault of a function, and the definitions that the contracts name (`specs/`).
+//! What is written and told of an answer and of a fault is that of `cc_answers`.
+//! Hands out `answer_for`, `perform`, `perform_and_explain`, the same of stages, `part_in`, `take_out`, their types, and the definitions
+//! that the contracts name (`specs/`).
 #![tactic(auto)]
 
 mod answer;
@@ -16,9 +17,8 @@ mod stages;
 mod unknown;
 mod work;
 
-pub use answer::{Answer, answer_for, run_image};
-pub use explain::{of_piece, write_told};
-pub use fault::{Fault, write_fault_line};
+pub use answer::{Answer, answer_for};
+pub use fault::Fault;
 pub use part::{PartFault, part_in, take_out};
 pub use stages::{perform_and_explain_stages, perform_stages};
-pub use work::{perform, perform_and_explain, write_answer};
+pub use work::{perform, perform_and_explain};

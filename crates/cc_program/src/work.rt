@@ -6,8 +6,8 @@ use super::answer::{Answer, answer_for};
 use super::explain::{explain_fault, explain_program, explain_wrong};
 use super::fault::Fault;
 use super::source::read_source;
+use cc_answers::write_run;
 use cc_meaning::{Cause, Outcome, Stop};
-use cc_rv32::outcome::MachineOutcome;
 use cc_task::Task;
 use std::alloc::Global;
 use std::io::{self, Read, Write};
@@ -36,23 +36,12 @@ fn write_outcome<W: Write>(outcome: &Outcome, writer: &mut W) -> io::Result<()> 
     write_stop(outcome.stop, writer)
 }
 
-fn write_run<W: Write>(output: &[u32], outcome: MachineOutcome, writer: &mut W) -> io::Result<()> {
-    for word in output {
-        writeln!(writer, "{}", word.cast_signed())?;
-    }
-    match outcome {
-        MachineOutcome::Going => writeln!(writer, "going"),
-        MachineOutcome::Exited(word) => writeln!(writer, "exited {}", word.cast_signed()),
-        MachineOutcome::Trapped => writeln!(writer, "trapped"),
-    }
-}
-
-/// Writes an answer, and flushes the writer.
-pub fn write_answer<W: Write>(answer: &Answer, writer: &mut W) -> io::Result<()> {
+// Writes an answer, and flushes the writer.
+fn write_answer<W: Write>(answer: &Answer, writer: &mut W) -> io::Result<()> {
     match answer {
         Answer::Accepted => writeln!(writer, "ok")?,
         Answer::Ran(outcome) => write_outcome(outcome, writer)?,
-        Answer::Executed(output, outcome) => write_run(output.as_slice(), *outcome, writer)?,
+        Answer::Executed(run) => write_run(run, writer)?,
         Answer::Listed(lines) | Answer::Image(lines) => writer.write_all(lines.as_slice())?,
     }
     writer.flush()
@@ -65,7 +54,7 @@ fn cause_of(answer: &Answer) -> Option<Cause> {
             Stop::Wrong(cause) => Some(cause),
             Stop::Going | Stop::Ended(_) => None,
         },
-        Answer::Accepted | Answer::Executed(_, _) | Answer::Listed(_) | Answer::Image(_) => None,
+        Answer::Accepted | Answer::Executed(_) | Answer::Listed(_) | Answer::Image(_) => None,
     }
 }
 

@@ -1,5 +1,5 @@
 -- What a line asks for is what was called.
-use Rattle.std.proofs.Common.{◌≡◌, List, ℕ, Option, Result, subst}
+use Rattle.std.proofs.Common.{◌≡◌, List, ℕ, Option, Result, refl, subst}
 use Rattle.std.specs.Prelude.{IfErr}
 use Rattle.cc_script.specs.Line.{Asked}
 use Rattle.cc_script.specs.Reading.{Ahead}
@@ -8,7 +8,7 @@ use Rattle.cc_script.specs.declared.fault.ScriptFault.TheVariants.{WriteFault}
 use Rattle.cc_history.specs.History.{Holder}
 use Rattle.cc_session.specs.Playing.{IsCutShort, Obeys}
 use Rattle.cc_session.specs.internal.Steps.{IsDone}
-use Rattle.cc_session.proofs.Playing.{between_map, between_same, done_of}
+use Rattle.cc_session.proofs.Playing.{between_none, done_of}
 
 -- a step of what is asked
 pub obeyed_as : {T : Type 0} (answer : Result T ScriptFault) (asked wanted : Option Asked) (x z : Ahead) (old new : Holder) → wanted ≡ asked
@@ -17,10 +17,10 @@ obeyed_as answer asked wanted x z old new same it =
     subst (λ (it : Option Asked). IsDone (λ b a o n. Obeys it b a o n) (λ rest. IsCutShort it rest) x z old new answer) same it
 
 -- calls, behind whose line no source stands
-pub called_as : {T : Type 0} (answer : Result T ScriptFault) (asked wanted : Option Asked) (x z : Ahead) (old new : Holder) (Called : Type 0)
-    → wanted ≡ asked → IfErr answer (λ fault. fault ≡ WriteFault) → z ≡ x → Called → ((b a : List ℕ) → ((a ≡ b) × Called) → Obeys wanted b a old new)
-    → IsDone (λ b a o n. Obeys asked b a o n) (λ rest. IsCutShort asked rest) x z old new answer
-called_as answer asked wanted x z old new Called same unwritten rest called gives =
-    obeyed_as answer asked wanted x z old new same
-    (done_of answer (λ b a o n. Obeys wanted b a o n) (λ rest. IsCutShort wanted rest) x z old new unwritten
-    (between_map x z (λ b a. (a ≡ b) × Called) (λ b a. Obeys wanted b a old new) (between_same x z Called rest called) gives))
+pub called_as : {T : Type 0} (answer : Result T ScriptFault) (asked wanted : Option Asked) (x : Ahead) (old new : Holder) (Called : Type 0)
+    → wanted ≡ asked → IfErr answer (λ fault. fault ≡ WriteFault) → Called → ((b a : List ℕ) → ((a ≡ b) × Called) → Obeys wanted b a old new)
+    → IsDone (λ b a o n. Obeys asked b a o n) (λ rest. IsCutShort asked rest) x x old new answer
+called_as answer asked wanted x old new Called same unwritten called gives =
+    obeyed_as answer asked wanted x x old new same
+    (done_of answer (λ b a o n. Obeys wanted b a o n) (λ rest. IsCutShort wanted rest) x x old new unwritten
+    (between_none x (λ b a. Obeys wanted b a old new) (λ b. gives b b (refl, called))))

@@ -15,7 +15,7 @@ use Rattle.cc_script.specs.declared.script.Next.TheVariants.{End, Line, TooLong}
 use Rattle.cc_history.specs.History.{Holder}
 use Rattle.cc_session.specs.Playing.{IsPlayed, IsPlayedInPart, IsStep, IsWithin, Obeys, Plays, Turn, asked_by_line}
 use Rattle.cc_session.specs.internal.Steps.{HasSent, IsDone, IsNotDone, IsSentAs, IsShortOf}
-use Rattle.cc_session.specs.declared.talk.Sent.{Sent}
+use Rattle.cc_session.specs.declared.reading.Sent.{Sent}
 
 -- ---- from step to step
 
@@ -61,9 +61,6 @@ read_same (Some b) n Q it = record { taken = []; prefix = refl; counted = omega 
 -- nothing was read
 pub between_none : (x : Ahead) (Q : List ℕ → List ℕ → Type 0) → ((b : List ℕ) → Q b b) → Between x x Q
 between_none x Q it = read_same x.rest x.left Q it
-
-pub between_same : (x y : Ahead) (Q : Type 0) → y ≡ x → Q → Between x y (λ b a. (a ≡ b) × Q)
-between_same x y Q same it = subst (λ (o : Ahead). Between x o (λ b a. (a ≡ b) × Q)) (sym same) (between_none x (λ b a. (a ≡ b) × Q) (λ b. (refl, it)))
 
 -- what is known before follows from what is known after
 read_by : (x y : Option (List ℕ)) (n m : ℕ) (P : List ℕ → List ℕ → Type 0) (Q S : List ℕ → Type 0) → Known x y (IsRead n m P) → IfSome y Q → ((b c : List ℕ) → P b c → Q c → S b) → IfSome x S

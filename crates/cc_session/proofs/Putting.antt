@@ -1,5 +1,5 @@
 -- A line with a source behind it is a step.
-use Rattle.std.proofs.Common.{◌≡◌, ◌∙◌, ℕ, List, [], ◌∷◌, ◌++◌, Result, Vec, Global, refl, sym, subst, arith, inl, inr}
+use Rattle.std.proofs.Common.{◌≡◌, ◌∙◌, ℕ, List, [], ◌∷◌, ◌++◌, Result, Vec, Global, refl, subst, arith, inl, inr}
 use Rattle.std.specs.Prelude.{◌⊎◌, ◌≢◌, IfErr, OnOk}
 use Rattle.std.proofs.lemmas.List.Elements.{All-cons, All-nil}
 use Rattle.cc_script.specs.Reading.{Ahead, Between, IsLine, IsNotRead}
@@ -10,24 +10,23 @@ use Rattle.cc_history.specs.History.{Holder}
 use Rattle.cc_service.specs.Serving.{PutAnswers}
 use Rattle.cc_session.specs.Playing.{Calls, IsSent}
 use Rattle.cc_session.specs.internal.Steps.{HasSent, IsDone, IsShortOf}
-use Rattle.cc_session.specs.declared.talk.Sent.TheVariants.{NoRoom, Source, Unended}
+use Rattle.cc_session.specs.declared.reading.Sent.TheVariants.{NoRoom, Source, Unended}
 use Rattle.cc_session.proofs.Playing.{between_map, done_of, line_behind, skipped}
 
 -- a source that was handed to the service
 pub put_step : {T : Type 0} (answer : Result T ScriptFault) (Asks : (name source : List ℕ) → Command → Type 0) (name : List ℕ) (bytes : Vec ℕ Global) (sent : List ℕ) → sent ≡ bytes.items
-    → (count : ℕ) (x y z : Ahead) (old new : Holder) → Between x y (λ b a. HasSent b count (Source bytes) a)
-    → IfErr answer (λ fault. fault ≡ WriteFault) → z ≡ y → Calls (PutAnswers (Asks name sent) name sent old new)
-    → IsDone (λ b a o n. IsSent Asks name count b a o n) (IsShortOf count) x z old new answer
-put_step answer Asks name bytes sent same count x y z old new read unwritten rest called =
-    done_of answer (λ b a o n. IsSent Asks name count b a o n) (IsShortOf count) x z old new unwritten
-    (subst (λ (o : Ahead). Between x o (λ b a. IsSent Asks name count b a old new)) (sym rest)
+    → (count : ℕ) (x y : Ahead) (old new : Holder) → Between x y (λ b a. HasSent b count (Source bytes) a)
+    → IfErr answer (λ fault. fault ≡ WriteFault) → Calls (PutAnswers (Asks name sent) name sent old new)
+    → IsDone (λ b a o n. IsSent Asks name count b a o n) (IsShortOf count) x y old new answer
+put_step answer Asks name bytes sent same count x y old new read unwritten called =
+    done_of answer (λ b a o n. IsSent Asks name count b a o n) (IsShortOf count) x y old new unwritten
     (between_map x y (λ b a. HasSent b count (Source bytes) a) (λ b a. IsSent Asks name count b a old new) read (λ b a it. record {
       source = it.0;
       rest = it.1;
       prefix = it.2;
       count_is = it.3;
       called = inl (it.4, inl (subst (λ (k : List ℕ). Calls (PutAnswers (Asks name k) name k old new)) (same ∙ it.5) called));
-    })))
+    }))
 
 -- one behind which another byte stands than a newline
 pub skip_step : {T : Type 0} (answer : Result T ScriptFault) (Asks : (name source : List ℕ) → Command → Type 0) (name : List ℕ) (count : ℕ) (x y z : Ahead) (left : ℕ) (h : Holder)
@@ -48,16 +47,15 @@ skip_step answer Asks name count x y z left h read skips why =
     })
 
 -- one for which there was no room
-pub unsent_step : {T : Type 0} (answer : Result T ScriptFault) (Asks : (name source : List ℕ) → Command → Type 0) (name : List ℕ) (count : ℕ) (x y z : Ahead) (h : Holder)
-    → Between x y (λ b a. HasSent b count NoRoom a) → IfErr answer (λ fault. fault ≡ WriteFault) → z ≡ y
-    → IsDone (λ b a o n. IsSent Asks name count b a o n) (IsShortOf count) x z h h answer
-unsent_step answer Asks name count x y z h read unwritten rest =
-    done_of answer (λ b a o n. IsSent Asks name count b a o n) (IsShortOf count) x z h h unwritten
-    (subst (λ (o : Ahead). Between x o (λ b a. IsSent Asks name count b a h h)) (sym rest)
+pub unsent_step : {T : Type 0} (answer : Result T ScriptFault) (Asks : (name source : List ℕ) → Command → Type 0) (name : List ℕ) (count : ℕ) (x y : Ahead) (h : Holder)
+    → Between x y (λ b a. HasSent b count NoRoom a) → IfErr answer (λ fault. fault ≡ WriteFault)
+    → IsDone (λ b a o n. IsSent Asks name count b a o n) (IsShortOf count) x y h h answer
+unsent_step answer Asks name count x y h read unwritten =
+    done_of answer (λ b a o n. IsSent Asks name count b a o n) (IsShortOf count) x y h h unwritten
     (between_map x y (λ b a. HasSent b count NoRoom a) (λ b a. IsSent Asks name count b a h h) read (λ b a it. record {
       source = it.0;
       rest = it.1;
       prefix = it.2;
       count_is = it.3;
       called = inl (it.4, inr refl);
-    })))
+    }))

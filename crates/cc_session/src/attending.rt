@@ -6,7 +6,8 @@ ghost use Rattle.cc_session.specs.internal.Ends.{EndOf};
 
 use crate::bounds::Meter;
 use crate::calls::Caller;
-use crate::talk::Talk;
+use crate::reading::Reading;
+use cc_answers::Teller;
 use cc_disk::Disk;
 use cc_script::{Dialect, ScriptFault};
 use cc_service::{Client, Named, Service};
@@ -42,11 +43,15 @@ where
     D: Disk,
     ensures { IsPlayedBy dialect most (R.remaining reader.old) client.old.holder client.new.holder result }
 {
-    let mut talk = Talk::new(reader, writer, explanations);
+    let mut script = Reading::new(reader);
+    let mut teller = Teller {
+        answers: writer,
+        explanations,
+    };
     let caller = Caller { rt, alloc, service };
-    match caller.play(client, &mut talk, dialect, most) {
+    match caller.play(client, &mut script, &mut teller, dialect, most) {
         Ok(()) => Ok(()),
-        Err(fault) => match talk.tell_fault(fault) {
+        Err(fault) => match teller.tell_fault(fault) {
             Ok(()) => Err(fault),
             Err(unwritten) => Err(unwritten),
         },

@@ -1,21 +1,23 @@
 // The commands of a script, done by one client.
 
 ghost use Rattle.std.specs.Prelude.{◌≡◌, Option, Ok, IsTrue, false, IfErr, IfOk};
+ghost use Rattle.cc_answers.specs.Telling.{Tells};
 ghost use Rattle.cc_script.specs.Line.{asked_of};
-ghost use Rattle.cc_script.specs.declared.fault.ScriptFault.TheVariants.{WriteFault};
 ghost use Rattle.cc_history.specs.declared.entry.Receipt.{Receipt};
-ghost use Rattle.cc_service.specs.Serving.{Adds, GetAnswers, ListAnswers, PutAnswers, Replaces, WithdrawAnswers};
+ghost use Rattle.cc_service.specs.Serving.{GetAnswers, ListAnswers, PutAnswers, Puts, WithdrawAnswers};
 ghost use Rattle.cc_session.specs.Playing.{Audits, Calls, FetchesEach, IsCutShort, IsPlayedBy, IsSent, Obeys};
-ghost use Rattle.cc_session.specs.internal.Steps.{IsDone, IsShortOf, asking};
+ghost use Rattle.cc_session.specs.internal.Steps.{IsDone, IsShortOf};
 
 use crate::auditing::audit_found;
-use crate::showing::{Part, text_of};
-use crate::talk::{Sent, Talk};
+use crate::reading::{Reading, Sent};
+use crate::showing::text_of;
+use crate::telling::{refuse, tell_change, tell_done};
+use cc_answers::{Teller, run_image};
 use cc_disk::Disk;
 use cc_library::Name;
-use cc_program::run_image;
 use cc_script::{Command, Dialect, LINE_BYTES, MOST_BYTES, Next, ScriptFault, command_of};
-use cc_service::{Client, Found, Named, Service};
+use cc_service::{Client, Found, Named, Put, Service};
+use cc_task::Part;
 use std::alloc::Global;
 use std::io::{Read, Write};
 use std::sync::Wait;
@@ -29,254 +31,198 @@ pub(crate) struct Caller<'a, N: Named, H, D: Disk> {
 }
 
 impl<'a, N: Named + Send + Sync + 'static, H: Wait, D: Disk> Caller<'a, N, H, D> {
-    fn add<R: Read, W: Write, E: Write>(
+    // Adds or replaces a unit, whose source this is.
+    fn change<W: Write, E: Write>(
         &self,
         client: &mut Client<N>,
-        talk: &mut Talk<R, W, E>,
+        teller: &mut Teller<W, E>,
+        put: Put,
         name: &[u8],
         source: &[u8],
     ) -> Result<(), ScriptFault>
-        ensures ending { IfErr result (λ fault. fault ≡ WriteFault) }
-        ensures rest { talk.new ≡ talk.old }
-        ensures called { Calls (PutAnswers (Adds name.now source.now) name.now source.now client.old.holder client.new.holder) }
-    {
-        let answer = self.service.add(self.rt, self.alloc, client, name, source);
-        let told = talk.tell_change(self.alloc, &answer, source);
-        drop(answer);
-        told
-    }
-
-    fn replace<R: Read, W: Write, E: Write>(
-        &self,
-        client: &mut Client<N>,
-        talk: &mut Talk<R, W, E>,
-        name: &[u8],
-        source: &[u8],
-    ) -> Result<(), ScriptFault>
-        ensures ending { IfErr result (λ fault. fault ≡ WriteFault) }
-        ensures rest { talk.new ≡ talk.old }
-        ensures called { Calls (PutAnswers (Replaces name.now source.now) name.now source.now client.old.holder client.new.holder) }
+        ensures told { Tells result }
+        ensures called { Calls (PutAnswers (Puts put name.now source.now) name.now source.now client.old.holder client.new.holder) }
     {
         let answer = self
             .service
-            .replace(self.rt, self.alloc, client, name, source);
-        let told = talk.tell_change(self.alloc, &answer, source);
-        drop(answer);
-        told
+            .put(self.rt, self.alloc, client, put, name, source);
+        tell_change(self.alloc, teller, answer, source)
     }
 
     // Adds or replaces a unit whose source comes next.
     fn put<R: Read, W: Write, E: Write>(
         &self,
         client: &mut Client<N>,
-        talk: &mut Talk<R, W, E>,
+        script: &mut Reading<R>,
+        teller: &mut Teller<W, E>,
+        put: Put,
         name: &[u8],
         length: usize,
-        is_new: bool,
     ) -> Result<(), ScriptFault>
-        ensures { IsDone (λ before after old new. IsSent (asking is_new) name.now length before after old new) (IsShortOf length) talk.old talk.new
+        ensures { IsDone (λ before after old new. IsSent (Puts put) name.now length before after old new) (IsShortOf length) script.old script.new
             client.old.holder client.new.holder result }
     {
-        match talk.source(self.alloc, length)? {
-            Sent::Source(source) => {
-                let told = if is_new {
-                    self.add(client, talk, name, source.as_slice())
-                } else {
-                    self.replace(client, talk, name, source.as_slice())
-                };
-                drop(source);
-                told
-            }
-            Sent::NoRoom => talk.tell_no_memory(self.alloc),
-            Sent::Unended => talk.refuse_and_skip(),
+        match script.source(self.alloc, length)? {
+            Sent::Source(source) => self.change(client, teller, put, name, source.as_slice()),
+            Sent::NoRoom => teller.tell_no_memory(),
+            Sent::Unended => script.refuse_and_skip(teller),
         }
     }
 
-    fn withdraw<R: Read, W: Write, E: Write>(
+    fn withdraw<W: Write, E: Write>(
         &self,
         client: &mut Client<N>,
-        talk: &mut Talk<R, W, E>,
+        teller: &mut Teller<W, E>,
         name: &[u8],
     ) -> Result<(), ScriptFault>
-        ensures ending { IfErr result (λ fault. fault ≡ WriteFault) }
-        ensures rest { talk.new ≡ talk.old }
+        ensures told { Tells result }
         ensures called { Calls (WithdrawAnswers name.now client.old.holder client.new.holder) }
     {
         let answer = self.service.withdraw(self.rt, self.alloc, client, name);
-        let told = talk.tell_change(self.alloc, &answer, &[]);
-        drop(answer);
-        told
+        tell_change(self.alloc, teller, answer, &[])
     }
 
-    fn list<R: Read, W: Write, E: Write>(
+    fn list<W: Write, E: Write>(
         &self,
         client: &mut Client<N>,
-        talk: &mut Talk<R, W, E>,
+        teller: &mut Teller<W, E>,
     ) -> Result<(), ScriptFault>
-        ensures ending { IfErr result (λ fault. fault ≡ WriteFault) }
-        ensures rest { talk.new ≡ talk.old }
+        ensures told { Tells result }
         ensures called { Calls (ListAnswers client.old.holder client.new.holder) }
     {
-        let answer = self.service.list(self.rt, self.alloc, client);
-        let told = match &answer {
-            Ok(listing) => talk.tell_names(listing),
-            Err(fault) => talk.tell_refusal(self.alloc, fault, &[]),
-        };
-        drop(answer);
-        told
-    }
-
-    // Runs the image of a unit that was found.
-    fn run_found<R: Read, W: Write, E: Write>(
-        &self,
-        talk: &mut Talk<R, W, E>,
-        found: &Found,
-        steps: u64,
-    ) -> Result<(), ScriptFault>
-        ensures ending { IfErr result (λ fault. fault ≡ WriteFault) }
-        ensures rest { talk.new ≡ talk.old }
-    {
-        let answer = run_image(self.alloc, &found.unit().stored().image, &[], steps);
-        let told = talk.tell_run(self.alloc, &answer);
-        drop(answer);
-        told
-    }
-
-    // Runs the image of a name's unit.
-    fn run<R: Read, W: Write, E: Write>(
-        &self,
-        client: &mut Client<N>,
-        talk: &mut Talk<R, W, E>,
-        name: &[u8],
-        steps: u64,
-    ) -> Result<(), ScriptFault>
-        ensures ending { IfErr result (λ fault. fault ≡ WriteFault) }
-        ensures rest { talk.new ≡ talk.old }
-        ensures called { Calls (GetAnswers name.now client.old.holder client.new.holder) }
-    {
-        let answer = self.service.get(self.rt, self.alloc, client, name);
-        let told = match &answer {
-            Ok(found) => self.run_found(talk, found, steps),
-            Err(fault) => talk.tell_refusal(self.alloc, fault, &[]),
-        };
-        drop(answer);
-        told
-    }
-
-    // Tells what is told of a name's unit.
-    fn show<R: Read, W: Write, E: Write>(
-        &self,
-        client: &mut Client<N>,
-        talk: &mut Talk<R, W, E>,
-        name: &[u8],
-        part: Part,
-    ) -> Result<(), ScriptFault>
-        ensures ending { IfErr result (λ fault. fault ≡ WriteFault) }
-        ensures rest { talk.new ≡ talk.old }
-        ensures called { Calls (GetAnswers name.now client.old.holder client.new.holder) }
-    {
-        let answer = self.service.get(self.rt, self.alloc, client, name);
-        let told = match &answer {
-            Ok(found) => self.show_found(talk, found, part),
-            Err(fault) => talk.tell_refusal(self.alloc, fault, &[]),
-        };
-        drop(answer);
-        told
-    }
-
-    // Tells this of a unit that was found.
-    fn show_found<R: Read, W: Write, E: Write>(
-        &self,
-        talk: &mut Talk<R, W, E>,
-        found: &Found,
-        part: Part,
-    ) -> Result<(), ScriptFault>
-        ensures ending { IfErr result (λ fault. fault ≡ WriteFault) }
-        ensures rest { talk.new ≡ talk.old }
-    {
-        match text_of(self.alloc, found, part) {
-            Ok(text) => {
-                let told = talk.tell_text(text.as_slice());
-                drop(text);
-                told
+        match self.service.list(self.rt, self.alloc, client) {
+            Ok(listing) => {
+                teller.tell_names(listing.names().as_slice(), listing.receipt().number)
             }
-            Err(_) => talk.tell_no_memory(self.alloc),
+            Err(fault) => refuse(self.alloc, teller, fault, &[]),
         }
     }
 
-    fn compact<R: Read, W: Write, E: Write>(
+    // Runs the image of a unit that was found.
+    fn run_found<W: Write, E: Write>(
         &self,
-        talk: &mut Talk<R, W, E>,
+        teller: &mut Teller<W, E>,
+        found: Found,
+        steps: u64,
     ) -> Result<(), ScriptFault>
-        ensures ending { IfErr result (λ fault. fault ≡ WriteFault) }
-        ensures rest { talk.new ≡ talk.old }
+        ensures { Tells result }
+    {
+        match run_image(self.alloc, &found.unit().stored().image, &[], steps) {
+            Ok(run) => teller.tell_run(&run),
+            Err(_) => teller.tell_no_memory(),
+        }
+    }
+
+    // Runs the image of a name's unit.
+    fn run<W: Write, E: Write>(
+        &self,
+        client: &mut Client<N>,
+        teller: &mut Teller<W, E>,
+        name: &[u8],
+        steps: u64,
+    ) -> Result<(), ScriptFault>
+        ensures told { Tells result }
+        ensures called { Calls (GetAnswers name.now client.old.holder client.new.holder) }
+    {
+        match self.service.get(self.rt, self.alloc, client, name) {
+            Ok(found) => self.run_found(teller, found, steps),
+            Err(fault) => refuse(self.alloc, teller, fault, &[]),
+        }
+    }
+
+    // Tells this part of a name's unit.
+    fn show<W: Write, E: Write>(
+        &self,
+        client: &mut Client<N>,
+        teller: &mut Teller<W, E>,
+        name: &[u8],
+        part: Part,
+    ) -> Result<(), ScriptFault>
+        ensures told { Tells result }
+        ensures called { Calls (GetAnswers name.now client.old.holder client.new.holder) }
+    {
+        match self.service.get(self.rt, self.alloc, client, name) {
+            Ok(found) => self.show_found(teller, found, part),
+            Err(fault) => refuse(self.alloc, teller, fault, &[]),
+        }
+    }
+
+    // Tells this part of a unit that was found.
+    fn show_found<W: Write, E: Write>(
+        &self,
+        teller: &mut Teller<W, E>,
+        found: Found,
+        part: Part,
+    ) -> Result<(), ScriptFault>
+        ensures { Tells result }
+    {
+        match text_of(self.alloc, &found, part) {
+            Ok(text) => teller.tell_text(text.as_slice()),
+            Err(_) => teller.tell_no_memory(),
+        }
+    }
+
+    fn compact<W: Write, E: Write>(&self, teller: &mut Teller<W, E>) -> Result<(), ScriptFault>
+        ensures { Tells result }
     {
         let answer = self.service.compact(self.rt, self.alloc);
-        let told = talk.tell_done(self.alloc, &answer);
-        drop(answer);
-        told
+        tell_done(self.alloc, teller, answer)
     }
 
     // Tells what an audit says of a unit that was found, or that memory ran out in it: whether it said anything.
-    fn tell_audit<R: Read, W: Write, E: Write>(
+    fn tell_audit<W: Write, E: Write>(
         &self,
-        talk: &mut Talk<R, W, E>,
+        teller: &mut Teller<W, E>,
         name: &[u8],
-        found: &Found,
+        found: Found,
     ) -> Result<bool, ScriptFault>
-        ensures ending { IfErr result (λ fault. fault ≡ WriteFault) }
-        ensures rest { talk.new ≡ talk.old }
+        ensures { Tells result }
     {
-        match audit_found(self.alloc, found) {
+        match audit_found(self.alloc, &found) {
             Ok(audit) => {
-                talk.tell_audit(name, audit)?;
+                teller.tell_audit(name, audit)?;
                 Ok(true)
             }
             Err(_) => {
-                talk.tell_no_memory(self.alloc)?;
+                teller.tell_no_memory()?;
                 Ok(false)
             }
         }
     }
 
     // Audits the unit of a name: whether it was found and the audit said anything.
-    fn audit_name<R: Read, W: Write, E: Write>(
+    fn audit_name<W: Write, E: Write>(
         &self,
         client: &mut Client<N>,
-        talk: &mut Talk<R, W, E>,
+        teller: &mut Teller<W, E>,
         name: &[u8],
     ) -> Result<bool, ScriptFault>
-        ensures ending { IfErr result (λ fault. fault ≡ WriteFault) }
-        ensures rest { talk.new ≡ talk.old }
+        ensures told { Tells result }
         ensures called { Calls (GetAnswers name.now client.old.holder client.new.holder) }
         ensures found { IfOk result (λ is_audited. IsTrue is_audited → (receipt : Receipt) × GetAnswers name.now client.old.holder client.new.holder (Ok receipt)) }
     {
-        let answer = self.service.get(self.rt, self.alloc, client, name);
-        let told = match &answer {
-            Ok(found) => self.tell_audit(talk, name, found),
-            Err(fault) => match talk.tell_refusal(self.alloc, fault, &[]) {
+        match self.service.get(self.rt, self.alloc, client, name) {
+            Ok(found) => self.tell_audit(teller, name, found),
+            Err(fault) => match refuse(self.alloc, teller, fault, &[]) {
                 Ok(()) => Ok(false),
                 Err(fault) => Err(fault),
             },
-        };
-        drop(answer);
-        told
+        }
     }
 
     // Audits the units of these names, up to the first that is not found or whose audit says nothing: whether none was.
-    fn audit_names<R: Read, W: Write, E: Write>(
+    fn audit_names<W: Write, E: Write>(
         &self,
         client: &mut Client<N>,
-        talk: &mut Talk<R, W, E>,
+        teller: &mut Teller<W, E>,
         names: &[Name],
     ) -> Result<bool, ScriptFault>
-        ensures ending { IfErr result (λ fault. fault ≡ WriteFault) }
-        ensures rest { talk.new ≡ talk.old }
+        ensures told { Tells result }
         ensures whole { IfOk result (λ all. FetchesEach names.now all client.old.holder client.new.holder) }
         ensures part { IfErr result (λ fault. FetchesEach names.now false client.old.holder client.new.holder) }
     {
         for name in names {
-            if !self.audit_name(client, talk, name.bytes())? {
+            if !self.audit_name(client, teller, name.bytes())? {
                 return Ok(false);
             }
         }
@@ -284,50 +230,51 @@ impl<'a, N: Named + Send + Sync + 'static, H: Wait, D: Disk> Caller<'a, N, H, D>
     }
 
     // Audits all units.
-    fn audit<R: Read, W: Write, E: Write>(
+    fn audit<W: Write, E: Write>(
         &self,
         client: &mut Client<N>,
-        talk: &mut Talk<R, W, E>,
+        teller: &mut Teller<W, E>,
     ) -> Result<(), ScriptFault>
-        ensures ending { IfErr result (λ fault. fault ≡ WriteFault) }
-        ensures rest { talk.new ≡ talk.old }
+        ensures told { Tells result }
         ensures called { Audits client.old.holder client.new.holder }
     {
-        let answer = self.service.list(self.rt, self.alloc, client);
-        let told = match &answer {
-            Ok(listing) => match self.audit_names(client, talk, listing.names().as_slice()) {
-                Ok(true) => talk.tell_ok(),
+        match self.service.list(self.rt, self.alloc, client) {
+            Ok(listing) => match self.audit_names(client, teller, listing.names().as_slice()) {
+                Ok(true) => teller.tell_ok(),
                 Ok(false) => Ok(()),
                 Err(fault) => Err(fault),
             },
-            Err(fault) => talk.tell_refusal(self.alloc, fault, &[]),
-        };
-        drop(answer);
-        told
+            Err(fault) => refuse(self.alloc, teller, fault, &[]),
+        }
     }
 
     // Does what a line of a script asks for.
     fn obey<R: Read, W: Write, E: Write>(
         &self,
         client: &mut Client<N>,
-        talk: &mut Talk<R, W, E>,
+        script: &mut Reading<R>,
+        teller: &mut Teller<W, E>,
         dialect: Dialect,
         line: &[u8],
     ) -> Result<(), ScriptFault>
         ensures { IsDone (λ before after old new. Obeys (asked_of dialect line.now) before after old new) (λ rest. IsCutShort (asked_of dialect line.now) rest)
-            talk.old talk.new client.old.holder client.new.holder result }
+            script.old script.new client.old.holder client.new.holder result }
     {
         match command_of(dialect, line) {
-            Some(Command::Add { name, length }) => self.put(client, talk, name, length, true),
-            Some(Command::Replace { name, length }) => self.put(client, talk, name, length, false),
-            Some(Command::Withdraw { name }) => self.withdraw(client, talk, name),
-            Some(Command::List) => self.list(client, talk),
-            Some(Command::Run { name, steps }) => self.run(client, talk, name, steps),
-            Some(Command::Compact) => self.compact(talk),
-            Some(Command::Audit) => self.audit(client, talk),
-            Some(Command::Image { name }) => self.show(client, talk, name, Part::Image),
-            Some(Command::Source { name }) => self.show(client, talk, name, Part::Source),
-            None => talk.refuse_line(),
+            Some(Command::Add { name, length }) => {
+                self.put(client, script, teller, Put::Add, name, length)
+            }
+            Some(Command::Replace { name, length }) => {
+                self.put(client, script, teller, Put::Replace, name, length)
+            }
+            Some(Command::Withdraw { name }) => self.withdraw(client, teller, name),
+            Some(Command::List) => self.list(client, teller),
+            Some(Command::Run { name, steps }) => self.run(client, teller, name, steps),
+            Some(Command::Compact) => self.compact(teller),
+            Some(Command::Audit) => self.audit(client, teller),
+            Some(Command::Image { name }) => self.show(client, teller, name, Part::Image),
+            Some(Command::Source { name }) => self.show(client, teller, name, Part::Source),
+            None => teller.tell_fault(ScriptFault::BadLine),
         }
     }
 
@@ -335,19 +282,22 @@ impl<'a, N: Named + Send + Sync + 'static, H: Wait, D: Disk> Caller<'a, N, H, D>
     pub(crate) fn play<R: Read, W: Write, E: Write>(
         &self,
         client: &mut Client<N>,
-        talk: &mut Talk<R, W, E>,
+        script: &mut Reading<R>,
+        teller: &mut Teller<W, E>,
         dialect: Dialect,
         most: Option<usize>,
     ) -> Result<(), ScriptFault>
-        requires { talk.old.left ≡ 16777216 }
-        ensures { IsPlayedBy dialect most talk.old.rest client.old.holder client.new.holder result }
+        requires { script.old.left ≡ 16777216 }
+        ensures { IsPlayedBy dialect most script.old.rest client.old.holder client.new.holder result }
     {
         let mut line = [0u8; LINE_BYTES];
         // Each line but the last takes a byte at least.
         for lines in 0..=MOST_BYTES {
-            match talk.next_line(&mut line, most, lines)? {
-                Next::Line(length) => self.obey(client, talk, dialect, &line[..length])?,
-                Next::TooLong => talk.refuse_and_skip()?,
+            match script.next_line(&mut line, most, lines)? {
+                Next::Line(length) => {
+                    self.obey(client, script, teller, dialect, &line[..length])?
+                }
+                Next::TooLong => script.refuse_and_skip(teller)?,
                 Next::End => return Ok(()),
             }
         }

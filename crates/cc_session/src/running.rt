@@ -5,7 +5,6 @@ ghost use Rattle.cc_disk.specs.Images.{OnlyReads};
 ghost use Rattle.cc_library.specs.Answers.{OpenFaults};
 ghost use Rattle.cc_library.specs.Apply.{Units};
 ghost use Rattle.cc_library.specs.Recovered.{Recovers};
-ghost use Rattle.cc_service.specs.Fault.{fault_number};
 ghost use Rattle.cc_recorded.specs.Since.{IsPast};
 ghost use Rattle.cc_service.specs.Client.{holders};
 ghost use Rattle.cc_session.specs.Session.{EndsSince, HaveCalled, IsEnded, SessionEnds, told_after};
@@ -13,7 +12,9 @@ ghost use Rattle.cc_session.specs.internal.Steps.{EndsFor};
 
 use crate::calls::Caller;
 use crate::end::SessionEnd;
-use crate::talk::Talk;
+use crate::reading::Reading;
+use crate::telling::refused;
+use cc_answers::Teller;
 use cc_disk::Disk;
 use cc_library::{Library, LibraryFault, UnitMap};
 use cc_script::{Dialect, ScriptFault};
@@ -74,23 +75,9 @@ fn told_after(are_all: bool, number: u32, played: SessionEnd) -> SessionEnd
     }
 }
 
-// Writes a refusal of the service's opening or end; answers its number.
-pub(crate) fn refused<R: Read, W: Write, E: Write>(
-    alloc: Global,
-    talk: &mut Talk<R, W, E>,
-    fault: ServiceFault,
-) -> u32
-    ensures { result ≡ fault_number fault }
-{
-    let number = fault.number();
-    let _ = talk.tell_refusal(alloc, &fault, &[]);
-    drop(fault);
-    number
-}
-
 // How a session ended whose script did so.
-fn ended<R: Read, W: Write, E: Write>(
-    talk: &mut Talk<R, W, E>,
+fn ended<W: Write, E: Write>(
+    teller: &mut Teller<W, E>,
     played: Result<(), ScriptFault>,
 ) -> SessionEnd
     ensures { EndsFor played result }
@@ -98,7 +85,7 @@ fn ended<R: Read, W: Write, E: Write>(
     match played {
         Ok(()) => SessionEnd::Finished,
         Err(fault) => {
-            let _ = talk.tell_fault(fault);
+            let _ = teller.tell_fault(fault);
             SessionEnd::Fault(fault.number())
         }
     }
@@ -109,7 +96,8 @@ fn ended<R: Read, W: Write, E: Write>(
 fn play_alone<N, H, R, W, E, D>(
     rt: &H,
     alloc: Global,
-    talk: &mut Talk<R, W, E>,
+    script: &mut Reading<R>,
+    teller: &mut Teller<W, E>,
     service: &Service<N, D>,
     clients: &mut Vec<Client<N>>,
 ) -> SessionEnd
@@ -122,17 +110,17 @@ where
     D: Disk,
     requires room { vec_len clients.old < vec_capacity clients.old }
     requires none { clients.old.items ≡ [] }
-    requires fresh { talk.old.left ≡ 16777216 }
-    ensures { HaveCalled talk.old.rest (holders clients.new.items) result }
+    requires fresh { script.old.left ≡ 16777216 }
+    ensures { HaveCalled script.old.rest (holders clients.new.items) result }
 {
     match service.client(rt, alloc) {
         Ok(mut client) => {
             let caller = Caller { rt, alloc, service };
-            let played = caller.play(&mut client, talk, Dialect::Plain, None);
+            let played = caller.play(&mut client, script, teller, Dialect::Plain, None);
             clients.push_reserved(client);
-            ended(talk, played)
+            ended(teller, played)
         }
-        Err(fault) => SessionEnd::Fault(refused(alloc, talk, fault)),
+        Err(fault) => SessionEnd::Fault(refused(alloc, teller, fault)),
     }
 }
 
@@ -140,24 +128,15 @@ where
 fn disk_of<D: Disk>(closed: Closed<D>) -> D
     ensures { result ≡ closed.library.disk }
 {
-    let Closed {
-        base,
-        library,
-        history,
-        failed: _,
-        receipts,
-    } = closed;
-    drop(base);
-    drop(history);
-    drop(receipts);
+    let Closed { library, .. } = closed;
     library.into_disk()
 }
 
 // Ends a service whose clients' work ended so; where its end is refused, it is given up.
-pub(crate) fn finish<N, H, R, W, E, D>(
+pub(crate) fn finish<N, H, W, E, D>(
     rt: &H,
     alloc: Global,
-    talk: &mut Talk<R, W, E>,
+    teller: &mut Teller<W, E>,
     service: Service<N, D>,
     clients: Vec<Client<N>>,
     played: SessionEnd,
@@ -165,7 +144,6 @@ pub(crate) fn finish<N, H, R, W, E, D>(
 where
     N: Named + Send + Sync + 'static,
     H: Wait,
-    R: Read,
     W: Write,
     E: Write,
     D: Disk,
@@ -177,7 +155,7 @@ where
         Ok(closed) => (disk_of(closed), played),
         Err((fault, service, clients)) => {
             let (disk, are_all) = service.give_up(rt, alloc, clients);
-            let number = refused(alloc, talk, fault);
+            let number = refused(alloc, teller, fault);
             (disk, told_after(are_all, number, played))
         }
     }
@@ -187,7 +165,8 @@ where
 fn do_script<N, H, R, W, E, D, G>(
     rt: &H,
     alloc: Global,
-    talk: &mut Talk<R, W, E>,
+    script: &mut Reading<R>,
+    teller: &mut Teller<W, E>,
     begun: Begun<D>,
     workers: usize,
     gate: G,
@@ -207,8 +186,8 @@ where
     requires past { IsTrue D.honest → IsPast D.moment D.left_since N.from N.left begun.disk }
     requires some { 1 ≤ workers }
     requires few { workers ≤ 8 }
-    requires fresh { talk.old.left ≡ 16777216 }
-    ensures { EndsSince D.honest D.seen D.may_leave D.moment D.left_since D.failures N.from N.left (Unit {0}) (HaveCalled talk.old.rest) begun.disk result.0 result.1 }
+    requires fresh { script.old.left ≡ 16777216 }
+    ensures { EndsSince D.honest D.seen D.may_leave D.moment D.left_since D.failures N.from N.left (Unit {0}) (HaveCalled script.old.rest) begun.disk result.0 result.1 }
 {
     let Begun {
         disk,
@@ -218,22 +197,17 @@ where
     } = begun;
     let Ok(mut clients) = Vec::with_capacity(alloc, 1) else {
         drop(fresh);
-        drop(gate);
-        let number = refused(
-            alloc,
-            talk,
-            ServiceFault::Opening(LibraryFault::OutOfMemory),
-        );
+        let fault = ServiceFault::Opening(LibraryFault::OutOfMemory);
+        let number = refused(alloc, teller, fault);
         return (disk, SessionEnd::Fault(number));
     };
     match Service::<N, D>::open(rt, alloc, fresh, disk, workers, gate) {
         Ok(service) => {
-            let played = play_alone(rt, alloc, talk, &service, &mut clients);
-            finish(rt, alloc, talk, service, clients, played)
+            let played = play_alone(rt, alloc, script, teller, &service, &mut clients);
+            finish(rt, alloc, teller, service, clients, played)
         }
         Err((fault, disk)) => {
-            drop(clients);
-            let number = refused(alloc, talk, fault);
+            let number = refused(alloc, teller, fault);
             (disk, SessionEnd::Fault(number))
         }
     }
@@ -259,17 +233,26 @@ where
     requires few { workers ≤ 8 }
     ensures answers { SessionEnds D.honest D.seen D.may_leave D.moment D.left_since D.failures (R.remaining reader.old) disk result.0 result.1 }
 {
-    let mut talk = Talk::new(reader, writer, explanations);
+    let mut script = Reading::new(reader);
+    let mut teller = Teller {
+        answers: writer,
+        explanations,
+    };
     match begin(alloc, disk) {
         Ok(begun) => {
             let (disk, end) = do_script::<Brand, H, &mut R, &mut W, &mut E, D, G>(
-                rt, alloc, &mut talk, begun, workers, gate,
+                rt,
+                alloc,
+                &mut script,
+                &mut teller,
+                begun,
+                workers,
+                gate,
             );
             (Some(disk), end)
         }
         Err((fault, disk)) => {
-            drop(gate);
-            let number = refused(alloc, &mut talk, ServiceFault::Opening(fault));
+            let number = refused(alloc, &mut teller, ServiceFault::Opening(fault));
             (Some(disk), SessionEnd::Fault(number))
         }
     }

@@ -17,15 +17,16 @@ ghost use Rattle.cc_session.specs.Spooling.{HasDone, HaveServed, ServingEnds, gi
 use crate::attending::attend;
 use crate::bounds::{Bounds, Meter};
 use crate::end::SessionEnd;
-use crate::running::{Begun, begin, finish, refused};
+use crate::running::{Begun, begin, finish};
 use crate::steward::Steward;
-use crate::talk::Talk;
+use crate::telling::refused;
+use cc_answers::Teller;
 use cc_disk::Disk;
 use cc_library::LibraryFault;
 use cc_service::{Client, Gate, Named, Service, ServiceFault};
 use cc_spool::Spool;
 use std::alloc::{AllocError, Global};
-use std::io::{self, Write};
+use std::io::Write;
 use std::marker::Brand;
 use std::sync::Wait;
 use std::thread;
@@ -188,7 +189,7 @@ struct Worked<N: Named, S> {
 fn work<N, H, S, W, E, D, T>(
     rt: &H,
     alloc: Global,
-    talk: &mut Talk<io::Empty, W, E>,
+    teller: &mut Teller<W, E>,
     service: &Service<N, D>,
     room: Room<N, S>,
     spools: Vec<S>,
@@ -216,7 +217,7 @@ where
     match hire(rt, alloc, service, spools.len(), &mut clients) {
         Ok(()) => {
             pair(&mut clients, spools, &mut posts);
-            talk.tell_opened(steward);
+            steward.opened(&mut teller.explanations);
             attend_all(rt, alloc, service, posts.as_mut_slice(), meter);
             dismiss(posts, &mut clients, &mut left);
             Worked {
@@ -226,7 +227,7 @@ where
             }
         }
         Err(fault) => {
-            let number = refused(alloc, talk, fault);
+            let number = refused(alloc, teller, fault);
             Worked {
                 clients,
                 spools,
@@ -247,7 +248,7 @@ pub struct Served<D: Drop, S: Drop> {
 // What is left where no service was opened, for this reason.
 fn unserved<S: Spool + Drop, W: Write, E: Write, D: Disk + Drop>(
     alloc: Global,
-    talk: &mut Talk<io::Empty, W, E>,
+    teller: &mut Teller<W, E>,
     spools: Vec<S>,
     disk: D,
     fault: ServiceFault,
@@ -256,7 +257,7 @@ fn unserved<S: Spool + Drop, W: Write, E: Write, D: Disk + Drop>(
     ensures spools { result.spools ≡ spools }
     ensures end { result.end ≡ Fault (fault_number fault) }
 {
-    let number = refused(alloc, talk, fault);
+    let number = refused(alloc, teller, fault);
     Served {
         disk,
         spools,
@@ -268,7 +269,7 @@ fn unserved<S: Spool + Drop, W: Write, E: Write, D: Disk + Drop>(
 fn serve_opened<N, H, S, W, E, D, T>(
     rt: &H,
     alloc: Global,
-    talk: &mut Talk<io::Empty, W, E>,
+    teller: &mut Teller<W, E>,
     service: Service<N, D>,
     room: Room<N, S>,
     spools: Vec<S>,
@@ -295,10 +296,10 @@ where
         clients,
         spools,
         end: worked,
-    } = work(rt, alloc, talk, &service, room, spools, &meter, steward);
-    let (disk, end) = finish(rt, alloc, talk, service, clients, worked);
+    } = work(rt, alloc, teller, &service, room, spools, &meter, steward);
+    let (disk, end) = finish(rt, alloc, teller, service, clients, worked);
     if worked == SessionEnd::Finished {
-        talk.tell_ended(steward, meter.generation(end));
+        steward.ended(meter.generation(end), &mut teller.explanations);
     }
     Served { disk, spools, end }
 }
@@ -307,7 +308,7 @@ where
 fn serve_begun<N, H, S, W, E, D, G, T>(
     rt: &H,
     alloc: Global,
-    talk: &mut Talk<io::Empty, W, E>,
+    teller: &mut Teller<W, E>,
     begun: Begun<D>,
     spools: Vec<S>,
     workers: usize,
@@ -342,15 +343,14 @@ where
     } = begun;
     let Ok(room) = room_for(alloc, spools.len()) else {
         drop(fresh);
-        drop(gate);
         let fault = ServiceFault::Opening(LibraryFault::OutOfMemory);
-        return unserved(alloc, talk, spools, disk, fault);
+        return unserved(alloc, teller, spools, disk, fault);
     };
     match Service::<N, D>::open(rt, alloc, fresh, disk, workers, gate) {
-        Ok(service) => serve_opened(rt, alloc, talk, service, room, spools, bounds, steward),
+        Ok(service) => serve_opened(rt, alloc, teller, service, room, spools, bounds, steward),
         Err((fault, disk)) => {
             drop(room);
-            unserved(alloc, talk, spools, disk, fault)
+            unserved(alloc, teller, spools, disk, fault)
         }
     }
 }
@@ -389,14 +389,25 @@ where
     ensures answers { ServingEnds D.honest D.seen D.may_leave D.moment D.left_since D.failures
         (map (given_by S.taken S.ended) spools.items) (map (given_by S.taken S.ended) result.spools.items) disk result.disk result.end }
 {
-    let mut talk = Talk::new(io::empty(), writer, explanations);
+    let mut teller = Teller {
+        answers: writer,
+        explanations,
+    };
     match begin(alloc, disk) {
         Ok(begun) => serve_begun::<Brand, H, S, &mut W, &mut E, D, G, T>(
-            rt, alloc, &mut talk, begun, spools, workers, gate, bounds, steward,
+            rt,
+            alloc,
+            &mut teller,
+            begun,
+            spools,
+            workers,
+            gate,
+            bounds,
+            steward,
         ),
         Err((fault, disk)) => {
-            drop(gate);
-            unserved(alloc, &mut talk, spools, disk, ServiceFault::Opening(fault))
+            let fault = ServiceFault::Opening(fault);
+            unserved(alloc, &mut teller, spools, disk, fault)
         }
     }
 }

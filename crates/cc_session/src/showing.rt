@@ -4,18 +4,10 @@ ghost use Rattle.std.specs.Prelude.{◌≡◌, IfOk};
 ghost use Rattle.cc_session.specs.internal.Showing.{IsShownOf};
 
 use cc_service::Found;
+use cc_task::Part;
 use std::alloc::{AllocError, Global};
 
-// What is told of a unit.
-#[derive(Clone, Copy, Drop)]
-pub(crate) enum Part {
-    // Its image, as Intel HEX.
-    Image,
-    // Its source, in a frame that says how many bytes it has.
-    Source,
-}
-
-// The text that tells this of the unit that was found.
+// The text that tells this part of the unit that was found: its image as Intel HEX; its source in a frame that says how many bytes it has.
 pub(crate) fn text_of(alloc: Global, found: &Found, part: Part) -> Result<Vec<u8>, AllocError>
     ensures { IfOk result (λ text. IsShownOf part found.now.entry.reply text.items) }
 {

@@ -3,12 +3,12 @@
 ghost use Rattle.std.specs.Prelude.{◌≡◌, ◌≤◌};
 
 use crate::device::{NoDisk, may_overwrite};
-use crate::telling::{Persons, Telling};
+use cc_answers::{Persons, Telling, explain_words, greet};
 use cc_command_line::Session;
 use cc_disk::FileDisk;
 use cc_journal::format;
 use cc_library::LibraryFault;
-use cc_session::{Gate, SessionEnd, explain_words, session, session_and_explain};
+use cc_session::{Gate, SessionEnd, session, session_and_explain};
 use std::alloc::AllocError;
 use std::fs::{self, File};
 use std::io::{self, BufWriter, Input, Print, Write};
@@ -16,11 +16,6 @@ use std::os::unix::fs::MetadataExt;
 use std::path::Path;
 use std::sync::Wait;
 use std::thread::Threads;
-
-/// What is expected of a person.
-const GREETING: &str =
-    "cclib: add NAME LEN, replace NAME LEN, withdraw NAME, list, run NAME STEPS, compact or audit, one a line; \
-    a source of LEN bytes follows its line; end by Ctrl-D\n";
 
 // Tells a person how far a long `add` is: the workers pass it before each function.
 #[derive(Drop)]
@@ -223,8 +218,7 @@ where
         )
     } else {
         if persons.is_typed {
-            let _ = told.write_all(GREETING.as_bytes());
-            let _ = told.flush();
+            let _ = greet(&mut told);
         }
         let progress = Progress {
             rt: *rt,

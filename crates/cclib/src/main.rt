@@ -1,7 +1,7 @@
 // The program `cclib`: reads a C program from standard input, and checks, interprets, runs or lists it, or does a script over a library.
 // How a command line is read is the matter of `cc_command_line`, how a task is done that of `cc_program`, a script that of `cc_session`, the
 // file of a library that of `filing`, what is taken out of one that of `taking`, a device in its place that of `device`, a server that of
-// `serving`, its clients that of `submitting`, what a person is told that of `telling`, what the stack needs that of `stack`.
+// `serving`, its clients that of `submitting`, what the stack needs that of `stack`.
 #![tactic(auto)]
 
 ghost use Rattle.cc_command_line.specs.Work.{IsAllowed};
@@ -12,8 +12,8 @@ mod serving;
 mod stack;
 mod submitting;
 mod taking;
-mod telling;
 
+use cc_answers::Persons;
 use cc_command_line::{Request, Work, read_request, refused_bytes};
 use cc_program::{Fault, perform, perform_and_explain, perform_and_explain_stages, perform_stages};
 use cc_task::Task;
@@ -31,7 +31,6 @@ use std::sync::Wait;
 use std::thread::Threads;
 use submitting::submit_script;
 use taking::take_out_of_file;
-use telling::Persons;
 
 /// Does what the command line asks; the status is 0 for an answer, 1 for a fault, 2 for a refused command line.
 fn main(rt: HostRuntime) -> ExitCode {

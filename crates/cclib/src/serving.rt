@@ -4,7 +4,7 @@ ghost use Rattle.std.specs.Prelude.{◌≡◌, ◌≢◌, ◌≤◌, true, false
 ghost use Rattle.cc_session.specs.declared.end.SessionEnd.TheVariants.{Finished};
 
 use crate::filing::{disk_to_serve, no_disk};
-use crate::telling::Telling;
+use cc_answers::Telling;
 use cc_command_line::Server;
 use cc_disk::FileDisk;
 use cc_session::{BOUNDS, Generation, GenerationEnd, Served, SessionEnd, Steward, serve_on};

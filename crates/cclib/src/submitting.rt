@@ -6,11 +6,10 @@ ghost use Rattle.cc_spool.specs.declared.submission.Submission.TheVariants.{Answ
 ghost use Rattle.cc_script.specs.declared.command.Dialect.TheVariants.{Served};
 ghost use Rattle.cclib.specs.Sent.{asks_source, has_source, is_whole};
 
-use crate::telling::{Persons, Telling};
+use cc_answers::{Persons, Telling, explain_bad_line, explain_no_command, explain_words, words_of};
 use cc_command_line::Client;
 use cc_program::perform_and_explain;
 use cc_script::{Command, Dialect, ScriptFault, command_of};
-use cc_session::{explain_words, words_of};
 use cc_spool::{Layout, SpoolFault, Submission, fault_lines, source_in, submit};
 use cc_task::Task;
 use std::alloc::{AllocError, Global};
@@ -20,14 +19,6 @@ use std::io::{self, BufWriter, Input, Print, Read, Write};
 const MOST_SOURCE: usize = 65_537;
 
 const READ_FAULT: &[u8] = b"fault 53 ReadFault\n";
-
-const NO_COMMAND: &str =
-    "cclib: the words are no command of a script: add NAME, replace NAME, withdraw NAME, list, run NAME STEPS, compact, audit, image NAME or source NAME\n";
-
-// What a person is told of a line that is no command of a server's script.
-const BAD_LINE: &str = "\
-cclib: the line is no command: add NAME LEN, replace NAME LEN, withdraw NAME, list, run NAME STEPS, compact, audit, image NAME or source NAME; \
-a newline follows the LEN bytes of a source\n";
 
 // What is sent.
 #[derive(Drop)]
@@ -182,8 +173,7 @@ fn explain<R: AllocGlobal, E: Write>(
         return told.flush();
     }
     if number == ScriptFault::BadLine.number() {
-        told.write_all(BAD_LINE.as_bytes())?;
-        return told.flush();
+        return explain_bad_line(Dialect::Served, told);
     }
     if words_of(number).is_some() {
         return explain_words(number, told);
@@ -358,9 +348,7 @@ fn leave<R: AllocGlobal + Input, W: Write, E: Write + Drop>(
         let mut answer = Vec::new(rt.alloc());
         let done = send(rt, layout, process, wait, sent, &mut answer, told);
         told.is_quiet = persons.is_quiet;
-        let status = finish_source(rt, done, answer.as_slice(), asked, sent, writer, told);
-        drop(answer);
-        return status;
+        return finish_source(rt, done, answer.as_slice(), asked, sent, writer, told);
     }
     let done = send(rt, layout, process, wait, sent, writer, told);
     told.is_quiet = persons.is_quiet;
@@ -391,8 +379,7 @@ pub fn submit_script<R: AllocGlobal + Input + Print, E: Write + Drop>(
     let sent = match sent_of(rt, alloc, asked.line.as_ref()) {
         Ok(Some(sent)) => sent,
         Ok(None) => {
-            let _ = told.errors.write_all(NO_COMMAND.as_bytes());
-            let _ = told.errors.flush();
+            let _ = explain_no_command(&mut told.errors);
             return Ok(2);
         }
         Err(_) => {

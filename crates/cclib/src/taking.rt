@@ -4,11 +4,10 @@
 ghost use Rattle.std.specs.Prelude.{◌≤◌};
 
 use crate::filing::disk_of;
-use crate::telling::Telling;
+use cc_answers::{Telling, explain_words};
 use cc_command_line::Wanted;
 use cc_library::LibraryFault;
 use cc_program::{Fault, PartFault, take_out};
-use cc_session::explain_words;
 use std::alloc::{AllocError, Global};
 use std::io::{self, BufWriter, Print, Write};
 
@@ -61,7 +60,6 @@ fn write_found<W: Write, E: Write>(
     match found {
         Ok(bytes) => {
             let is_written = writer.write_all(bytes.as_slice()).is_ok() && writer.flush().is_ok();
-            drop(bytes);
             if is_written {
                 return 0;
             }

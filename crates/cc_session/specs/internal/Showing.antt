@@ -5,8 +5,8 @@ use Rattle.cc_hex.specs.Layout.{image_text}
 use Rattle.cc_history.specs.declared.reply.Reply.{Reply}
 use Rattle.cc_history.specs.declared.reply.Reply.TheVariants.{Done, Exists, Absent, Unit, Names}
 use Rattle.cc_spool.specs.Answer.{framed}
-use Rattle.cc_session.specs.declared.showing.Part.{Part}
-use Rattle.cc_session.specs.declared.showing.Part.TheVariants.{Image, Source}
+use Rattle.cc_task.specs.declared.part.Part.{Part}
+use Rattle.cc_task.specs.declared.part.Part.TheVariants.{Image, Source}
 
 -- of the unit of a reply: its image as a text that has its bytes at their addresses, and no others; or its source, framed
 abbrev pub IsShownOf : Part → Reply → (text : List ℕ) → Type 0

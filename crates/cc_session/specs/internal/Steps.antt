@@ -7,13 +7,11 @@ use Rattle.cc_script.specs.declared.script.Next.{Next}
 use Rattle.cc_script.specs.declared.script.Next.TheVariants.{Line, TooLong, End}
 use Rattle.cc_script.specs.declared.fault.ScriptFault.{ScriptFault}
 use Rattle.cc_script.specs.declared.fault.ScriptFault.TheVariants.{BadLine, EndOfScript, ScriptTooLong, ReadFault, WriteFault}
-use Rattle.cc_history.specs.declared.command.Command.{Command}
 use Rattle.cc_history.specs.History.{Holder}
-use Rattle.cc_service.specs.Serving.{Adds, Replaces}
 use Rattle.cc_session.specs.declared.end.SessionEnd.{SessionEnd}
 use Rattle.cc_session.specs.declared.end.SessionEnd.TheVariants.{Finished, Fault}
-use Rattle.cc_session.specs.declared.talk.Sent.{Sent}
-use Rattle.cc_session.specs.declared.talk.Sent.TheVariants.{Source, NoRoom, Unended}
+use Rattle.cc_session.specs.declared.reading.Sent.{Sent}
+use Rattle.cc_session.specs.declared.reading.Sent.TheVariants.{Source, NoRoom, Unended}
 
 -- no line comes behind so many: it can't be read; or as many are done as may be, 52, and more of the script is left
 abbrev pub IsNoLine : (most : Option ℕ) (lines : ℕ) (before : Ahead) (left : ℕ) → ScriptFault → Type 0
@@ -38,11 +36,6 @@ abbrev pub IsSentAs : Option (Vec ℕ Global) → (is_ended : Bool) → Sent →
 IsSentAs (Some bytes) true sent = sent ≡ Source bytes
 IsSentAs None true sent = sent ≡ NoRoom
 IsSentAs source false sent = sent ≡ Unended
-
--- what `add` and `replace` ask
-abbrev pub asking : (is_new : Bool) → (name source : List ℕ) → Command → Type 0
-asking true = Adds
-asking false = Replaces
 
 -- fewer bytes than this many are left
 abbrev pub IsShortOf : (count : ℕ) (rest : List ℕ) → Type 0

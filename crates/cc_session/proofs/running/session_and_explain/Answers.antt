@@ -12,7 +12,7 @@ returns-in-Ok g c =
     let D = g.D.Disk in
     let e = c.in-Ok.ensures in
     let before = c.in-Ok.begun.before.value in
-    let heard = ap (λ (a : Ahead). a.rest) c.new-talk.ensures in
+    let heard = ap (λ (a : Ahead). a.rest) c.new-script.ensures in
     let ends = subst (λ (script : Option (List ℕ)). EndsSince D.honest D.seen D.may_leave D.moment D.left_since D.failures (D.moment before) (D.may_leave before) (Unit {0})
     (HaveCalled script) c.in-Ok.begun.disk c.do_script-disk.result.0 c.do_script-disk.result.1) heard c.do_script-disk.ensures in
     record {

@@ -6,6 +6,5 @@ use Rattle.cc_session.proofs.calls.Caller.audit_names.Given as goal
 
 abbrev pub invariant-loop-name : goal.invariant-loop-name
 invariant-loop-name g l = record {
-  rest : l.talk ≡ l.initial.talk;
   onward : (all : Bool) (new : Holder) → FetchesEach (drop l.name-index l.names) all l.client.holder new → FetchesEach l.names all l.initial.client.holder new;
 }

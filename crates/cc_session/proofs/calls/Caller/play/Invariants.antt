@@ -4,4 +4,4 @@ use Rattle.cc_session.proofs.Lines.{Played}
 use Rattle.cc_session.proofs.calls.Caller.play.Given as goal
 
 abbrev pub invariant-loop-lines : goal.invariant-loop-lines
-invariant-loop-lines g l = Between l.initial.talk l.talk (Played l.dialect l.most l.lines l.initial.client.holder l.client.holder)
+invariant-loop-lines g l = Between l.initial.script l.script (Played l.dialect l.most l.lines l.initial.client.holder l.client.holder)

@@ -3,7 +3,7 @@ use Rattle.std.proofs.Common.{ℕ, Vec, Global, subst}
 use Rattle.std.specs.Option.{option_map}
 use Rattle.cc_script.specs.Reading.{Ahead, Between, IsSource, ahead_of}
 use Rattle.cc_session.proofs.Playing.{sent_on}
-use Rattle.cc_session.proofs.talk.Talk.source.Goals as goal
+use Rattle.cc_session.proofs.reading.Reading.source.Goals as goal
 
 pub returns-clause-bytes : goal.returns-clause-bytes
 returns-clause-bytes g c =

@@ -1,0 +1,50 @@
+// What an image does.
+
+ghost use Rattle.std.specs.Prelude.{◌≡◌, IfOk};
+ghost use Rattle.cc_answers.specs.Run.{IsRunOf};
+
+use cc_rv32::image::Image;
+use cc_rv32::machine::Machine;
+use cc_rv32::outcome::MachineOutcome;
+use std::alloc::{AllocError, Global};
+use std::io::{self, Write};
+
+/// What an image has written, and what its run has come to.
+#[derive(Drop)]
+pub struct ImageRun {
+    pub output: Vec<u32>,
+    pub outcome: MachineOutcome,
+}
+
+/// What an image does on the input words within this many instructions. `AllocError` where memory was refused as it ran.
+pub fn run_image(
+    alloc: Global,
+    image: &Image,
+    words: &[u32],
+    steps: u64,
+) -> Result<ImageRun, AllocError>
+    ensures { IfOk result (λ run. IsRunOf image.now steps words.now run) }
+{
+    let Ok(mut machine) = Machine::new(alloc, image, words) else {
+        return Err(AllocError);
+    };
+    let Ok(outcome) = machine.run(steps) else {
+        return Err(AllocError);
+    };
+    match Vec::from_slice(alloc, machine.output()) {
+        Ok(output) => Ok(ImageRun { output, outcome }),
+        Err(_) => Err(AllocError),
+    }
+}
+
+/// Writes the words, one a line, and then what the run has come to.
+pub fn write_run<W: Write>(run: &ImageRun, writer: &mut W) -> io::Result<()> {
+    for word in run.output.as_slice() {
+        writeln!(writer, "{}", word.cast_signed())?;
+    }
+    match run.outcome {
+        MachineOutcome::Going => writeln!(writer, "going"),
+        MachineOutcome::Exited(word) => writeln!(writer, "exited {}", word.cast_signed()),
+        MachineOutcome::Trapped => writeln!(writer, "trapped"),
+    }
+}

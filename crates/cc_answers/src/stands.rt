@@ -1,0 +1,73 @@
+// Where in a text a fault stands, and what a person is told of it there.
+
+use cc_diagnostic::{Diagnostic, of_name, of_syntax, of_typing};
+use cc_link::{PieceFault, TextFault};
+use cc_tokens::Place;
+use std::alloc::{AllocError, Global};
+use std::io::{self, Write};
+
+/// Where in a text a fault stands.
+#[derive(Clone, Copy, Drop)]
+pub enum Stands<'a> {
+    /// Where the text ceases to be a program's.
+    Text(&'a TextFault),
+    /// In a function.
+    Function(PieceFault),
+    /// Nowhere in it.
+    Nowhere,
+}
+
+/// The place, where there is one.
+pub(crate) fn place_of(stands: Stands<'_>) -> Option<Place> {
+    match stands {
+        Stands::Text(fault) => fault.place(),
+        Stands::Function(_) | Stands::Nowhere => None,
+    }
+}
+
+// What is told of a function that is not compiled; nothing of lack of memory.
+fn of_piece(
+    alloc: Global,
+    text: &[u8],
+    fault: PieceFault,
+) -> Result<Option<Diagnostic>, AllocError> {
+    match fault {
+        PieceFault::FunctionTooLarge { at, length } => {
+            let words = "is too large to be compiled: it would have more than 4096 nodes of RTL";
+            Ok(Some(of_name(alloc, text, at, length, words)?))
+        }
+        PieceFault::Unvalidated { at, length, .. } => {
+            let words =
+                "is not compiled: it is not shown that its allocated code does what it does";
+            Ok(Some(of_name(alloc, text, at, length, words)?))
+        }
+        PieceFault::OutOfMemory => Ok(None),
+    }
+}
+
+/// What is told of a fault in the text: what was found there and what was expected, or which function it is; nothing of one that stands
+/// nowhere in it, and of lack of memory.
+pub fn of_fault(
+    alloc: Global,
+    text: &[u8],
+    stands: Stands<'_>,
+) -> Result<Option<Diagnostic>, AllocError> {
+    match stands {
+        Stands::Text(TextFault::Syntax(fault)) => Ok(Some(of_syntax(alloc, text, fault)?)),
+        Stands::Text(TextFault::Typing(fault)) => of_typing(alloc, text, fault),
+        Stands::Function(fault) => of_piece(alloc, text, fault),
+        Stands::Nowhere => Ok(None),
+    }
+}
+
+/// Writes what is told of a text, where there is something and there was memory for it.
+pub fn write_told<W: Write>(
+    told: Result<Option<Diagnostic>, AllocError>,
+    text: &[u8],
+    writer: &mut W,
+) -> io::Result<()> {
+    match told {
+        Ok(Some(diagnostic)) => diagnostic.write(text, writer),
+        Ok(None) | Err(_) => Ok(()),
+    }
+}

@@ -1,0 +1,117 @@
+// The script of a session, as it is read.
+
+ghost use Rattle.std.specs.Prelude.{◌≡◌, ◌⊎◌, ◌≤◌, ℕ, List, IfErr, IfOk, OnOk};
+ghost use Rattle.cc_script.specs.Reading.{Between, IsLine, IsNext, IsNoSource, IsNotRead, IsWithinLine};
+ghost use Rattle.cc_script.specs.declared.fault.ScriptFault.TheVariants.{WriteFault};
+ghost use Rattle.cc_session.specs.internal.Steps.{HasSent, IsNoLine, IsSentAs, MayFollow};
+
+use cc_answers::Teller;
+use cc_script::{LINE_BYTES, Next, Script, ScriptFault};
+use std::alloc::Global;
+use std::io::{Read, Write};
+use std::marker::Model;
+
+// A script, and who writes it. A clause sees what is ahead in it.
+#[derive(Drop)]
+pub(crate) struct Reading<R: Read> {
+    script: Script,
+    reader: R,
+}
+
+impl<R: Read> Model for Reading<R> {
+    ghost use Rattle.cc_script.specs.Reading.{Ahead, ahead_of};
+
+    ghost Value = { Ahead };
+
+    ghost view = { λ s. ahead_of s.script (R.remaining s.reader) };
+}
+
+// The source that comes next in a script.
+#[derive(Drop)]
+pub(crate) enum Sent {
+    Source(Vec<u8>),
+    // There is no room for it.
+    NoRoom,
+    // A byte other than a newline stands behind it.
+    Unended,
+}
+
+// What was sent by a source, where there was room for it, and what stands behind it.
+fn behind_line(source: Option<Vec<u8>>, is_ended: bool) -> Sent
+    ensures { IsSentAs source is_ended result }
+{
+    match source {
+        Some(source) if is_ended => Sent::Source(source),
+        None if is_ended => Sent::NoRoom,
+        other => {
+            drop(other);
+            Sent::Unended
+        }
+    }
+}
+
+impl<R: Read> Reading<R> {
+    pub(crate) fn new(reader: R) -> Reading<R>
+        ensures { result ≡ record { rest = R.remaining reader; left = 16777216 } }
+    {
+        Reading {
+            script: Script::new(),
+            reader,
+        }
+    }
+
+    // The script's next line, behind so many that are done; 52 where these are all that may be, and one more comes.
+    #[tactic(auto, using(crate::proofs::Playing::some_left))]
+    pub(crate) fn next_line(
+        &mut self,
+        line: &mut [u8; LINE_BYTES],
+        most: Option<usize>,
+        lines: usize,
+    ) -> Result<Next, ScriptFault>
+        ensures within { IfOk result IsWithinLine }
+        ensures few { IfOk result (MayFollow most lines) }
+        ensures refused { IfErr result (IsNoLine most lines self.old self.new.left) }
+        ensures bytes { IfOk result (λ next. Between self.old self.new (λ before after. IsNext before next line.new after)) }
+    {
+        let next = self.script.next_line(&mut self.reader, line)?;
+        match next {
+            Next::End => Ok(next),
+            Next::Line(_) | Next::TooLong => {
+                if most == Some(lines) {
+                    Err(ScriptFault::ScriptTooLong)
+                } else {
+                    Ok(next)
+                }
+            }
+        }
+    }
+
+    // The source that comes next.
+    #[tactic(auto, using(crate::proofs::Playing::sent_on, crate::proofs::Playing::no_source))]
+    pub(crate) fn source(&mut self, alloc: Global, length: usize) -> Result<Sent, ScriptFault>
+        ensures refused { IfErr result (IsNoSource self.old length self.new.left) }
+        ensures bytes { IfOk result (λ sent. Between self.old self.new (λ before after. HasSent before length sent after)) }
+    {
+        let source = self.script.source(alloc, &mut self.reader, length)?;
+        let is_ended = match self.script.is_at_line_end(&mut self.reader) {
+            Ok(is_ended) => is_ended,
+            Err(fault) => {
+                drop(source);
+                return Err(fault);
+            }
+        };
+        Ok(behind_line(source, is_ended))
+    }
+
+    // Tells that a line that was not read to its end is no command, and skips it.
+    pub(crate) fn refuse_and_skip<W: Write, E: Write>(
+        &mut self,
+        teller: &mut Teller<W, E>,
+    ) -> Result<(), ScriptFault>
+        ensures refused { IfErr result (λ fault. (fault ≡ WriteFault) ⊎ IsNotRead self.old self.new.left fault) }
+        ensures bytes { OnOk result (Between self.old self.new (λ before after. (rest : List ℕ) × IsLine before rest after)) }
+    {
+        teller.tell_fault(ScriptFault::BadLine)?;
+        self.script.skip_line(&mut self.reader)
+    }
+}
