@@ -1,25 +1,24 @@
 // The program `cclib`: reads a C program from standard input, and checks, interprets, runs or lists it, or does a script over a library.
 // How a command line is read is the matter of `cc_command_line`, how a task is done that of `cc_program`, a script that of `cc_session`, the
-// file of a library that of `filing`, what is taken out of one that of `taking`, a device in its place that of `device`, a server that of
-// `serving`, its clients that of `submitting`, what the stack needs that of `stack`.
+// file of a library and what is taken out of one that of `cc_filing`, a server's client that of `cc_submit`. `library` has a session over
+// a file, `serving` a server, `stack` what the stack needs.
 #![tactic(auto)]
 
 ghost use Rattle.cc_command_line.specs.Work.{IsAllowed};
 
-mod device;
-mod filing;
+mod library;
 mod serving;
 mod stack;
-mod submitting;
-mod taking;
 
 use cc_answers::Persons;
 use cc_command_line::{Request, Work, read_request, refused_bytes};
+use cc_filing::take_out_of_file;
 use cc_program::{Fault, perform, perform_and_explain, perform_and_explain_stages, perform_stages};
+use cc_submit::submit_script;
 use cc_task::Task;
 use clap::Error;
 use clap::error::ErrorKind;
-use filing::library;
+use library::library_session;
 use serving::serve_folder;
 use stack::reserve_stack;
 use std::alloc::AllocError;
@@ -29,8 +28,6 @@ use std::process::{self, ExitCode};
 use std::rt::{Clock, Env, Files};
 use std::sync::Wait;
 use std::thread::Threads;
-use submitting::submit_script;
-use taking::take_out_of_file;
 
 /// Does what the command line asks; the status is 0 for an answer, 1 for a fault, 2 for a refused command line.
 fn main(rt: HostRuntime) -> ExitCode {
@@ -178,7 +175,7 @@ where
         Work::One(task) => start(rt, task, persons.is_quiet, errors),
         Work::Stages(function) => start_stages(rt, function, persons.is_quiet, errors),
         Work::TakeOut(wanted) => take_out_of_file(rt, files, &wanted, persons.is_quiet, errors),
-        Work::Library(asked) => library(rt, files, &asked, persons, errors),
+        Work::Library(asked) => library_session(rt, files, &asked, persons, errors),
         Work::Serve(asked) => serve_folder(rt, files, &asked, persons.is_quiet, errors),
         Work::Submit(asked) => {
             let process = process::id(files.process());

@@ -3,10 +3,10 @@
 ghost use Rattle.std.specs.Prelude.{◌≡◌, ◌≢◌, ◌≤◌, true, false, IfOk};
 ghost use Rattle.cc_session.specs.declared.end.SessionEnd.TheVariants.{Finished};
 
-use crate::filing::{disk_to_serve, no_disk};
 use cc_answers::Telling;
 use cc_command_line::Server;
 use cc_disk::FileDisk;
+use cc_filing::{disk_to_serve, no_disk};
 use cc_session::{BOUNDS, Generation, GenerationEnd, Served, SessionEnd, Steward, serve_on};
 use cc_spool::{
     FolderSpool, Held, Layout, MOST_ENTRIES, Recovered, SpoolFault, WidePart, clear_old,

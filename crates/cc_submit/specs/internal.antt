@@ -1,2 +1,3 @@
+-- What only private contracts speak of.
 -- What stands behind a line that `submit` sends.
 pub mod Sent

@@ -1,39 +1,16 @@
-// The command `library`: a session over a file; and the file of a library that is served.
+// The file of a library: opened as it is, or made.
 
-ghost use Rattle.std.specs.Prelude.{◌≡◌, ◌≤◌};
+ghost use Rattle.std.specs.Prelude.{◌≡◌};
 
 use crate::device::{NoDisk, may_overwrite};
-use cc_answers::{Persons, Telling, explain_words, greet};
-use cc_command_line::Session;
+use cc_answers::explain_words;
 use cc_disk::FileDisk;
 use cc_journal::format;
 use cc_library::LibraryFault;
-use cc_session::{Gate, SessionEnd, session, session_and_explain};
-use std::alloc::AllocError;
 use std::fs::{self, File};
-use std::io::{self, BufWriter, Input, Print, Write};
+use std::io::{self, Write};
 use std::os::unix::fs::MetadataExt;
 use std::path::Path;
-use std::sync::Wait;
-use std::thread::Threads;
-
-// Tells a person how far a long `add` is: the workers pass it before each function.
-#[derive(Drop)]
-struct Progress<R> {
-    rt: R,
-    is_shown: bool,
-}
-
-/// How many functions are compiled between two words about them.
-const STEP: u32 = 16;
-
-impl<R: Eprint> Gate for Progress<R> {
-    fn before(&self, _job: u64, piece: u32) {
-        if self.is_shown && piece > 0 && piece % STEP == 0 {
-            let _ = eprintln!(self.rt; "cclib: compiling, {piece} functions so far");
-        }
-    }
-}
 
 /// What is told where there is no disk on the file for 35.
 const NO_FILE: &str =
@@ -47,11 +24,7 @@ const IN_USE: &str =
 const SMALL: &str = "cclib: the device has fewer than 16 + 2 * AREA bytes\n";
 
 /// The disk on the file, made anew where an area is given.
-pub(crate) fn disk_of(
-    files: &HostRuntime,
-    path: &str,
-    area: Option<u32>,
-) -> Result<FileDisk, NoDisk> {
+pub fn disk_of(files: &HostRuntime, path: &str, area: Option<u32>) -> Result<FileDisk, NoDisk> {
     let Some(area) = area else {
         return match FileDisk::open(files, path) {
             Ok(disk) => Ok(disk),
@@ -108,7 +81,7 @@ fn disk_to_name(files: &HostRuntime, making: &str, area: u32) -> Result<FileDisk
 
 /// The disk of a server: the file as it is; where nothing is there and an area is given, a new one. It gets its name when it is whole, so
 /// that a server that was killed while it made the file leaves none. Where an area is given though the file is there, that is told.
-pub(crate) fn disk_to_serve<E: Write>(
+pub fn disk_to_serve<E: Write>(
     files: &HostRuntime,
     path: &str,
     area: Option<u32>,
@@ -156,13 +129,8 @@ fn explain<E: Write>(reason: NoDisk, path: &str, errors: &mut E) -> io::Result<(
     errors.flush()
 }
 
-// Writes why there is no disk; the status.
-pub(crate) fn no_disk<W: Write, E: Write>(
-    reason: NoDisk,
-    path: &str,
-    writer: &mut W,
-    errors: &mut E,
-) -> u8
+/// Writes why there is no disk; the status.
+pub fn no_disk<W: Write, E: Write>(reason: NoDisk, path: &str, writer: &mut W, errors: &mut E) -> u8
     ensures { result ≡ 1 }
 {
     let fault = reason.fault();
@@ -170,71 +138,4 @@ pub(crate) fn no_disk<W: Write, E: Write>(
     let _ = writer.flush();
     let _ = explain(reason, path, errors);
     1
-}
-
-fn status(end: SessionEnd) -> u8 {
-    match end {
-        SessionEnd::Finished => 0,
-        SessionEnd::Fault(_) => 1,
-    }
-}
-
-/// Does the script on standard input over the library in a file; the status. The error is lack of memory before it began.
-pub fn library<R, E: Write + Drop>(
-    rt: &R,
-    files: &HostRuntime,
-    asked: &Session,
-    persons: Persons,
-    errors: E,
-) -> Result<u8, AllocError>
-where
-    R: AllocGlobal + Input + Print + Eprint + Threads + Wait + Copy + Send + Sync + 'static,
-    requires some { 1 ≤ asked.now.workers }
-    requires few { asked.now.workers ≤ 8 }
-{
-    let (Ok(mut writer), Ok(errors)) = (
-        BufWriter::new(rt.alloc(), io::writer(rt)),
-        BufWriter::new(rt.alloc(), errors),
-    ) else {
-        return Err(AllocError);
-    };
-    let mut told = Telling {
-        errors,
-        is_quiet: persons.is_quiet,
-    };
-    let disk = match disk_of(files, asked.disk.as_str(), asked.area) {
-        Ok(disk) => disk,
-        Err(reason) => return Ok(no_disk(reason, asked.disk.as_str(), &mut writer, &mut told)),
-    };
-    let mut reader = rt.reader();
-    let (disk, end) = if persons.is_quiet {
-        session(
-            rt,
-            rt.alloc(),
-            &mut reader,
-            &mut writer,
-            disk,
-            asked.workers,
-        )
-    } else {
-        if persons.is_typed {
-            let _ = greet(&mut told);
-        }
-        let progress = Progress {
-            rt: *rt,
-            is_shown: persons.is_watched,
-        };
-        session_and_explain(
-            rt,
-            rt.alloc(),
-            &mut reader,
-            &mut writer,
-            &mut told,
-            disk,
-            asked.workers,
-            progress,
-        )
-    };
-    drop(disk);
-    Ok(status(end))
 }

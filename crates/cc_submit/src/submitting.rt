@@ -1,10 +1,10 @@
-// The command `submit`: a script for a server.
+// A script that is left for a server, and what became of it.
 
 ghost use Rattle.std.specs.Prelude.{◌≡◌, ◌≢◌, ◌++◌, ◌∷◌, [], None, Ok, IfOk};
 ghost use Rattle.cc_script.specs.Line.{asked_of};
 ghost use Rattle.cc_spool.specs.declared.submission.Submission.TheVariants.{Answered};
 ghost use Rattle.cc_script.specs.declared.command.Dialect.TheVariants.{Served};
-ghost use Rattle.cclib.specs.Sent.{asks_source, has_source, is_whole};
+ghost use Rattle.cc_submit.specs.internal.Sent.{asks_source, has_source, is_whole};
 
 use cc_answers::{Persons, Telling, explain_bad_line, explain_no_command, explain_words, words_of};
 use cc_command_line::Client;
