@@ -1,6 +1,6 @@
 -- A change of the map in two halves, as a library makes it: what needs memory first, the rest when the journal has answered.
-use Rattle.std.proofs.Common.{◌≡◌, Bool, true, false, cond, refl, sym, ap, ◌∙◌, ℕ}
-use Rattle.std.specs.Prelude.{Option, None, Result, Ok, Err, IsOk, is_some}
+use Rattle.std.proofs.Common.{◌≡◌, ◌≢◌, Bool, true, false, cond, refl, sym, ap, ◌∙◌, ℕ}
+use Rattle.std.specs.Prelude.{Option, Some, None, Result, Ok, Err, IsOk, is_some}
 use Rattle.std.specs.Cmp.Lexicographic.{nat_list_cmp_total}
 use Rattle.std.specs.FinMap as map
 use Rattle.cc_library.specs.declared.command.Command.{Command}
@@ -17,6 +17,25 @@ is_accepted (Err number) e = absurd (cc e)
 pub accepted_where : (answer : Result Units ℕ) (number : Option ℕ) → number ≡ refusal answer → is_some number ≡ false → IsOk answer
 accepted_where (Ok made) number is none = refl
 accepted_where (Err n) number is none = let no : true ≡ false = sym (ap is_some is) ∙ none in absurd (cc)
+
+-- the number that refuses is the answer's
+pub refused_by : (answer : Result Units ℕ) (number : ℕ) → Some number ≡ refusal answer → answer ≡ Err number
+refused_by (Ok made) number is = absurd (cc is)
+refused_by (Err n) number is = cc is
+
+-- and it is 32 where it is not 31
+absent_where : (there : Bool) (made : Units) (number : ℕ) → Some number ≡ refusal (cond there (Ok made) (Err absent)) → cond there (Ok made) (Err absent) ≡ Err absent
+absent_where true made number is = absurd (cc is)
+absent_where false made number is = refl
+
+pub refused_absent : (units : Units) (command : Command) (number : ℕ) → Some number ≡ refusal (apply units command) → number ≢ 31 → apply units command ≡ Err absent
+refused_absent units (Add name unit) number is other = exists_not (map.contains_key units name) (map.insert units name unit) number is other
+  where
+    exists_not : (there : Bool) (made : Units) (n : ℕ) → Some n ≡ refusal (cond there (Err exists) (Ok made)) → n ≢ 31 → cond there (Err exists) (Ok made) ≡ Err absent
+    exists_not true made n e ne = absurd (ne (cc e))
+    exists_not false made n e ne = absurd (cc e)
+refused_absent units (Replace name unit) number is other = absent_where (map.contains_key units name) (map.insert units name unit) number is
+refused_absent units (Withdraw name) number is other = absent_where (map.contains_key units name) (map.remove units name) number is
 
 added : (there : Bool) (units made : Units) → IsOk {T = Units} {E = ℕ} (cond there (Err exists) (Ok made)) → made ≡ kept units (cond there (Err exists) (Ok made))
 added true units made ok = absurd (cc ok)

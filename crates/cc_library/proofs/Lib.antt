@@ -8,5 +8,6 @@ pub mod Refused
 pub mod Opening
 pub mod Running
 pub mod Compacting
+pub mod Whole
 mod Sizes
 pub mod Prefix

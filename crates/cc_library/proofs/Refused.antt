@@ -17,7 +17,7 @@ use Rattle.cc_library.specs.Body.{body_of}
 use Rattle.cc_library.specs.Recovered.{StandFor, RecoversAlone, View}
 use Rattle.cc_library.specs.internal.Steps.{IsOldOrNew}
 use Rattle.cc_library.specs.Compact.{compacted}
-use Rattle.cc_library.specs.Answers.{ChangeAnswers, ChangeLeaves, ChangesDisk, CompactAnswers, IsAsked, IsMended, room_with}
+use Rattle.cc_library.specs.Answers.{ChangeAnswers, ChangeLeaves, ChangesDisk, CompactAnswers, CompactLeaves, IsAsked, IsMended, room_with}
 use Rattle.cc_library.proofs.Standing.{quiet, no_call, holds_recovers}
 
 module _ {D : Type 0} where
@@ -88,6 +88,17 @@ module _ {D : Type 0} where
   leaves_err journal.NotALibrary command old new units made closed is_fault back untouched bodies area e was = untouched_is old new units made closed is_fault back (untouched (λ p. cc p)) e was
   leaves_err journal.OutOfMemory command old new units made closed is_fault back untouched bodies area e was = untouched_is old new units made closed is_fault back (untouched (λ p. cc p)) e was
 
+  pub compact_leaves_err : (fault : JournalFault) (old new : journals.View D) (units : Units) (closed is_fault : Bool)
+      → (fault ≢ journal.DiskFault → new ≡ old) → new.bodies ≡ old.bodies → new.area ≡ old.area → is_fault ≡ sameb the_type fault journal.DiskFault → closed ≡ false
+      → CompactLeaves {T = Unit {0}} (seen_as old units closed) (seen_as new units is_fault) (Err (fault_of fault))
+  compact_leaves_err journal.DiskFault old new units closed is_fault untouched bodies area e was =
+      λ i. record { disk = new.disk; area = area i; bodies = bodies i; units = units; closed = e i }
+  compact_leaves_err journal.Full old new units closed is_fault untouched bodies area e was = untouched_is old new units units closed is_fault refl (untouched (λ p. cc p)) e was
+  compact_leaves_err journal.Closed old new units closed is_fault untouched bodies area e was = untouched_is old new units units closed is_fault refl (untouched (λ p. cc p)) e was
+  compact_leaves_err journal.Damaged old new units closed is_fault untouched bodies area e was = untouched_is old new units units closed is_fault refl (untouched (λ p. cc p)) e was
+  compact_leaves_err journal.NotALibrary old new units closed is_fault untouched bodies area e was = untouched_is old new units units closed is_fault refl (untouched (λ p. cc p)) e was
+  compact_leaves_err journal.OutOfMemory old new units closed is_fault untouched bodies area e was = untouched_is old new units units closed is_fault refl (untouched (λ p. cc p)) e was
+
   -- a refusal of the journal's `rewrite` is that of `compact`
   pub compact_refused : (fault : JournalFault) (j : journals.View D) (units : Units) (closed : Bool) (bodies : List (List ℕ)) (before behind : ℕ) → bodies ≡ compacted units → closed ≡ j.closed
       → CommitAnswers {T = Unit {0}} j.closed j.area bodies before behind (Err fault) → CompactAnswers {T = Unit {0}} (seen_as j units closed) before behind (Err (fault_of fault))
@@ -98,15 +109,15 @@ module _ {D : Type 0} where
   compact_refused journal.Damaged j units closed bodies before behind is same answers = absurd answers
   compact_refused journal.NotALibrary j units closed bodies before behind is same answers = absurd answers
 
-  -- where the log would not take a record, the change is refused as it says, and nothing is done
-  pub change_refused : (fault : JournalFault) (j : journals.View D) (units : Units) (closed : Bool) (command : Command) (failures : ℕ) → closed ≡ j.closed → IsOk (apply units command)
-      → AppendAnswers {T = Unit {0}} j.closed j.area j.bodies (body_of command) failures failures (Err fault) → ChangeAnswers {T = Unit {0}} (seen_as j units closed) command failures failures (Err (fault_of fault))
-  change_refused journal.Full j units closed command failures same ok answers = ((same ∙ answers.0, ok), answers.1, answers.2)
-  change_refused journal.DiskFault j units closed command failures same ok answers = ((same ∙ answers.0, ok), answers.1, answers.2)
-  change_refused journal.Closed j units closed command failures same ok answers = (same ∙ answers.0, answers.1)
-  change_refused journal.OutOfMemory j units closed command failures same ok answers = ((same ∙ answers.0, ok), answers.2)
-  change_refused journal.Damaged j units closed command failures same ok answers = absurd answers
-  change_refused journal.NotALibrary j units closed command failures same ok answers = absurd answers
+  -- a refusal of the journal's `append`, or of the log where it would not take a record, is that of the change
+  pub change_refused : (fault : JournalFault) (j : journals.View D) (units : Units) (closed : Bool) (command : Command) (before behind : ℕ) → closed ≡ j.closed → IsOk (apply units command)
+      → AppendAnswers {T = Unit {0}} j.closed j.area j.bodies (body_of command) before behind (Err fault) → ChangeAnswers {T = Unit {0}} (seen_as j units closed) command before behind (Err (fault_of fault))
+  change_refused journal.Full j units closed command before behind same ok answers = ((same ∙ answers.0, ok), answers.1, answers.2)
+  change_refused journal.DiskFault j units closed command before behind same ok answers = ((same ∙ answers.0, ok), answers.1, answers.2)
+  change_refused journal.Closed j units closed command before behind same ok answers = (same ∙ answers.0, answers.1)
+  change_refused journal.OutOfMemory j units closed command before behind same ok answers = ((same ∙ answers.0, ok), answers.2)
+  change_refused journal.Damaged j units closed command before behind same ok answers = absurd answers
+  change_refused journal.NotALibrary j units closed command before behind same ok answers = absurd answers
 
   -- ---- what a `compact` would mend
 

@@ -11,7 +11,7 @@ ghost use Rattle.cc_library.specs.Apply.{after, after_all, library_of};
 ghost use Rattle.cc_library.specs.Body.{body_of};
 ghost use Rattle.cc_library.specs.Recovered.{Recovers, RecoversAlone, StandFor, View};
 ghost use Rattle.cc_library.specs.Compact.{compacted, room_compacted};
-ghost use Rattle.cc_library.specs.Answers.{OpenFaults, ChangesDisk, CompactsDisk, ChangeAnswers, ChangeLeaves, CompactAnswers, CompactLeaves, IsChanged, IsCompacted, IsMended, room_with};
+ghost use Rattle.cc_library.specs.Answers.{OpenFaults, CompactLeaves, IsChanged, IsChangedAs, IsCompacted, IsCompactedAs, IsMended, room_with};
 ghost use Rattle.cc_library.specs.Runs.{AreDone, AreEdited, EditAnswers, EditLeaves, HadNoRoom, IsEdited, IsRefused, RecoversAmong, Stopped, after_edit, records_after};
 ghost use Rattle.cc_library.specs.internal.Steps.{IsOldOrNew, IsMidEdit};
 
@@ -339,12 +339,7 @@ impl<D: Disk> Library<D> {
 
     // The records once more, one Add per name: all growths are made, then the log decides.
     fn write_anew(&mut self, alloc: Global) -> Result<(), LibraryFault>
-        ensures answers { CompactAnswers self.old (D.failures self.old.disk) (D.failures self.new.disk) result }
-        ensures leaves { CompactLeaves self.old self.new result }
-        ensures disk { IsTrue D.honest → CompactsDisk D.seen D.may_leave self.old self.new result }
-        ensures size { D.size self.new.disk ≡ D.size self.old.disk }
-        ensures moments { IsTrue D.honest → self.old.closed ≡ false
-            → LeavesOnly D.moment D.left_since self.old.disk self.new.disk
+        ensures compacted { IsCompactedAs D.Disk self.old self.new result
             (IsOldOrNew self.old.area self.old.bodies self.old.units (compacted self.old.units) self.old.units) }
     {
         // What the log promises of its images, for the calls that end before a device call.
@@ -371,13 +366,7 @@ impl<D: Disk> Library<D> {
 
     // One change: the map is asked, all growths are made, then the log decides.
     fn append_change(&mut self, alloc: Global, command: Command) -> Result<(), LibraryFault>
-        ensures answers { ChangeAnswers self.old command (D.failures self.old.disk) (D.failures self.new.disk) result }
-        ensures leaves { ChangeLeaves command self.old self.new result }
-        ensures size { D.size self.new.disk ≡ D.size self.old.disk }
-        ensures disk { IsTrue D.honest → ChangesDisk D.seen D.may_leave command self.old self.new result }
-        ensures kept { OnOk result (IsTrue D.honest → (image : List ℕ) → D.may_leave self.new.disk image → RecoversAlone image self.new.units) }
-        ensures moments { IsTrue D.honest → self.old.closed ≡ false
-            → LeavesOnly D.moment D.left_since self.old.disk self.new.disk
+        ensures changed { IsChangedAs D.Disk command self.old self.new result
             (IsOldOrNew self.old.area self.old.bodies self.old.units (self.old.bodies ++ body_of command ∷ []) (after self.old.units command)) }
     {
         // What the log promises of its images, for the calls that end before a device call.

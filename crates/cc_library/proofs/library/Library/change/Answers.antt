@@ -10,7 +10,7 @@ use Rattle.cc_library.proofs.library.Library.change.Goals as goal
 pub returns : goal.returns
 returns g c =
     let D = g.D.Disk in
-    let e = c.append_change.ensures in
+    let e = c.append_change.ensures.changed in
     let old = c.args.self.now in
     let new = c.append_change.new.self in
     let made = after old.units c.args.command in

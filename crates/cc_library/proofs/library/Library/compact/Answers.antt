@@ -8,7 +8,7 @@ use Rattle.cc_library.proofs.library.Library.compact.Goals as goal
 pub returns : goal.returns
 returns g c =
     let D = g.D.Disk in
-    let e = c.write_anew.ensures in
+    let e = c.write_anew.ensures.compacted in
     let old = c.args.self.now in
     let new = c.write_anew.new.self in
     record {
