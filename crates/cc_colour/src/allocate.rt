@@ -63,7 +63,7 @@ fn coloured_whole(alloc: Global, code: Code<'_>) -> Result<Option<Ltl>, AllocErr
     };
     let mut cut = Vec::with_capacity(alloc, graph.webs.len())?;
     for web in &graph.webs {
-        cut.push(is_cheap_to_cut(web))?;
+        cut.push(is_cheap_to_cut(&graph, web))?;
     }
     for round in 1..=ROUNDS {
         let answer = coloured_cut(alloc, whole, cut.as_mut_slice(), round < ROUNDS)?;
@@ -75,15 +75,23 @@ fn coloured_whole(alloc: Global, code: Code<'_>) -> Result<Option<Ltl>, AllocErr
 }
 
 // Whether to keep a web over its calls costs less by a slot than by a saved register.
-fn is_cheap_to_cut(web: &Web) -> bool {
+fn is_cheap_to_cut(graph: &Graph, web: &Web) -> bool {
+    if web.kept == 0 {
+        return false;
+    }
     let mut moves = 0u32;
-    for wish in &web.wishes {
-        if let Partner::Register(_) = wish.partner {
-            moves = moves.saturating_add(wish.weight);
+    let mut at = web.last_wish;
+    for _ in 0..graph.wishes() {
+        let Some(wished) = graph.wished(at) else {
+            break;
+        };
+        at = wished.before;
+        if let Partner::Register(_) = wished.wish.partner {
+            moves = moves.saturating_add(wished.wish.weight);
         }
     }
     let by_slot = web.kept.saturating_add(web.kept.min(web.set));
-    web.kept > 0 && by_slot <= moves.saturating_add(SAVING)
+    by_slot <= moves.saturating_add(SAVING)
 }
 
 // The same with some webs cut; where none is, the pieces are the whole webs. Where more are to be cut, these are marked, and there is no

@@ -15,6 +15,7 @@ use crate::webs::{Crossing, Crossings};
 use cc_ltl::{Block, Move, Moves, Operation, Register};
 use cc_rtl_language::Node;
 use std::alloc::{AllocError, Global};
+use std::mem;
 
 /// What blocks are made of.
 #[derive(Clone, Copy)]
@@ -82,7 +83,8 @@ impl Placed<'_> {
 }
 
 /// A block that is being made: its node, its moves, the registers that hold something in front of the operation, and whether a register
-/// was wanted where none was free, or memory was refused; room for moves that are to be done all at once, and for what crosses a call.
+/// was wanted where none was free, or memory was refused; room for moves that are to be done all at once, and for what crosses a call,
+/// which the blocks of a function share.
 #[derive(Drop)]
 struct Draft<'a> {
     placed: Placed<'a>,
@@ -100,8 +102,9 @@ struct Draft<'a> {
 pub fn blocks(alloc: Global, placed: Placed<'_>) -> Result<Option<Vec<Block>>, AllocError> {
     let rtl = placed.code.shape.rtl;
     let mut blocks = Vec::with_capacity(alloc, rtl.len())?;
+    let mut draft = no_draft(alloc, placed);
     for at in 0..rtl.len() {
-        match block(alloc, placed, at as u32, rtl.node(at))? {
+        match draft.block(alloc, at as u32, rtl.node(at))? {
             Some(block) => blocks.push(block)?,
             None => {
                 drop(blocks);
@@ -112,48 +115,18 @@ pub fn blocks(alloc: Global, placed: Placed<'_>) -> Result<Option<Vec<Block>>, A
     Ok(Some(blocks))
 }
 
-fn block(
-    alloc: Global,
-    placed: Placed<'_>,
-    label: u32,
-    node: &Node,
-) -> Result<Option<Block>, AllocError> {
-    let at = label as usize;
-    let mut draft = Draft {
+fn no_draft(alloc: Global, placed: Placed<'_>) -> Draft<'_> {
+    Draft {
         placed,
-        at,
+        at: 0,
         before: Vec::new(alloc),
         after: Vec::new(alloc),
-        taken: placed.places.registers(placed.code.webs.in_front(at)),
+        taken: 0,
         short: false,
         failed: false,
         pending: Vec::new(alloc),
         crossings: Crossings::new(alloc),
-    };
-    let operation = draft.draw(node);
-    let Draft {
-        before,
-        after,
-        short,
-        failed,
-        ..
-    } = draft;
-    if failed {
-        drop(before);
-        drop(after);
-        return Err(AllocError);
     }
-    if short {
-        drop(before);
-        drop(after);
-        return Ok(None);
-    }
-    Ok(Some(Block {
-        label,
-        before: moves(alloc, before),
-        operation,
-        after: moves(alloc, after),
-    }))
 }
 
 // Moves of a block; none where there are more than a block has.
@@ -175,6 +148,38 @@ fn no_moves(alloc: Global) -> Moves {
 }
 
 impl Draft<'_> {
+    // The block of the next node. Behind an error, and behind None, no other is to be made.
+    fn block(
+        &mut self,
+        alloc: Global,
+        label: u32,
+        node: &Node,
+    ) -> Result<Option<Block>, AllocError> {
+        let placed = self.placed;
+        self.at = label as usize;
+        self.taken = placed.places.registers(placed.code.webs.in_front(self.at));
+        self.pending.clear();
+        let operation = self.draw(node);
+        let before = mem::replace(&mut self.before, Vec::new(alloc));
+        let after = mem::replace(&mut self.after, Vec::new(alloc));
+        if self.failed {
+            drop(before);
+            drop(after);
+            return Err(AllocError);
+        }
+        if self.short {
+            drop(before);
+            drop(after);
+            return Ok(None);
+        }
+        Ok(Some(Block {
+            label,
+            before: moves(alloc, before),
+            operation,
+            after: moves(alloc, after),
+        }))
+    }
+
     // Where a register that is live in front of the node is.
     fn operand(&self, register: u32) -> Option<Place> {
         let web = self.placed.code.at(self.at, register)?;

@@ -26,8 +26,8 @@ pub struct Wish {
 }
 
 /// What is known of a web: the registers that it cannot have; how often it is read or set, and set alone; how often a call keeps it, or it
-/// is a piece behind a call or in front of one; its wishes.
-#[derive(Drop)]
+/// is a piece behind a call or in front of one; its last wish, which its graph knows by this number.
+#[derive(Clone, Copy)]
 pub struct Web {
     pub forbidden: Registers,
     pub cost: u32,
@@ -35,7 +35,7 @@ pub struct Web {
     pub kept: u32,
     pub entered: u32,
     pub left: u32,
-    pub wishes: Vec<Wish>,
+    pub last_wish: u32,
 }
 
 impl Web {
@@ -47,6 +47,13 @@ impl Web {
             .saturating_sub(self.entered)
             .saturating_sub(stores)
     }
+}
+
+/// The webs that a node other than a call reads, in their order.
+#[derive(Clone, Copy)]
+pub struct Read {
+    pub first: Option<u32>,
+    pub second: Option<u32>,
 }
 
 /// A function and its webs.
@@ -62,6 +69,22 @@ impl<'a> Code<'a> {
         self.webs.at(self.shape, node, register)
     }
 
+    /// The webs that a node other than a call reads.
+    pub fn read(self, at: usize, node: &Node) -> Read {
+        let [first, second] = operands(node);
+        Read {
+            first: self.of_register(at, first),
+            second: self.of_register(at, second),
+        }
+    }
+
+    fn of_register(self, at: usize, register: Option<u32>) -> Option<u32> {
+        match register {
+            Some(register) => self.at(at, register),
+            None => None,
+        }
+    }
+
     /// The webs that are live behind a node, where it is no branch.
     pub fn behind(self, node: usize) -> &'a [u32] {
         match self.shape.behind(node) {
@@ -71,31 +94,47 @@ impl<'a> Code<'a> {
     }
 }
 
-/// Webs and the interferences between them.
+/// A wish, and the number of the one before it of the same web.
+#[derive(Clone, Copy)]
+pub struct Wished {
+    pub wish: Wish,
+    pub before: u32,
+}
+
+/// Webs, the interferences between them, and what they wish for. Wishes are numbered from 1; there is none with number 0.
 #[derive(Drop)]
 pub struct Graph {
     pub edges: Matrix,
     pub webs: Vec<Web>,
+    wishes: Vec<Wished>,
 }
 
 impl Graph {
     /// That of a function.
     pub fn of(alloc: Global, code: Code<'_>) -> Result<Graph, AllocError> {
-        let mut graph = Graph::empty(alloc, code.webs.count())?;
+        let mut graph = Graph::empty(alloc, code.webs.count(), code.shape.rtl.len())?;
         graph.add_nodes(alloc, code)?;
         Ok(graph)
     }
 
-    // That of this many webs of which nothing is known.
-    fn empty(alloc: Global, count: u32) -> Result<Graph, AllocError> {
-        let mut graph = Graph {
+    /// How many wishes there are.
+    pub fn wishes(&self) -> usize {
+        self.wishes.len()
+    }
+
+    /// The wish with a number.
+    pub fn wished(&self, number: u32) -> Option<Wished> {
+        let at = (number as usize).checked_sub(1)?;
+        self.wishes.get(at).copied()
+    }
+
+    // That of this many webs of which nothing is known, with room for a wish of each node.
+    fn empty(alloc: Global, count: u32, nodes: usize) -> Result<Graph, AllocError> {
+        Ok(Graph {
             edges: Matrix::new(alloc, count)?,
-            webs: Vec::with_capacity(alloc, count as usize)?,
-        };
-        for _ in 0..count {
-            graph.webs.push(no_web(alloc))?;
-        }
-        Ok(graph)
+            webs: vec![in alloc; no_web(); count as usize]?,
+            wishes: Vec::with_capacity(alloc, nodes)?,
+        })
     }
 
     fn add_nodes(&mut self, alloc: Global, code: Code<'_>) -> Result<(), AllocError> {
@@ -103,10 +142,11 @@ impl Graph {
         let rtl = code.shape.rtl;
         for at in 0..rtl.len() {
             let node = rtl.node(at);
-            self.count_reads(code, at, node);
+            let read = code.read(at, node);
+            self.count_reads(code, at, node, read);
             code.webs.crossings(code.shape, at, &mut crossings)?;
             self.add_crossings(code, at, crossings.all.as_slice());
-            self.add_node(code, at, node)?;
+            self.add_node(code, at, node, read)?;
             if at == rtl.entry() as usize {
                 self.add_entry(code, at)?;
             }
@@ -126,13 +166,19 @@ impl Graph {
         Ok(())
     }
 
-    fn add_node(&mut self, code: Code<'_>, at: usize, node: &Node) -> Result<(), AllocError> {
+    fn add_node(
+        &mut self,
+        code: Code<'_>,
+        at: usize,
+        node: &Node,
+        read: Read,
+    ) -> Result<(), AllocError> {
         if let Some(web) = code.webs.result(at) {
             self.count_set(web, code.shape.weight(at));
-            self.add_edges(code.behind(at), web, copied(code, at, node));
+            self.add_edges(code.behind(at), web, copied(node, read));
         }
-        self.forbid_overwritten(code, at, node);
-        self.add_wishes(code, at, node)
+        self.forbid_overwritten(code, at, node, read);
+        self.add_wishes(code, at, node, read)
     }
 
     // What a call cuts is set behind it; what it keeps whole can be in no register that it destroys.
@@ -159,16 +205,15 @@ impl Graph {
 
     // What a read or a write overwrites by itself is forbidden to what is live behind it, but for its result, and for the word that it
     // takes there.
-    fn forbid_overwritten(&mut self, code: Code<'_>, at: usize, node: &Node) {
-        let behind = code.behind(at);
+    fn forbid_overwritten(&mut self, code: Code<'_>, at: usize, node: &Node, read: Read) {
         match node {
             Node::Read { .. } => {
                 let set = code.webs.result(at);
-                self.forbid_all(behind, set, only(RESULT) | only(SERVICE));
+                self.forbid_all(code.behind(at), set, only(RESULT) | only(SERVICE));
             }
-            Node::Write { from, .. } => {
-                self.forbid_all(behind, code.at(at, *from), only(RESULT));
-                self.forbid_all(behind, None, only(SERVICE));
+            Node::Write { .. } => {
+                self.forbid_all(code.behind(at), read.first, only(RESULT));
+                self.forbid_all(code.behind(at), None, only(SERVICE));
             }
             _ => {}
         }
@@ -184,11 +229,17 @@ impl Graph {
         }
     }
 
-    fn add_wishes(&mut self, code: Code<'_>, at: usize, node: &Node) -> Result<(), AllocError> {
+    fn add_wishes(
+        &mut self,
+        code: Code<'_>,
+        at: usize,
+        node: &Node,
+        read: Read,
+    ) -> Result<(), AllocError> {
         let weight = code.shape.weight(at);
         let set = code.webs.result(at);
         match node {
-            Node::Move { from, .. } => self.wish_both(code.at(at, *from), set, weight),
+            Node::Move { .. } => self.wish_both(read.first, set, weight),
             Node::Call { arguments, .. } => {
                 for (number, argument) in arguments.as_slice().iter().enumerate() {
                     let web = code.at(at, *argument);
@@ -197,8 +248,8 @@ impl Graph {
                 self.wish_for(set, Some(RESULT), weight)
             }
             Node::Read { .. } => self.wish_for(set, Some(RESULT), weight),
-            Node::Write { from, .. } | Node::Return { from } => {
-                self.wish_for(code.at(at, *from), Some(RESULT), weight)
+            Node::Write { .. } | Node::Return { .. } => {
+                self.wish_for(read.first, Some(RESULT), weight)
             }
             Node::Const { to, .. } => self.wish_both(set, overwriting(code, at, *to), weight),
             _ => Ok(()),
@@ -234,29 +285,30 @@ impl Graph {
 
     fn wish(&mut self, web: u32, partner: Partner, weight: u32) -> Result<(), AllocError> {
         if let Some(known) = self.webs.get_mut(web as usize) {
-            known.wishes.push(Wish { partner, weight })?;
+            let wish = Wish { partner, weight };
+            let before = known.last_wish;
+            self.wishes.push(Wished { wish, before })?;
+            known.last_wish = u32::try_from(self.wishes.len()).unwrap_or(0);
         }
         Ok(())
     }
 
-    fn count_reads(&mut self, code: Code<'_>, at: usize, node: &Node) {
-        for register in operands(node) {
-            if let Some(register) = register {
-                self.count_read(code, at, register);
-            }
-        }
+    fn count_reads(&mut self, code: Code<'_>, at: usize, node: &Node, read: Read) {
+        let weight = code.shape.weight(at);
+        self.count_read(read.first, weight);
+        self.count_read(read.second, weight);
         if let Node::Call { arguments, .. } = node {
             for register in arguments.as_slice() {
-                self.count_read(code, at, *register);
+                self.count_read(code.at(at, *register), weight);
             }
         }
     }
 
-    fn count_read(&mut self, code: Code<'_>, at: usize, register: u32) {
-        if let Some(web) = code.at(at, register)
+    fn count_read(&mut self, web: Option<u32>, weight: u32) {
+        if let Some(web) = web
             && let Some(known) = self.webs.get_mut(web as usize)
         {
-            known.cost = known.cost.saturating_add(code.shape.weight(at));
+            known.cost = known.cost.saturating_add(weight);
         }
     }
 
@@ -285,7 +337,7 @@ impl Graph {
     }
 }
 
-fn no_web(alloc: Global) -> Web {
+fn no_web() -> Web {
     Web {
         forbidden: 0,
         cost: 0,
@@ -293,14 +345,14 @@ fn no_web(alloc: Global) -> Web {
         kept: 0,
         entered: 0,
         left: 0,
-        wishes: Vec::new(alloc),
+        last_wish: 0,
     }
 }
 
 // The web that a move copies.
-fn copied(code: Code<'_>, at: usize, node: &Node) -> Option<u32> {
+fn copied(node: &Node, read: Read) -> Option<u32> {
     match node {
-        Node::Move { from, .. } => code.at(at, *from),
+        Node::Move { .. } => read.first,
         _ => None,
     }
 }

@@ -70,9 +70,7 @@ impl Points {
         for word in 0..live.words() {
             row.bits = live.word(node, word);
             other.bits = live.word(behind, word);
-            add_common(row, other, !bit_in(but, word), into)?;
-            row.first = row.first.saturating_add(ones(row.bits));
-            other.first = other.first.saturating_add(ones(other.bits));
+            add_common(&mut row, &mut other, !bit_in(but, word), into)?;
         }
         Ok(())
     }
@@ -86,9 +84,13 @@ struct Row {
 }
 
 impl Row {
-    // The point of a bit, of which the bits below are given.
-    fn point(self, below: u64) -> usize {
-        self.first.saturating_add(ones(self.bits & below))
+    // The point behind a bit, which comes before those of the rest of the word; the same point where the bit is not set.
+    fn past(self, bit: u64) -> usize {
+        if self.bits & bit == 0 {
+            self.first
+        } else {
+            self.first.saturating_add(1)
+        }
     }
 }
 
@@ -104,20 +106,25 @@ fn bit_in(register: Option<u32>, word: usize) -> u64 {
     }
 }
 
-// Adds the points of the bits that two words have in common.
+// Adds the points of the bits that two words have in common, and goes past all points of both.
 fn add_common(
-    row: Row,
-    other: Row,
+    row: &mut Row,
+    other: &mut Row,
     mask: u64,
     into: &mut Vec<(usize, usize)>,
 ) -> Result<(), AllocError> {
-    let mut rest = row.bits & other.bits & mask;
+    let common = row.bits & other.bits & mask;
+    let mut rest = row.bits | other.bits;
     for _ in 0..64 {
         if rest == 0 {
             break;
         }
-        let below = (rest & rest.wrapping_neg()).wrapping_sub(1);
-        into.push((row.point(below), other.point(below)))?;
+        let bit = rest & rest.wrapping_neg();
+        if common & bit != 0 {
+            into.push((row.first, other.first))?;
+        }
+        row.first = row.past(bit);
+        other.first = other.past(bit);
         rest &= rest.wrapping_sub(1);
     }
     Ok(())

@@ -4,7 +4,7 @@
 //! webs beside it that have none yet count against it, and a register that the function would have to save for it costs that. A web for
 //! which nothing is left, or for which a slot is cheaper, has a slot.
 
-use crate::interference::{Graph, Partner, Web, Wish};
+use crate::interference::{Graph, Partner, Web};
 use crate::registers::{ALL, DESTROYED, ORDER, Registers, contains, only};
 use std::alloc::{AllocError, Global};
 
@@ -80,12 +80,15 @@ impl Choice {
 
     fn best(&self, graph: &Graph, web: &Web, beside: &[u32], reserved: Registers) -> Option<u8> {
         let left = ALL & !reserved & !web.forbidden & !self.registers(beside);
-        let mut scores = [0i64; 32];
-        self.count_wishes(&mut scores, web, false);
-        self.count_partners(&mut scores, graph, web.wishes.as_slice());
+        let mut scores = Scores {
+            scores: [0i64; 32],
+            counted: 0,
+        };
+        self.count_wishes(&mut scores, graph, web, false);
+        self.count_partners(&mut scores, graph, web);
         for other in beside {
             if let Some(known) = self.undecided(graph, *other) {
-                self.count_wishes(&mut scores, known, true);
+                self.count_wishes(&mut scores, graph, known, true);
             }
         }
         let best = self.highest(&scores, left)?;
@@ -97,28 +100,32 @@ impl Choice {
     }
 
     // The register of a set that saves most, the first of several.
-    fn highest(&self, scores: &[i64; 32], left: Registers) -> Option<u8> {
+    fn highest(&self, scores: &Scores, left: Registers) -> Option<u8> {
         let mut best = None;
         let mut most = i64::MIN;
-        let top = highest_of(scores);
+        let mut rest = left;
         for register in ORDER {
-            if contains(left, register) {
+            if rest == 0 {
+                break;
+            }
+            if contains(rest, register) {
                 let score = self.score(scores, register);
                 if score > most {
                     best = Some(register);
                     most = score;
                 }
-            }
-            // None scores more.
-            if most >= top {
-                break;
+                rest &= !only(register);
+                // Of those for which nothing was counted, none scores more.
+                if most >= 0 {
+                    rest &= scores.counted;
+                }
             }
         }
         best
     }
 
-    fn score(&self, scores: &[i64; 32], register: u8) -> i64 {
-        let score = scores.get(register as usize).copied().unwrap_or(0);
+    fn score(&self, scores: &Scores, register: u8) -> i64 {
+        let score = scores.of(register);
         if self.is_new(register) {
             score.saturating_sub(i64::from(SAVING))
         } else {
@@ -132,12 +139,17 @@ impl Choice {
     }
 
     // Counts for a web what those that it would share a register with, and that have none yet, wish themselves.
-    fn count_partners(&self, scores: &mut [i64; 32], graph: &Graph, wishes: &[Wish]) {
-        for wish in wishes {
-            if let Partner::Web(web) = wish.partner
+    fn count_partners(&self, scores: &mut Scores, graph: &Graph, web: &Web) {
+        let mut at = web.last_wish;
+        for _ in 0..graph.wishes() {
+            let Some(wished) = graph.wished(at) else {
+                break;
+            };
+            at = wished.before;
+            if let Partner::Web(web) = wished.wish.partner
                 && let Some(partner) = self.undecided(graph, web)
             {
-                self.count_wishes(scores, partner, false);
+                self.count_wishes(scores, graph, partner, false);
             }
         }
     }
@@ -151,31 +163,46 @@ impl Choice {
     }
 
     // Counts a web's wishes for, or against, the registers that they are for, as far as it may have these.
-    fn count_wishes(&self, scores: &mut [i64; 32], web: &Web, against: bool) {
-        for wish in &web.wishes {
-            let register = match wish.partner {
+    fn count_wishes(&self, scores: &mut Scores, graph: &Graph, web: &Web, against: bool) {
+        let mut at = web.last_wish;
+        for _ in 0..graph.wishes() {
+            let Some(wished) = graph.wished(at) else {
+                break;
+            };
+            at = wished.before;
+            let register = match wished.wish.partner {
                 Partner::Register(register) => Some(register),
                 Partner::Web(web) => self.register(web),
             };
             if let Some(register) = register
                 && !contains(web.forbidden, register)
-                && let Some(score) = scores.get_mut(register as usize)
             {
-                let weight = i64::from(wish.weight);
-                *score = if against {
-                    score.saturating_sub(weight)
-                } else {
-                    score.saturating_add(weight)
-                };
+                scores.count(register, i64::from(wished.wish.weight), against);
             }
         }
     }
 }
 
-fn highest_of(scores: &[i64; 32]) -> i64 {
-    let mut top = 0;
-    for score in scores {
-        top = top.max(*score);
+// How many moves each register would save, and those for which something was counted.
+#[derive(Drop)]
+struct Scores {
+    scores: [i64; 32],
+    counted: Registers,
+}
+
+impl Scores {
+    fn of(&self, register: u8) -> i64 {
+        self.scores.get(register as usize).copied().unwrap_or(0)
     }
-    top
+
+    fn count(&mut self, register: u8, weight: i64, against: bool) {
+        if let Some(score) = self.scores.get_mut(register as usize) {
+            *score = if against {
+                score.saturating_sub(weight)
+            } else {
+                score.saturating_add(weight)
+            };
+            self.counted |= only(register);
+        }
+    }
 }
