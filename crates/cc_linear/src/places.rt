@@ -25,6 +25,11 @@ pub fn place(labels: &[u32], label: u32) -> usize
     ensures place { result ≡ place_in labels.now label }
     ensures inside { result < length labels.now }
 {
+    // As a rule a label is the number of its place.
+    let own = label as usize;
+    if own < labels.len() && labels[own] == label {
+        return own;
+    }
     match labels.binary_search(&label) {
         Ok(place) => place,
         Err(_) => unreachable!(),
