@@ -1,6 +1,6 @@
 // What is at a limit, and past it.
 
-use super::helpers::{Part, Run, image_runs, runs, text_of};
+use super::helpers::{Run, image_runs, runs};
 use super::numbered::{deep, many};
 use super::orders::shared_unit;
 use super::padded::{blocks, padded};
@@ -11,6 +11,7 @@ use cc_typing::TypedUnit;
 use std::alloc::Global;
 use std::sync::Arc;
 use std::test::Fail;
+use tests_texts::parts::{Part, text_of};
 
 // A run without input that writes one word and ends with 0.
 fn writes_one(words: &[i32; 1], steps: u64) -> Run<'_> {

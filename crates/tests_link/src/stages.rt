@@ -5,7 +5,6 @@
 #[cfg(test)]
 mod row;
 
-use super::helpers::{Part, text_of};
 use super::orders::shared_unit;
 use super::rows::LONG;
 use cc_link::compile;
@@ -14,6 +13,7 @@ use cc_stages::{StagesFault, stages};
 use row::ROW;
 use std::alloc::{AllocError, Global};
 use std::test::Fail;
+use tests_texts::parts::{Part, text_of};
 use tests_texts::programs::{CRC, FIB, GCD, MATMUL, NEST, REGS, SIEVE, SORT};
 
 /// A function with each form of step.
