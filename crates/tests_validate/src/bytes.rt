@@ -38,7 +38,7 @@ fn exchanged(ltl: &Ltl) -> Option<(usize, Operation)> {
 
 // With the operands exchanged it is refused with 24, and the pair that comes back is right with the allocation as it was.
 fn difference_is_guarded(alloc: Global) -> Result<bool, Fail> {
-    let unit = unit_of(alloc, DIFFERENCE)?;
+    let unit = unit_of(alloc, DIFFERENCE.as_bytes())?;
     let pair = pair_of(alloc, &unit, 0)?;
     let ltl = spill_all(alloc, pair.code())?;
     let Some((place, other)) = exchanged(&ltl) else {
@@ -124,7 +124,7 @@ fn are_answered(
     first: usize,
     one_in: usize,
 ) -> Result<bool, Fail> {
-    let unit = unit_of(alloc, text)?;
+    let unit = unit_of(alloc, text.as_bytes())?;
     let pair = pair_of(alloc, &unit, function)?;
     let ltl = spill_all(alloc, pair.code())?;
     let mut bytes = write_ltl(alloc, &ltl)?;
@@ -142,7 +142,7 @@ fn are_answered(
 
 // Each prefix of a function's allocation that is shorter has 37.
 fn are_prefixes_refused(alloc: Global, text: &str, function: usize) -> Result<bool, Fail> {
-    let unit = unit_of(alloc, text)?;
+    let unit = unit_of(alloc, text.as_bytes())?;
     let ltl = spill_all(alloc, pair_of(alloc, &unit, function)?.code())?;
     let bytes = write_ltl(alloc, &ltl)?;
     for end in 0..bytes.len() {

@@ -1,7 +1,8 @@
 // Live sets of other functions: there is an answer, which is accepted or refused with 24.
 
-use super::functions::{pair_of, unit_of};
+use super::functions::pair_of;
 use super::texts::WORKED;
+use crate::pairs::unit_of;
 use cc_colour::colour;
 use cc_live::{Liveness, liveness};
 use cc_ltl::{read_ltl, write_ltl};
