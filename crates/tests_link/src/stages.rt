@@ -84,7 +84,9 @@ fn row_text(alloc: Global, function: &str) -> Result<Vec<u8>, AllocError> {
             add(&mut text, ": ")?;
             add(&mut text, stage)?;
             add(&mut text, "\n")?;
-            add(&mut text, lines)?;
+            for part in lines.iter() {
+                add(&mut text, part)?;
+            }
         }
     }
     Ok(text)
