@@ -5,7 +5,7 @@ ghost use Rattle.cc_disk.specs.Images.{LeavesAlone, OnlyReads};
 ghost use Rattle.cc_journal.specs.Format.{header, records, room_of, HasHeader, IsArea};
 ghost use Rattle.cc_journal.specs.Journal.{IsKept};
 ghost use Rattle.cc_journal.specs.Answers.{OpenFaults};
-ghost use Rattle.cc_journal.specs.internal.Reading.{BeginsWith, EndsClosed, FindsRecord, IsReadingFault, Shows, is_fault_of_disk};
+ghost use Rattle.cc_journal.specs.internal.Reading.{BeginsWith, EndsClosed, FindsRecord, IsReadingFault, Shows, counted};
 
 use crate::body::Body;
 use crate::commit::OPEN;
@@ -126,7 +126,7 @@ fn read_records<D: Disk>(
     requires is_area { IsArea (D.size disk.old) area }
     ensures size { D.size disk.new ≡ D.size disk.old }
     ensures reads { IsTrue D.honest → OnlyReads D.seen D.may_leave D.moment D.left_since disk.old disk.new }
-    ensures failures { D.failures disk.new ≡ (if is_fault_of_disk result then D.failures disk.old + 1 else D.failures disk.old) }
+    ensures failures { D.failures disk.new ≡ counted result (D.failures disk.old) }
     ensures room { IfOk result (λ found. (found.1 ≡ length (records found.0.items)) × (found.1 + 1 ≤ area)) }
     ensures records { IfOk result (λ found. IsTrue D.honest → EndsClosed (drop start (D.seen disk.old)) found.0.items) }
     ensures damaged { IsErrOf result JournalFault.Damaged → IsTrue D.honest
@@ -165,7 +165,7 @@ fn read_record<D: Disk>(
     requires shown { IsTrue D.honest → Shows window.old.offset window.old.bytes.items (D.seen disk.old) }
     ensures size { D.size disk.new ≡ D.size disk.old }
     ensures reads { IsTrue D.honest → OnlyReads D.seen D.may_leave D.moment D.left_since disk.old disk.new }
-    ensures failures { D.failures disk.new ≡ (if is_fault_of_disk result then D.failures disk.old + 1 else D.failures disk.old) }
+    ensures failures { D.failures disk.new ≡ counted result (D.failures disk.old) }
     ensures shown { OnOk result (IsTrue D.honest → Shows window.new.offset window.new.bytes.items (D.seen disk.old)) }
     ensures fits { IfOk result (λ found. IfSome found (λ body. length body + 6 ≤ left)) }
     ensures finds { IsTrue D.honest → FindsRecord (drop offset (D.seen disk.old)) left result }

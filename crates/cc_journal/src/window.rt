@@ -1,9 +1,9 @@
 // Reading ahead. Records are short, and a device call for each of their parts would cost more than the parts: so one call
 // reads what follows an offset, as far as a window goes, and the parts of the records there are taken from the window. A
 // body that goes on behind the window is completed by a call of its own, so no byte is read twice.
-ghost use Rattle.std.specs.Prelude.{◌≡◌, ◌+◌, ◌-◌, ◌^◌, ◌<◌, ◌≤◌, [], List, ℕ, IsTrue, length, take, drop, IfOk, IfErr, OnOk, if◌then◌else◌};
+ghost use Rattle.std.specs.Prelude.{◌≡◌, ◌+◌, ◌-◌, ◌^◌, ◌<◌, ◌≤◌, [], List, ℕ, IsTrue, length, take, drop, IfOk, IfErr, OnOk};
 ghost use Rattle.cc_disk.specs.Images.{OnlyReads};
-ghost use Rattle.cc_journal.specs.internal.Reading.{IsBytesFault, Shows, is_fault_of_disk};
+ghost use Rattle.cc_journal.specs.internal.Reading.{IsBytesFault, Shows, counted};
 
 use crate::fault::JournalFault;
 use cc_disk::Disk;
@@ -67,7 +67,7 @@ impl Window {
         requires shown { IsTrue D.honest → Shows self.old.offset self.old.bytes.items (D.seen disk.old) }
         ensures size { D.size disk.new ≡ D.size disk.old }
         ensures reads { IsTrue D.honest → OnlyReads D.seen D.may_leave D.moment D.left_since disk.old disk.new }
-        ensures failures { D.failures disk.new ≡ (if is_fault_of_disk result then D.failures disk.old + 1 else D.failures disk.old) }
+        ensures failures { D.failures disk.new ≡ counted result (D.failures disk.old) }
         ensures shown { OnOk result (IsTrue D.honest → Shows self.new.offset self.new.bytes.items (D.seen disk.old)) }
         ensures begins { OnOk result (self.new.offset ≤ offset) }
         ensures enough { OnOk result (count ≤ length self.new.bytes.items - (offset - self.new.offset)) }
@@ -97,7 +97,7 @@ impl Window {
         requires shown { IsTrue D.honest → Shows self.now.offset self.now.bytes.items (D.seen disk.old) }
         ensures size { D.size disk.new ≡ D.size disk.old }
         ensures reads { IsTrue D.honest → OnlyReads D.seen D.may_leave D.moment D.left_since disk.old disk.new }
-        ensures failures { D.failures disk.new ≡ (if is_fault_of_disk result then D.failures disk.old + 1 else D.failures disk.old) }
+        ensures failures { D.failures disk.new ≡ counted result (D.failures disk.old) }
         ensures count { IfOk result (λ bytes. length bytes.items ≡ count) }
         ensures read { IfOk result (λ bytes. IsTrue D.honest → bytes.items ≡ take count (drop offset (D.seen disk.old))) }
         ensures others { IfErr result IsBytesFault }

@@ -1,5 +1,5 @@
 -- What reading a journal finds, step by step.
-use Rattle.std.specs.Prelude.{◌≡◌, ◌≢◌, ℕ, ◌+◌, ◌*◌, ◌%◌, ◌<◌, ◌^◌, Bool, true, false, List, ◌∷◌, ◌++◌, length, take, drop, Option, Some, None, Result, Ok, Err}
+use Rattle.std.specs.Prelude.{◌≡◌, ◌≢◌, ℕ, ◌+◌, ◌*◌, ◌%◌, ◌<◌, ◌^◌, Bool, true, false, List, ◌∷◌, ◌++◌, length, take, drop, Option, Some, None, Result, Ok, Err, if◌then◌else◌}
 use Rattle.cc_journal.specs.declared.fault.JournalFault.{JournalFault}
 use Rattle.cc_journal.specs.declared.fault.JournalFault.TheVariants.{Full, DiskFault, Closed, Damaged, NotALibrary, OutOfMemory}
 use Rattle.cc_journal.specs.Format.{header, records, record_bytes, open_gate}
@@ -61,3 +61,7 @@ is_fault_of_disk (Err Closed) = false
 is_fault_of_disk (Err Damaged) = false
 is_fault_of_disk (Err NotALibrary) = false
 is_fault_of_disk (Err OutOfMemory) = false
+
+-- how many failures the disk has counted behind a call, of how many before it
+abbrev pub counted : {T : Type 0} → Result T JournalFault → ℕ → ℕ
+counted result before = if is_fault_of_disk result then before + 1 else before

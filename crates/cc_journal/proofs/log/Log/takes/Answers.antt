@@ -1,5 +1,5 @@
 -- Where no call is made the records stay; a record with one body more takes its length and 6 bytes beside the others.
-use Rattle.std.proofs.Common.{◌≡◌, ◌+◌, ◌<◌, ◌≤◌, ℕ, List, [], ◌∷◌, ◌++◌, length, false, IsTrue, refl, subst, arith}
+use Rattle.std.proofs.Common.{◌≡◌, ◌<◌, ◌≤◌, ℕ, List, [], ◌∷◌, ◌++◌, false, IsTrue, refl, subst, arith}
 use Rattle.cc_disk.specs.Images.{LeavesOnly}
 use Rattle.cc_journal.specs.Format.{HoldsOldOrNew, room_of}
 use Rattle.cc_journal.specs.Journal.{View}
