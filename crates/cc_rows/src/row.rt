@@ -39,6 +39,15 @@ impl BitRow {
         }
     }
 
+    /// No number, with memory for exactly this many words.
+    pub(crate) fn with_room(alloc: Global, room: usize) -> Result<BitRow, AllocError>
+        ensures { IfOk result (λ made. made ≡ []) }
+    {
+        Ok(BitRow {
+            words: SmallVec::with_capacity(alloc, room)?,
+        })
+    }
+
     /// Its words: number k is bit k % 64 of word k / 64, and none past their end is in the set.
     pub fn words(&self) -> &[u64]
         ensures words { result.now ≡ self.now }
@@ -65,9 +74,9 @@ impl BitRow {
     pub fn copy(&self, alloc: Global) -> Result<BitRow, AllocError>
         ensures { IfOk result (λ made. made ≡ self.now) }
     {
-        let mut words = SmallVec::new(alloc);
-        words.extend_from_slice(self.words.as_slice())?;
-        Ok(BitRow { words })
+        Ok(BitRow {
+            words: SmallVec::from_slice(alloc, self.words.as_slice())?,
+        })
     }
 
     /// The same set once more, with memory for this many words behind its end.
@@ -212,6 +221,16 @@ fn grow(words: &mut Words, least: usize) -> Result<(), AllocError>
     Ok(())
 }
 
+/// Makes memory for exactly this many words, where there is less. Without memory the row stays as it was.
+fn make_room(words: &mut Words, least: usize) -> Result<(), AllocError>
+    ensures { words.new.items ≡ words.old.items }
+{
+    if words.len() < least {
+        words.reserve_exact(least - words.len())?;
+    }
+    Ok(())
+}
+
 /// Whether one row holds nothing that the other does not.
 fn lies_within(some: &[u64], all: &[u64]) -> bool
     ensures within { IsTrue result → (k : ℕ) → IsTrue (holds some.now k) → IsTrue (holds all.now k) }
@@ -233,6 +252,7 @@ fn put_words(into: &mut Words, from: &[u64]) -> Result<(), AllocError>
     ensures few { (most : ℕ) → length into.old.items ≤ most → length from.now ≤ most → length into.new.items ≤ most }
     ensures leaves { IfErr result (λ _. into.new.items ≡ into.old.items) }
 {
+    make_room(into, from.len())?;
     if into.is_empty() {
         into.extend_from_slice(from)?;
         return Ok(());

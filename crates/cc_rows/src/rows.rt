@@ -132,7 +132,7 @@ impl BitRows {
             alloc: self.alloc,
             width,
             rows: 0,
-            bits: BitRow::new(self.alloc),
+            bits: BitRow::with_room(self.alloc, width * self.rows())?,
         };
         for r in 0..self.rows() {
             self.put_row(r, &mut made)?;
