@@ -1,11 +1,12 @@
 //! LTL: the code of a function over machine registers and slots. A block stands for one node of RTL: moves, one operation on
 //! registers, moves. Its functions come from nobody that is trusted, an allocator or bytes; whether one does what the RTL does is
 //! the validator's matter.
-//! `location` is where a word can be, `operation` and `block` what a block does, `ltl` the functions, `writing` and `reading` their
-//! bytes, `listing` their text, `laws` what holds of the definitions. What a block does is defined in `specs/Ltl.antt`.
+//! `location` is where a word can be, `operation` and `block` what a block does, `ltl` the functions, `writing` and `reading` (by a
+//! `cursor`) their bytes, `listing` their text, `laws` what holds of the definitions. What a block does is defined in `specs/Ltl.antt`.
 #![tactic(auto)]
 
 mod block;
+mod cursor;
 mod fault;
 mod laws;
 mod listing;

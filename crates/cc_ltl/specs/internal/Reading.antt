@@ -1,5 +1,6 @@
 -- Reading a function from left to right: each field is a value and the bytes after it, or there is none.
 use Rattle.std.specs.Prelude.{◌≡◌, ℕ, zero, suc, ◌&&◌, List, [], ◌∷◌, length, take, drop, Option, Some, None, Result, Ok, Err, slice_get, nat_lt, nat_le, ◌==◌, if◌then◌else◌}
+use Rattle.std.specs.Option.{option_map}
 use Rattle.std.specs.Int.{w16, w32, from_le_bytes}
 use Rattle.cc_words.specs.declared.operators.Unary.{Unary as UnaryOperator}
 use Rattle.cc_words.specs.declared.operators.Unary.TheVariants.{Neg, Complement, IsZero}
@@ -27,6 +28,10 @@ abbrev pub Gives : {X Y : Type 0} → (X → Y) → Result X LtlFault → Option
 Gives view (Ok x) read = read ≡ Some (view x)
 Gives view (Err Damaged) read = read ≡ None
 Gives view (Err OutOfMemory) read = Unit {0}
+
+-- what a step of a cursor returned, and the bytes that it left, is what reading gives
+abbrev pub Reads : {A : Type 0} → Option (A × List ℕ) → Option A → List ℕ → Type 0
+Reads read result after = option_map (λ x. (x, after)) result ≡ read
 
 -- a reader of a value: the value, and the bytes after it
 abbrev pub Reader : Type 0 → Type 0
