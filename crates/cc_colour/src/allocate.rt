@@ -13,7 +13,7 @@ use crate::places::Places;
 use crate::registers::only;
 use crate::select::{Choice, SAVING};
 use crate::spill::spill_all;
-use crate::webs::{Cuts, Webs};
+use crate::webs::{Cuts, Origins, Webs};
 use cc_live::Liveness;
 use cc_ltl::{Block, Ltl};
 use cc_rtl_language::Rtl;
@@ -26,13 +26,11 @@ const ROUNDS: u32 = 3;
 /// given; whatever they are, there is an answer. Where something is too large for it, the answer is that of `spill_all`.
 pub fn colour(alloc: Global, rtl: &Rtl, live: &Liveness) -> Result<Ltl, AllocError> {
     let next = next_places(alloc, rtl)?;
-    let sole = sole_places(alloc, next.as_slice())?;
     let weights = weights(alloc, next.as_slice())?;
     let shape = Shape {
         rtl,
         live: Live::of(live),
         next: next.as_slice(),
-        sole: sole.as_slice(),
         weights: weights.as_slice(),
     };
     match coloured(alloc, &shape)? {
@@ -103,7 +101,7 @@ fn coloured_cut(
     may_cut: bool,
 ) -> Result<Option<Ltl>, AllocError> {
     if !cut.contains(&true) {
-        return coloured_pieces(alloc, whole, whole, cut, may_cut);
+        return coloured_pieces(alloc, whole, whole, Origins::same(alloc), cut, may_cut);
     }
     let cuts = Cuts {
         whole: whole.code.webs,
@@ -124,7 +122,8 @@ fn coloured_cut(
                 code,
                 graph: &graph,
             };
-            coloured_pieces(alloc, whole, pieces, cut, may_cut)
+            let origins = webs.origins(alloc, whole.code.webs)?;
+            coloured_pieces(alloc, whole, pieces, origins, cut, may_cut)
         }
     }
 }
@@ -133,30 +132,27 @@ fn coloured_pieces(
     alloc: Global,
     whole: Known<'_>,
     pieces: Known<'_>,
+    origins: Origins,
     cut: &mut [bool],
     may_cut: bool,
 ) -> Result<Option<Ltl>, AllocError> {
     let Known { code, graph } = pieces;
-    let origins = code.webs.origins(alloc, whole.code.webs)?;
     for reserved in [0, only(28) | only(29)] {
         let order = colouring_order(alloc, graph, reserved)?;
         let choice = Choice::of(alloc, graph, order.as_slice(), reserved)?;
-        if may_cut
-            && cut_more(
-                whole.graph,
-                &choice,
-                order.as_slice(),
-                origins.as_slice(),
-                cut,
-            )
-        {
+        if may_cut && cut_more(whole.graph, &choice, order.as_slice(), &origins, cut) {
             drop(choice);
             return Ok(None);
         }
-        let places = Places::of(alloc, code, graph, whole.graph, choice, origins.as_slice())?;
+        let places = Places::of(alloc, code, graph, whole.graph, choice, &origins)?;
+        let sole = match places.count() {
+            0 => Vec::new(alloc),
+            _ => sole_places(alloc, code.shape.next)?,
+        };
         let placed = Placed {
             code,
             places: &places,
+            sole: sole.as_slice(),
         };
         if let Some(blocks) = blocks(alloc, placed)? {
             return Ok(function(places.count(), code.shape.rtl.entry(), blocks));
@@ -170,15 +166,15 @@ fn cut_more(
     whole: &Graph,
     choice: &Choice,
     order: &[u32],
-    origins: &[u32],
+    origins: &Origins,
     cut: &mut [bool],
 ) -> bool {
     let mut any = false;
     for web in order {
+        let origin = origins.of(*web) as usize;
         if choice.register(*web).is_none()
-            && let Some(origin) = origins.get(*web as usize)
-            && let Some(known) = whole.webs.get(*origin as usize)
-            && let Some(is_cut) = cut.get_mut(*origin as usize)
+            && let Some(known) = whole.webs.get(origin)
+            && let Some(is_cut) = cut.get_mut(origin)
             && known.kept > 0
             && !*is_cut
         {

@@ -68,28 +68,4 @@ impl Matrix {
             *word |= 1 << (b % 64);
         }
     }
-
-    /// Fills a list with the numbers whose bits are set in a row, in their order.
-    pub fn members(&self, at: u32, into: &mut Vec<u32>) -> Result<(), AllocError> {
-        into.clear();
-        let mut base = 0u32;
-        for word in self.row(at) {
-            add_bits(*word, base, into)?;
-            base = base.saturating_add(64);
-        }
-        Ok(())
-    }
-}
-
-// Adds the numbers of the bits that are set in one word.
-fn add_bits(word: u64, base: u32, into: &mut Vec<u32>) -> Result<(), AllocError> {
-    let mut rest = word;
-    for _ in 0..64 {
-        if rest == 0 {
-            break;
-        }
-        into.push(base.saturating_add(rest.trailing_zeros()))?;
-        rest &= rest.wrapping_sub(1);
-    }
-    Ok(())
 }

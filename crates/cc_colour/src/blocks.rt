@@ -17,11 +17,12 @@ use cc_rtl_language::Node;
 use std::alloc::{AllocError, Global};
 use std::mem;
 
-/// What blocks are made of.
+/// What blocks are made of. The one place that leads to each node need be known only where there are slots.
 #[derive(Clone, Copy)]
 pub struct Placed<'a> {
     pub code: Code<'a>,
     pub places: &'a Places<'a>,
+    pub sole: &'a [Option<usize>],
 }
 
 /// A word that goes from its slot to a register in front of the node before the one that takes it.
@@ -35,8 +36,9 @@ impl Placed<'_> {
     // What a node takes from a slot beside a constant of the node in front of it. It is fetched in front of both, so that these two stay
     // neighbours.
     fn early(self, at: usize) -> Option<Early> {
+        let before = self.sole.get(at).copied().flatten()?;
         let shape = self.code.shape;
-        let constant = match shape.rtl.at(shape.sole_before(at)?)? {
+        let constant = match shape.rtl.at(before)? {
             Node::Const { to, .. } => *to,
             _ => return None,
         };

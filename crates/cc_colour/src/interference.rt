@@ -144,8 +144,10 @@ impl Graph {
             let node = rtl.node(at);
             let read = code.read(at, node);
             self.count_reads(code, at, node, read);
-            code.webs.crossings(code.shape, at, &mut crossings)?;
-            self.add_crossings(code, at, crossings.all.as_slice());
+            if let Node::Call { .. } = node {
+                code.webs.crossings(code.shape, at, &mut crossings)?;
+                self.add_crossings(code, at, crossings.all.as_slice());
+            }
             self.add_node(code, at, node, read)?;
             if at == rtl.entry() as usize {
                 self.add_entry(code, at)?;

@@ -16,7 +16,6 @@ pub struct Shape<'a> {
     pub rtl: &'a Rtl,
     pub live: Live<'a>,
     pub next: &'a [Next],
-    pub sole: &'a [Option<usize>],
     pub weights: &'a [u32],
 }
 
@@ -32,11 +31,6 @@ impl Shape<'_> {
             [first, None] => first,
             [_, Some(_)] => None,
         }
-    }
-
-    /// The one place that leads to a node; None where several do, or none.
-    pub fn sole_before(&self, node: usize) -> Option<usize> {
-        self.sole.get(node).copied().flatten()
     }
 
     /// How often a node may be done.

@@ -44,7 +44,6 @@ struct Left<'a> {
     degrees: Vec<u32>,
     taken_out: Vec<bool>,
     easy: Vec<u32>,
-    beside: Vec<u32>,
 }
 
 impl<'a> Left<'a> {
@@ -54,8 +53,7 @@ impl<'a> Left<'a> {
             reserved,
             degrees: degrees(alloc, graph)?,
             taken_out: vec![in alloc; false; graph.webs.len()]?,
-            easy: Vec::new(alloc),
-            beside: Vec::new(alloc),
+            easy: Vec::with_capacity(alloc, graph.webs.len())?,
         };
         let mut web = 0u32;
         for known in &graph.webs {
@@ -74,18 +72,33 @@ impl<'a> Left<'a> {
             Some(out) if !*out => *out = true,
             _ => return Ok(false),
         }
-        self.graph.edges.members(web, &mut self.beside)?;
-        for other in &self.beside {
-            if let Some(known) = self.graph.webs.get(*other as usize)
-                && let Some(degree) = self.degrees.get_mut(*other as usize)
-            {
-                if *degree == choices(known, self.reserved) {
-                    self.easy.push(*other)?;
+        let graph = self.graph;
+        let mut base = 0u32;
+        for word in graph.edges.row(web) {
+            let mut rest = *word;
+            for _ in 0..64 {
+                if rest == 0 {
+                    break;
                 }
-                *degree = degree.saturating_sub(1);
+                self.lessen(base.saturating_add(rest.trailing_zeros()))?;
+                rest &= rest.wrapping_sub(1);
             }
+            base = base.saturating_add(64);
         }
         Ok(true)
+    }
+
+    // A web has one interference less.
+    fn lessen(&mut self, web: u32) -> Result<(), AllocError> {
+        if let Some(known) = self.graph.webs.get(web as usize)
+            && let Some(degree) = self.degrees.get_mut(web as usize)
+        {
+            if *degree == choices(known, self.reserved) {
+                self.easy.push(web)?;
+            }
+            *degree = degree.saturating_sub(1);
+        }
+        Ok(())
     }
 
     // The webs that are left, those first whose slot would cost least for each interference, which is told too.

@@ -1,11 +1,12 @@
 //! Where each web is: in its register, or in the slot of the whole web that it is a piece of, which no whole web beside that one has.
 
 use crate::bits::{first_clear, set_bit};
-use crate::interference::{Code, Graph};
+use crate::interference::{Code, Graph, Web};
 use crate::registers::{DESTROYED, Place, Registers, contains};
 use crate::select::Choice;
-use crate::webs::{Crossing, Crossings};
+use crate::webs::{Crossing, Crossings, Origins};
 use cc_ltl::MOST_SLOTS;
+use cc_rtl_language::Node;
 use std::alloc::{AllocError, Global};
 
 /// The words of a row with a bit for each slot.
@@ -15,7 +16,7 @@ const SLOT_WORDS: usize = 8;
 #[derive(Drop)]
 pub struct Places<'a> {
     choice: Choice,
-    origins: &'a [u32],
+    origins: &'a Origins,
     slots: Vec<Option<u16>>,
     dirty: Vec<bool>,
     count: u16,
@@ -29,29 +30,22 @@ impl<'a> Places<'a> {
         pieces: &Graph,
         whole: &Graph,
         choice: Choice,
-        origins: &'a [u32],
+        origins: &'a Origins,
     ) -> Result<Places<'a>, AllocError> {
         let mut places = Places {
             choice,
             origins,
-            slots: vec![in alloc; None; whole.webs.len()]?,
-            dirty: Vec::with_capacity(alloc, pieces.webs.len())?,
+            slots: Vec::new(alloc),
+            dirty: Vec::new(alloc),
             count: 0,
         };
-        for web in &pieces.webs {
-            places.dirty.push(web.set > 0)?;
+        if places.want_slots(pieces) {
+            places.put_slots(alloc, pieces, whole)?;
         }
-        let wanted = places.wanted_slots(alloc, pieces, whole)?;
-        let mut beside = Vec::new(alloc);
-        let mut web = 0u32;
-        for is_wanted in &wanted {
-            if *is_wanted {
-                whole.edges.members(web, &mut beside)?;
-                places.put_slot(web, beside.as_slice());
-            }
-            web = web.saturating_add(1);
+        // Of whole webs none is left in front of a call, and nobody asks.
+        if !origins.are_same() {
+            places.find_dirty(alloc, code, pieces)?;
         }
-        places.find_dirty(alloc, code)?;
         Ok(places)
     }
 
@@ -78,8 +72,7 @@ impl<'a> Places<'a> {
 
     /// The slot of a web.
     pub fn slot(&self, web: u32) -> Option<u16> {
-        let origin = self.origins.get(web as usize)?;
-        self.slot_of(*origin)
+        self.slot_of(self.origins.of(web))
     }
 
     /// Whether a web may hold another word than its slot.
@@ -104,7 +97,41 @@ impl<'a> Places<'a> {
         self.slots.get(origin as usize).copied().flatten()
     }
 
-    // The whole webs of which some piece has no register, or is left in front of a call.
+    // Whether a piece has no register, or is left in front of a call.
+    fn wants_slot(&self, piece: &Web, web: u32) -> bool {
+        piece.left > 0 || self.register(web).is_none()
+    }
+
+    fn want_slots(&self, pieces: &Graph) -> bool {
+        let mut web = 0u32;
+        for piece in &pieces.webs {
+            if self.wants_slot(piece, web) {
+                return true;
+            }
+            web = web.saturating_add(1);
+        }
+        false
+    }
+
+    fn put_slots(
+        &mut self,
+        alloc: Global,
+        pieces: &Graph,
+        whole: &Graph,
+    ) -> Result<(), AllocError> {
+        let wanted = self.wanted_slots(alloc, pieces, whole)?;
+        self.slots = vec![in alloc; None; whole.webs.len()]?;
+        let mut web = 0u32;
+        for is_wanted in &wanted {
+            if *is_wanted {
+                self.put_slot(web, whole.edges.row(web));
+            }
+            web = web.saturating_add(1);
+        }
+        Ok(())
+    }
+
+    // The whole webs of which some piece wants a slot.
     fn wanted_slots(
         &self,
         alloc: Global,
@@ -113,9 +140,9 @@ impl<'a> Places<'a> {
     ) -> Result<Vec<bool>, AllocError> {
         let mut wanted = vec![in alloc; false; whole.webs.len()]?;
         let mut web = 0u32;
-        for (known, origin) in pieces.webs.iter().zip(self.origins.iter()) {
-            if (known.left > 0 || self.register(web).is_none())
-                && let Some(is_wanted) = wanted.get_mut(*origin as usize)
+        for piece in &pieces.webs {
+            if self.wants_slot(piece, web)
+                && let Some(is_wanted) = wanted.get_mut(self.origins.of(web) as usize)
             {
                 *is_wanted = true;
             }
@@ -124,12 +151,22 @@ impl<'a> Places<'a> {
         Ok(wanted)
     }
 
-    fn put_slot(&mut self, origin: u32, beside: &[u32]) {
+    // The first slot that no whole web of a row of bits has.
+    fn put_slot(&mut self, origin: u32, beside: &[u64]) {
         let mut taken = [0u64; SLOT_WORDS];
-        for other in beside {
-            if let Some(slot) = self.slot_of(*other) {
-                set_bit(&mut taken, u32::from(slot));
+        let mut base = 0u32;
+        for word in beside {
+            let mut rest = *word;
+            for _ in 0..64 {
+                if rest == 0 {
+                    break;
+                }
+                if let Some(slot) = self.slot_of(base.saturating_add(rest.trailing_zeros())) {
+                    set_bit(&mut taken, u32::from(slot));
+                }
+                rest &= rest.wrapping_sub(1);
             }
+            base = base.saturating_add(64);
         }
         if let Some(number) = first_clear(&taken, MOST_SLOTS)
             && let Some(place) = self.slots.get_mut(origin as usize)
@@ -139,13 +176,24 @@ impl<'a> Places<'a> {
         }
     }
 
-    // What came over a call in a register was not stored there.
-    fn find_dirty(&mut self, alloc: Global, code: Code<'_>) -> Result<(), AllocError> {
+    // What nodes set is not in its slot yet, and what came over a call in a register was not stored there.
+    fn find_dirty(
+        &mut self,
+        alloc: Global,
+        code: Code<'_>,
+        pieces: &Graph,
+    ) -> Result<(), AllocError> {
+        self.dirty.reserve(pieces.webs.len())?;
+        for web in &pieces.webs {
+            self.dirty.push(web.set > 0)?;
+        }
         let mut crossings = Crossings::new(alloc);
         for node in 0..code.shape.rtl.len() {
-            code.webs.crossings(code.shape, node, &mut crossings)?;
-            for crossing in &crossings.all {
-                self.put_dirty(*crossing);
+            if let Node::Call { .. } = code.shape.rtl.node(node) {
+                code.webs.crossings(code.shape, node, &mut crossings)?;
+                for crossing in &crossings.all {
+                    self.put_dirty(*crossing);
+                }
             }
         }
         Ok(())

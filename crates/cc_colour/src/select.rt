@@ -11,11 +11,18 @@ use std::alloc::{AllocError, Global};
 /// What saving a register and getting it back costs.
 pub const SAVING: u32 = 2;
 
-/// The register of each web, None where it is to have a slot.
+// What was chosen for a web, or that it is to be chosen later.
+#[derive(Clone, Copy)]
+enum Chosen {
+    Slot,
+    Later,
+    Register(u8),
+}
+
+/// The register of each web; what has none is to have a slot.
 #[derive(Drop)]
 pub struct Choice {
-    chosen: Vec<Option<u8>>,
-    decided: Vec<bool>,
+    chosen: Vec<Chosen>,
     saved: Registers,
 }
 
@@ -28,18 +35,15 @@ impl Choice {
         reserved: Registers,
     ) -> Result<Choice, AllocError> {
         let mut choice = Choice {
-            chosen: vec![in alloc; None; graph.webs.len()]?,
-            decided: vec![in alloc; true; graph.webs.len()]?,
+            chosen: vec![in alloc; Chosen::Slot; graph.webs.len()]?,
             saved: 0,
         };
         for web in order {
-            choice.set_decided(*web, false);
+            choice.set(*web, Chosen::Later);
         }
-        let mut beside = Vec::new(alloc);
         for web in order {
             if let Some(known) = graph.webs.get(*web as usize) {
-                graph.edges.members(*web, &mut beside)?;
-                let best = choice.best(graph, known, beside.as_slice(), reserved);
+                let best = choice.best(graph, known, graph.edges.row(*web), reserved);
                 choice.put(*web, best);
             }
         }
@@ -48,7 +52,10 @@ impl Choice {
 
     /// The register of a web.
     pub fn register(&self, web: u32) -> Option<u8> {
-        self.chosen.get(web as usize).copied().flatten()
+        match self.chosen.get(web as usize) {
+            Some(Chosen::Register(register)) => Some(*register),
+            _ => None,
+        }
     }
 
     /// The registers of some webs.
@@ -62,36 +69,32 @@ impl Choice {
         registers
     }
 
-    fn set_decided(&mut self, web: u32, is_decided: bool) {
-        if let Some(decided) = self.decided.get_mut(web as usize) {
-            *decided = is_decided;
+    fn set(&mut self, web: u32, chosen: Chosen) {
+        if let Some(place) = self.chosen.get_mut(web as usize) {
+            *place = chosen;
         }
     }
 
     fn put(&mut self, web: u32, register: Option<u8>) {
-        self.set_decided(web, true);
-        if let Some(place) = self.chosen.get_mut(web as usize) {
-            *place = register;
-        }
-        if let Some(register) = register {
-            self.saved |= only(register) & !DESTROYED;
+        match register {
+            Some(register) => {
+                self.set(web, Chosen::Register(register));
+                self.saved |= only(register) & !DESTROYED;
+            }
+            None => self.set(web, Chosen::Slot),
         }
     }
 
-    fn best(&self, graph: &Graph, web: &Web, beside: &[u32], reserved: Registers) -> Option<u8> {
-        let left = ALL & !reserved & !web.forbidden & !self.registers(beside);
+    // The best register for a web, of which a row of bits has those beside it.
+    fn best(&self, graph: &Graph, web: &Web, beside: &[u64], reserved: Registers) -> Option<u8> {
         let mut scores = Scores {
             scores: [0i64; 32],
             counted: 0,
         };
         self.count_wishes(&mut scores, graph, web, false);
         self.count_partners(&mut scores, graph, web);
-        for other in beside {
-            if let Some(known) = self.undecided(graph, *other) {
-                self.count_wishes(&mut scores, graph, known, true);
-            }
-        }
-        let best = self.highest(&scores, left)?;
+        let taken = self.count_beside(&mut scores, graph, beside);
+        let best = self.highest(&scores, ALL & !reserved & !web.forbidden & !taken)?;
         if self.is_new(best) && web.saves() < SAVING {
             None
         } else {
@@ -154,10 +157,39 @@ impl Choice {
         }
     }
 
+    // Counts against a web what those beside it wish that have none yet, and answers the registers of the others.
+    fn count_beside(&self, scores: &mut Scores, graph: &Graph, beside: &[u64]) -> Registers {
+        let mut taken = 0;
+        let mut base = 0u32;
+        for word in beside {
+            let mut rest = *word;
+            for _ in 0..64 {
+                if rest == 0 {
+                    break;
+                }
+                let other = base.saturating_add(rest.trailing_zeros());
+                match self.register(other) {
+                    Some(register) => taken |= only(register),
+                    None => self.count_against(scores, graph, other),
+                }
+                rest &= rest.wrapping_sub(1);
+            }
+            base = base.saturating_add(64);
+        }
+        taken
+    }
+
+    // Counts the wishes of a web beside, where nothing was chosen for it yet.
+    fn count_against(&self, scores: &mut Scores, graph: &Graph, other: u32) {
+        if let Some(known) = self.undecided(graph, other) {
+            self.count_wishes(scores, graph, known, true);
+        }
+    }
+
     // A web for which nothing was chosen yet.
     fn undecided<'a>(&self, graph: &'a Graph, web: u32) -> Option<&'a Web> {
-        match self.decided.get(web as usize) {
-            Some(false) => graph.webs.get(web as usize),
+        match self.chosen.get(web as usize) {
+            Some(Chosen::Later) => graph.webs.get(web as usize),
             _ => None,
         }
     }

@@ -63,6 +63,31 @@ impl Crossings {
     }
 }
 
+/// The whole web of each piece; where there is no piece of that number, it is a whole web itself.
+#[derive(Drop)]
+pub struct Origins {
+    origins: Vec<u32>,
+}
+
+impl Origins {
+    /// Those of webs that are whole. They take no memory.
+    pub fn same(alloc: Global) -> Origins {
+        Origins {
+            origins: Vec::new(alloc),
+        }
+    }
+
+    /// Whether each piece is a whole web.
+    pub fn are_same(&self) -> bool {
+        self.origins.is_empty()
+    }
+
+    /// The whole web of a piece.
+    pub fn of(&self, web: u32) -> u32 {
+        self.origins.get(web as usize).copied().unwrap_or(web)
+    }
+}
+
 /// The webs of a function: of each point, and of each node's result.
 #[derive(Drop)]
 pub struct Webs {
@@ -125,7 +150,7 @@ impl Webs {
     }
 
     /// The whole web of each piece.
-    pub fn origins(&self, alloc: Global, whole: &Webs) -> Result<Vec<u32>, AllocError> {
+    pub fn origins(&self, alloc: Global, whole: &Webs) -> Result<Origins, AllocError> {
         let mut origins = vec![in alloc; 0u32; self.count as usize]?;
         for (piece, web) in self.webs.iter().zip(whole.webs.iter()) {
             put_origin(origins.as_mut_slice(), Some(*piece), Some(*web));
@@ -133,7 +158,7 @@ impl Webs {
         for (piece, web) in self.results.iter().zip(whole.results.iter()) {
             put_origin(origins.as_mut_slice(), *piece, *web);
         }
-        Ok(origins)
+        Ok(Origins { origins })
     }
 
     /// Fills a list with the webs in front of a call and behind it of each register that it keeps; with none at another node.
