@@ -9,79 +9,72 @@
 //    the other;
 // 4. the blocks that lead into a loop.
 
-ghost use Rattle.std.specs.Prelude.{◌≡◌, ◌<◌, length, vec_len, IfOk, All};
+ghost use Rattle.std.specs.Prelude.{◌≡◌, ◌<◌, length, IfOk, All};
 ghost use Rattle.cc_linear.specs.internal.Reached.{InGraph, WaysBelow};
 
 use super::ways::Ways;
 use std::alloc::{AllocError, Global};
 
-/// Chains of labels that follow one another. The number of labels stands for none.
-#[derive(Drop)]
-struct Chains {
-    behind: Vec<usize>,
-    is_led: Vec<bool>,
-    first: Vec<usize>, // of the chain that ends here
-    last: Vec<usize>, // of the chain that begins here
-    ghost is_led_long: { vec_len is_led ≡ vec_len behind },
-    ghost first_long: { vec_len first ≡ vec_len behind },
-    ghost last_long: { vec_len last ≡ vec_len behind },
+/// A label in the chain that it is of. The number of labels stands for none.
+#[derive(Clone, Copy)]
+struct Link {
+    behind: usize,
+    is_led: bool,
+    first: usize, // of the chain that ends here
+    last: usize, // of the chain that begins here
 }
 
 /// Each label alone.
-fn alone(alloc: Global, count: usize) -> Result<Chains, AllocError>
-    ensures { IfOk result (λ chains. vec_len chains.behind ≡ count) }
+fn alone(alloc: Global, count: usize) -> Result<Vec<Link>, AllocError>
+    ensures { IfOk result (λ links. length links.items ≡ count) }
 {
-    let mut first: Vec<usize> = Vec::with_capacity(alloc, count)?;
-    let mut last: Vec<usize> = Vec::with_capacity(alloc, count)?;
+    let mut links = Vec::with_capacity(alloc, count)?;
     for label in 0..count {
-        first.push(label)?;
-        last.push(label)?;
+        links.push(Link {
+            behind: count,
+            is_led: false,
+            first: label,
+            last: label,
+        })?;
     }
-    let behind = vec![in alloc; count; count]?;
-    let is_led = vec![in alloc; false; count]?;
-    Ok(Chains {
-        behind,
-        is_led,
-        first,
-        last,
-    })
+    Ok(links)
 }
 
 /// Puts a label behind another, where that is the last of its chain and the label the first of another.
-fn join(chains: &mut Chains, from: usize, to: usize)
-    requires from { from < vec_len chains.old.behind }
-    requires to { to < vec_len chains.old.behind }
-    ensures { vec_len chains.new.behind ≡ vec_len chains.old.behind }
+fn join(links: &mut [Link], from: usize, to: usize)
+    requires from { from < length links.old }
+    requires to { to < length links.old }
+    ensures { length links.new ≡ length links.old }
 {
-    let count = chains.behind.len();
-    let first = chains.first[from];
-    let last = chains.last[to];
-    if chains.behind[from] == count
-        && !chains.is_led[to]
+    let count = links.len();
+    let first = links[from].first;
+    let last = links[to].last;
+    if links[from].behind == count
+        && !links[to].is_led
         && first != to
         && first < count
         && last < count
     {
-        chains.behind[from] = to;
-        chains.is_led[to] = true;
-        chains.first[last] = first;
-        chains.last[first] = last;
+        links[from].behind = to;
+        links[to].is_led = true;
+        links[last].first = first;
+        links[first].last = last;
     }
 }
 
 /// Joins the blocks that do nothing but lead back, the last first.
-fn join_back(chains: &mut Chains, graph: &[Ways], is_found: &[bool])
+fn join_back(links: &mut [Link], graph: &[Ways], is_found: &[bool])
     requires graph { InGraph graph.now }
     requires found { length is_found.now ≡ length graph.now }
-    requires chains { vec_len chains.old.behind ≡ length graph.now }
-    ensures { vec_len chains.new.behind ≡ length graph.now }
+    requires links { length links.old ≡ length graph.now }
+    ensures { length links.new ≡ length graph.now }
 {
     let count = graph.len();
     for i in 0..count {
         let from = count - 1 - i;
         if let Ways::One(to) = graph[from] {
             if is_found[from] && to <= from {
-                join(chains, from, to);
+                join(links, from, to);
             }
         }
     }
@@ -89,7 +82,7 @@ fn join_back(chains: &mut Chains, graph: &[Ways], is_found: &[bool])
 
 /// Joins the blocks that have one way, those that lead to heads of loops or the others.
 fn join_on(
-    chains: &mut Chains,
+    links: &mut [Link],
     graph: &[Ways],
     is_found: &[bool],
     is_head: &[bool],
@@ -98,30 +91,30 @@ fn join_on(
     requires graph { InGraph graph.now }
     requires found { length is_found.now ≡ length graph.now }
     requires heads { length is_head.now ≡ length graph.now }
-    requires chains { vec_len chains.old.behind ≡ length graph.now }
-    ensures { vec_len chains.new.behind ≡ length graph.now }
+    requires links { length links.old ≡ length graph.now }
+    ensures { length links.new ≡ length graph.now }
 {
     for from in 0..graph.len() {
         if let Ways::One(to) = graph[from] {
             if is_found[from] && is_head[to] == into_loops {
-                join(chains, from, to);
+                join(links, from, to);
             }
         }
     }
 }
 
 /// Joins the branches.
-fn join_branches(chains: &mut Chains, graph: &[Ways], is_found: &[bool])
+fn join_branches(links: &mut [Link], graph: &[Ways], is_found: &[bool])
     requires graph { InGraph graph.now }
     requires found { length is_found.now ≡ length graph.now }
-    requires chains { vec_len chains.old.behind ≡ length graph.now }
-    ensures { vec_len chains.new.behind ≡ length graph.now }
+    requires links { length links.old ≡ length graph.now }
+    ensures { length links.new ≡ length graph.now }
 {
     for from in 0..graph.len() {
         if let Ways::Two(taken, other) = graph[from] {
             if is_found[from] {
-                join(chains, from, other);
-                join(chains, from, taken);
+                join(links, from, other);
+                join(links, from, taken);
             }
         }
     }
@@ -160,20 +153,20 @@ fn mark_back(is_head: &mut Vec<bool>, from: usize, to: usize)
 }
 
 /// The chains one after another, that of the entry first.
-fn listed(alloc: Global, chains: &Chains, found: &[usize]) -> Result<Vec<usize>, AllocError>
-    requires inside { All (λ l. l < vec_len chains.now.behind) found.now }
+fn listed(alloc: Global, links: &[Link], found: &[usize]) -> Result<Vec<usize>, AllocError>
+    requires inside { All (λ l. l < length links.now) found.now }
 {
-    let count = chains.behind.len();
+    let count = links.len();
     let mut order: Vec<usize> = Vec::with_capacity(alloc, found.len())?;
     for i in 0..found.len() {
         let mut at = found[i];
-        if !chains.is_led[at] {
+        if !links[at].is_led {
             for _ in 0..count {
                 if at >= count {
                     break;
                 }
                 order.push(at)?;
-                at = chains.behind[at];
+                at = links[at].behind;
             }
         }
     }
@@ -190,10 +183,10 @@ pub fn in_chains(alloc: Global, graph: &[Ways], found: &[usize]) -> Result<Vec<u
         is_found[found[i]] = true;
     }
     let is_head = heads(alloc, graph, &is_found)?;
-    let mut chains = alone(alloc, graph.len())?;
-    join_back(&mut chains, graph, &is_found);
-    join_on(&mut chains, graph, &is_found, &is_head, false);
-    join_branches(&mut chains, graph, &is_found);
-    join_on(&mut chains, graph, &is_found, &is_head, true);
-    listed(alloc, &chains, found)
+    let mut links = alone(alloc, graph.len())?;
+    join_back(&mut links, graph, &is_found);
+    join_on(&mut links, graph, &is_found, &is_head, false);
+    join_branches(&mut links, graph, &is_found);
+    join_on(&mut links, graph, &is_found, &is_head, true);
+    listed(alloc, &links, found)
 }
