@@ -15,8 +15,9 @@ use std::alloc::{AllocError, Global};
 pub fn write_ltl(alloc: Global, ltl: &Ltl) -> Result<Vec<u8>, AllocError>
     ensures spelled { IfOk result (λ bytes. Spells bytes.items ltl.now) }
 {
-    let mut bytes = Vec::new(alloc);
     let blocks = ltl.blocks();
+    // Three numbers; few blocks take more than so many bytes.
+    let mut bytes = Vec::with_capacity(alloc, 12 + 24 * blocks.len())?;
     put_word(&mut bytes, u32::from(ltl.slots()))?;
     put_word(&mut bytes, ltl.entry())?;
     put_word(&mut bytes, blocks.len() as u32)?;
