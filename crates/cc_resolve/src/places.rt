@@ -6,8 +6,7 @@
 ghost use Rattle.std.specs.Prelude.{◌≡◌, [], ◌∷◌, ◌++◌, length, OnOk, OnErr};
 ghost use Rattle.cc_resolve.specs.Numberings.{first_of};
 
-use cc_typing::Numbering;
-use indexmap::IndexMap;
+use cc_typing::{ByNumber, Numbering};
 use std::alloc::{AllocError, Global};
 use std::marker::Model;
 
@@ -16,12 +15,12 @@ use std::marker::Model;
 pub struct Places<'a> {
     list: Vec<&'a [u8]>,
     names: Numbering<'a>,
-    places: IndexMap<usize, usize>,
+    places: ByNumber,
 }
 
 impl<'a> Model for Places<'a> {
-    ghost use Rattle.std.specs.Prelude.{List, ℕ, nat_eq};
-    ghost use Rattle.indexmap.specs.IndexMap.{get};
+    ghost use Rattle.std.specs.Prelude.{List, ℕ};
+    ghost use Rattle.cc_typing.specs.Bindings.{row_of};
     ghost use Rattle.cc_typing.specs.Entities.{names_in};
     ghost use Rattle.cc_resolve.specs.Numberings.{ArePlaces};
 
@@ -29,7 +28,7 @@ impl<'a> Model for Places<'a> {
 
     ghost view = { λ n. names_in n.list.items };
 
-    ghost invariant = { λ n. ArePlaces n.list.items n.names (get nat_eq n.places) };
+    ghost invariant = { λ n. ArePlaces n.list.items n.names (row_of n.places) };
 }
 
 impl<'a> Places<'a> {
@@ -39,7 +38,7 @@ impl<'a> Places<'a> {
         Places {
             list: Vec::new(alloc),
             names: Numbering::new(alloc),
-            places: IndexMap::new(alloc),
+            places: ByNumber::new(alloc),
         }
     }
 
@@ -54,7 +53,7 @@ impl<'a> Places<'a> {
         ensures { result ≡ first_of self.now name.now }
     {
         let number = self.names.find(name)?;
-        self.places.get(&number).copied()
+        self.places.get(number)
     }
 
     /// Adds a name.
@@ -65,17 +64,17 @@ impl<'a> Places<'a> {
         self.list.reserve(1)?;
         let place = self.list.len();
         let number = self.names.add(name)?;
-        let known = self.places.get(&number).copied();
+        let known = self.places.get(number);
         if known.is_some() {
             self.list.push_reserved(name);
             return Ok(());
         }
-        match self.places.insert(number, place) {
+        match self.places.put(number, place) {
             Ok(_) => {
                 self.list.push_reserved(name);
                 Ok(())
             }
-            Err(_) => Err(AllocError),
+            Err(error) => Err(error),
         }
     }
 }

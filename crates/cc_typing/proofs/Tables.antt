@@ -1,9 +1,8 @@
 -- The table of names: what a binding hides comes back when the binding goes.
-use Rattle.std.proofs.Common.{◌≡◌, ℕ, suc, ◌+◌, ◌<◌, Bool, true, false, cond, List, [], ◌∷◌, ◌++◌, length, map, reverse, get_or, Option, Some, None, IfSome, Result, Ok, Err, OnOk, OnErr, refl, sym, ap, subst, ◌∙◌, nat_eq, arith}
+use Rattle.std.proofs.Common.{◌≡◌, ℕ, suc, ◌+◌, ◌<◌, Bool, true, false, cond, List, [], ◌∷◌, ◌++◌, length, map, reverse, get_or, Option, Some, None, IfSome, IsSome, refl, sym, ap, subst, ◌∙◌, nat_eq, arith}
 use Rattle.std.specs.Cmp.Lexicographic.{bytes_decides, nat_list_eq_equiv}
 use Rattle.std.proofs.lemmas.List.{reverse-append, reverse-reverse, length-append, length-reverse, get_or_append_left}
 use Rattle.std.proofs.Math.Seq.{get_or-append_seam}
-use Rattle.indexmap.specs.IndexMap.{IndexMap, get, Updates}
 use Rattle.cc_typing.specs.Scope as scope
 use Rattle.cc_typing.specs.Names.{same_name}
 use Rattle.cc_typing.specs.Numberings.{IsNumbered, number_of_name, at_number}
@@ -151,13 +150,9 @@ module _ (bs : List Binding) (b : Binding) (names : List (List ℕ × ℕ)) (old
       restored y true h = sym ew ∙ hidden_is.1 ∙ ap (number_in (bindings_of bs)) ((bytes_decides b.name.now y).0 h)
       restored y false h = refl
 
-  -- the newest binding's number is in the table, so putting back what it hides needs no memory
-  pub newest-there : old b.number ≡ Some (length (map binding_of (reverse bs)))
+  -- the newest binding's number is in the table
+  newest-there : old b.number ≡ Some (length (map binding_of (reverse bs)))
   newest-there = sym (ap (at_number old) hidden_is.0) ∙ found_is b.name.now ∙ ap (λ c. cond c (Some (length (map binding_of (reverse bs)))) (number_in (bindings_of bs) b.name.now)) (same-itself b.name.now)
 
-pub IsTable-put : (bs : List Binding) (b : Binding) (names : List (List ℕ × ℕ)) {S : Type 0} (old new : IndexMap ℕ ℕ S) → IsTable (bs ++ b ∷ []) names (get nat_eq old) → {A E : Type 0} (r : Result A E) (n : ℕ)
-    → b.hidden ≡ Some n → OnOk r (Updates nat_eq old new b.number (Some n)) → OnErr r (get nat_eq old b.number ≡ None) → IsTable bs names (get nat_eq new)
-IsTable-put bs b names old new before (Ok o) n en updates absent = IsTable-popped bs b names (get nat_eq old) (get nat_eq new) before (Some n) en updates.0
-IsTable-put bs b names old new before (Err e) n en updates absent =
-    let there = newest-there bs b names (get nat_eq old) (get nat_eq new) before in
-    absurd (let no : Some (length (map binding_of (reverse bs))) ≡ None = sym there ∙ absent in cc)
+  pub newest-known : IsSome (old b.number)
+  newest-known = subst IsSome (sym newest-there) tt

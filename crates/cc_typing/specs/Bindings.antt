@@ -1,5 +1,5 @@
 -- How the code keeps the names in scope.
-use Rattle.std.specs.Prelude.{ℕ, ◌≡◌, ◌≤◌, List, [], ◌∷◌, length, map, reverse, take, drop, Option, Some, None, if◌then◌else◌}
+use Rattle.std.specs.Prelude.{ℕ, ◌≡◌, ◌≤◌, List, [], ◌∷◌, length, get_or, map, reverse, take, drop, Option, Some, None, if◌then◌else◌}
 use Rattle.cc_typing.specs.Names.{same_name}
 use Rattle.cc_typing.specs.Numberings.{AreNumbers, number_of_name, at_number}
 use Rattle.cc_typing.specs.Scope as scope
@@ -32,6 +32,10 @@ pub record IsTable (bs : List Binding) (names : List (List ℕ × ℕ)) (table :
   pub found : (x : List ℕ) → at_number table (number_of_name names x) ≡ number_in (bindings_of bs) x
   pub hidden : AreHidden names (reverse bs)
   pub rest : (n : ℕ) → length names ≤ n → table n ≡ None
+
+-- what a table from numbers has at one
+abbrev pub row_of : List (Option ℕ) → ℕ → Option ℕ
+row_of rows number = get_or rows number None
 
 -- what is answered of a name
 abbrev pub number_of : Option Newest → Option ℕ

@@ -9,9 +9,9 @@ ghost use Rattle.cc_typing.specs.Entities.{entity_of};
 ghost use Rattle.cc_typing.specs.declared.bindings.Binding.{Binding};
 ghost use Rattle.cc_typing.specs.Bindings.{number_in, number_of, entity_found};
 
+use super::by_number::ByNumber;
 use super::entity::Entity;
 use super::numbering::Numbering;
-use indexmap::IndexMap;
 use std::alloc::{AllocError, Global};
 use std::marker::Model;
 
@@ -34,7 +34,7 @@ pub struct Binding<'a> {
 pub struct Bindings<'a> {
     list: Vec<Binding<'a>>,
     names: Numbering<'a>,
-    newest: IndexMap<usize, usize>,
+    newest: ByNumber,
 }
 
 // By hand, so that crates above call it and do not prove anew how each part is dropped.
@@ -49,16 +49,15 @@ impl Drop for Bindings<'_> {
 }
 
 impl<'a> Model for Bindings<'a> {
-    ghost use Rattle.std.specs.Prelude.{List, nat_eq};
-    ghost use Rattle.indexmap.specs.IndexMap.{get};
+    ghost use Rattle.std.specs.Prelude.{List};
     ghost use Rattle.cc_typing.specs.Scope as scope;
-    ghost use Rattle.cc_typing.specs.Bindings.{bindings_of, IsTable};
+    ghost use Rattle.cc_typing.specs.Bindings.{bindings_of, row_of, IsTable};
 
     ghost Value = { List scope.Binding };
 
     ghost view = { λ b. bindings_of b.list.items };
 
-    ghost invariant = { λ b. IsTable b.list.items b.names (get nat_eq b.newest) };
+    ghost invariant = { λ b. IsTable b.list.items b.names (row_of b.newest) };
 }
 
 // The binding with a number, where there is one.
@@ -85,7 +84,7 @@ impl<'a> Bindings<'a> {
         Bindings {
             list: Vec::new(alloc),
             names: Numbering::new(alloc),
-            newest: IndexMap::new(alloc),
+            newest: ByNumber::new(alloc),
         }
     }
 
@@ -101,7 +100,7 @@ impl<'a> Bindings<'a> {
         ensures entity { entity_found result ≡ found self.now name.now }
     {
         let number = self.names.find(name)?;
-        let place = self.newest.get(&number).copied();
+        let place = self.newest.get(number);
         newest_at(self.list.as_slice(), place)
     }
 
@@ -120,7 +119,7 @@ impl<'a> Bindings<'a> {
         self.list.reserve(1)?;
         let place = self.list.len();
         let number = self.names.add(name)?;
-        match self.newest.insert(number, place) {
+        match self.newest.put(number, place) {
             Ok(hidden) => {
                 self.list.push_reserved(Binding {
                     name,
@@ -130,7 +129,7 @@ impl<'a> Bindings<'a> {
                 });
                 Ok(newest_at(self.list.as_slice(), hidden))
             }
-            Err(_) => Err(AllocError),
+            Err(error) => Err(error),
         }
     }
 
@@ -149,14 +148,6 @@ impl<'a> Bindings<'a> {
         else {
             return;
         };
-        match hidden {
-            // The number is in the table, so this needs no memory.
-            Some(place) => {
-                let _ = self.newest.insert(number, place);
-            }
-            None => {
-                self.newest.swap_remove(&number);
-            }
-        }
+        self.newest.restore(number, hidden);
     }
 }

@@ -11,6 +11,7 @@
 
 mod around;
 mod bindings;
+mod by_number;
 mod checking;
 mod constants;
 mod entity;
@@ -28,6 +29,7 @@ mod statements;
 mod typed;
 
 pub use bindings::{Bindings, Newest};
+pub use by_number::ByNumber;
 pub use checking::{check, check_is_determined};
 pub use constants::{array_length, constant_word};
 pub use entity::Entity;
