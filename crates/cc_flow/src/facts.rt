@@ -31,6 +31,13 @@ pub trait Facts: Drop {
         ensures rises { IfOk result (λ rose. IsTrue rose → room self.new < room self.old) }
         ensures leaves { IfErr result (λ _. self.new ≡ self.old) };
 
+    /// The same of facts that are given up.
+    fn rise(&mut self, other: Self) -> Result<bool, AllocError>
+        ensures joined { IfOk result (λ _. Equivalent below self.new (lub self.old other)) }
+        ensures unchanged { IfOk result (λ rose. IsFalse rose → self.new ≡ self.old) }
+        ensures rises { IfOk result (λ rose. IsTrue rose → room self.new < room self.old) }
+        ensures leaves { IfErr result (λ _. self.new ≡ self.old) };
+
     // The order has a least value and least upper bounds.
     ghost laws: { IsLattice below bottom lub };
 

@@ -112,7 +112,7 @@ fn raise<F: Facts, T: Transfer<F>>(
         node,
         graph.successors(node),
     )?;
-    let rose = facts[node].join(&comes_back)?;
+    let rose = facts[node].rise(comes_back)?;
     Ok(rose)
 }
 

@@ -128,6 +128,12 @@ impl Facts for RegisterSet {
         Ok(rose)
     }
 
+    fn rise(&mut self, other: RegisterSet) -> Result<bool, AllocError> {
+        let RegisterSet { row } = other;
+        let rose = self.row.rise(row)?;
+        Ok(rose)
+    }
+
     ghost laws = { laws };
 
     ghost bounded = { room_bounded };

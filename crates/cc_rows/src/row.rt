@@ -175,6 +175,26 @@ impl BitRow {
         Ok(())
     }
 
+    /// The same of a set that is given up: one without a word takes its memory.
+    pub fn rise(&mut self, other: BitRow) -> Result<bool, AllocError>
+        ensures both { IfOk result (λ _. (k : ℕ) → holds self.new k ≡ (holds self.old k || holds other k)) }
+        ensures unchanged { IfOk result (λ rose. IsFalse rose → self.new ≡ self.old) }
+        ensures rises { IfOk result (λ rose. IsTrue rose → (k : ℕ) × IsTrue (holds other k) × IsFalse (holds self.old k)) }
+        ensures few { (most : ℕ) → length self.old ≤ most → length other ≤ most → length self.new ≤ most }
+        ensures leaves { IfErr result (λ _. self.new ≡ self.old) }
+    {
+        if !self.words.is_empty() {
+            let rose = self.join(&other)?;
+            return Ok(rose);
+        }
+        let rose = !lies_within(other.words.as_slice(), &[]);
+        if rose {
+            let BitRow { words } = other;
+            self.words = words;
+        }
+        Ok(rose)
+    }
+
     /// Puts in what another set holds, and answers whether anything of it was missing. Without memory the set stays as it was.
     pub fn join(&mut self, other: &BitRow) -> Result<bool, AllocError>
         ensures both { IfOk result (λ _. (k : ℕ) → holds self.new k ≡ (holds self.old k || holds other.now k)) }

@@ -250,6 +250,34 @@ impl BitRows {
         self.join_wider(other)
     }
 
+    /// The same of bits that are given up: where there is no row, their memory is taken.
+    pub fn rise(&mut self, other: BitRows) -> Result<bool, AllocError>
+        ensures both { IfOk result (λ _. (r c : ℕ) → has self.new r c ≡ (has self.old r c || has other r c)) }
+        ensures unchanged { IfOk result (λ rose. IsFalse rose → (r c : ℕ) → has self.new r c ≡ has self.old r c) }
+        ensures rises { IfOk result (λ rose. IsTrue rose → (r c : ℕ) × IsTrue (has other r c) × IsFalse (has self.old r c)) }
+        ensures leaves { IfErr result (λ _. (r c : ℕ) → has self.new r c ≡ has self.old r c) }
+    {
+        self.take_width(other.width);
+        if self.width == other.width {
+            return self.rise_same(other);
+        }
+        self.join_wider(&other)
+    }
+
+    /// The same where the rows of both are equally wide.
+    fn rise_same(&mut self, other: BitRows) -> Result<bool, AllocError>
+        requires { self.old.width ≡ other.width }
+        ensures both { IfOk result (λ _. (r c : ℕ) → has self.new r c ≡ (has self.old r c || has other r c)) }
+        ensures unchanged { IfOk result (λ rose. IsFalse rose → self.new ≡ self.old) }
+        ensures rises { IfOk result (λ rose. IsTrue rose → (r c : ℕ) × IsTrue (has other r c) × IsFalse (has self.old r c)) }
+        ensures leaves { IfErr result (λ _. self.new ≡ self.old) }
+    {
+        let BitRows { rows, bits, .. } = other;
+        let rose = self.bits.rise(bits)?;
+        self.rows = greater(self.rows, rows);
+        Ok(rose)
+    }
+
     /// Where there is no row, the width is another.
     fn take_width(&mut self, width: usize)
         requires { width ≤ most_width }

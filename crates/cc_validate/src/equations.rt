@@ -94,6 +94,18 @@ impl Equations {
         Ok(rose)
     }
 
+    /// The same of a set that is given up.
+    pub fn rise(&mut self, other: Equations) -> Result<bool, AllocError>
+        ensures both { IfOk result (λ _. Equivalent Below (Some self.new) (join_of (Some self.old) (Some other))) }
+        ensures unchanged { IfOk result (λ rose. IsFalse rose → self.new ≡ self.old) }
+        ensures rises { IfOk result (λ rose. IsTrue rose → room_of (Some self.new) < room_of (Some self.old)) }
+        ensures leaves { IfErr result (λ _. self.new ≡ self.old) }
+    {
+        let Equations { bits } = other;
+        let rose = self.bits.rise(bits)?;
+        Ok(rose)
+    }
+
     /// Becomes what has to hold in front of moves, so that it holds behind them.
     pub fn carry(self, alloc: Global, moves: &[Move]) -> Result<Equations, AllocError>
         ensures { IfOk result (λ made. AreCarried (before_moves moves.now) self made) }

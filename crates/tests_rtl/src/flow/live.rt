@@ -60,6 +60,10 @@ impl Facts for Live {
         Ok(old.a != new.a || old.b != new.b || old.c != new.c)
     }
 
+    fn rise(&mut self, other: Live) -> Result<bool, AllocError> {
+        self.join(&other)
+    }
+
     ghost laws = { laws };
 
     ghost bounded = { Prim.omega arith };

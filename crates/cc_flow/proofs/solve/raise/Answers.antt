@@ -20,5 +20,5 @@ returns-clause-within g c = λ other solves under.
     let comes_back = subst (λ xs. Equivalent f.below back (carried f.bottom f.lub carries c.args.graph.now (facts_at f.bottom xs) node)) c.as_slice.ensures.value by_row in
     let behind = carried_within f.below f.bottom f.lub g.met.F.Facts.laws carries monotone c.args.graph.now (facts_at f.bottom facts) other under solves node c.requires.node in
     let own = subst (λ x. f.below x (other node)) (sym old) (under node) in
-    raised_under f.below f.bottom f.lub g.met.F.Facts.laws carries monotone c.args.graph.now facts node c.join.new.self other within under
-    (rose_within f.below f.bottom f.lub g.met.F.Facts.laws c.index_mut.result.now c.join.new.self back (carried f.bottom f.lub carries c.args.graph.now (facts_at f.bottom facts) node) (other node) c.in_ok-rose.ensures.joined comes_back own behind)
+    raised_under f.below f.bottom f.lub g.met.F.Facts.laws carries monotone c.args.graph.now facts node c.rise.new.self other within under
+    (rose_within f.below f.bottom f.lub g.met.F.Facts.laws c.index_mut.result.now c.rise.new.self back (carried f.bottom f.lub carries c.args.graph.now (facts_at f.bottom facts) node) (other node) c.in_ok-rose.ensures.joined comes_back own behind)
