@@ -209,7 +209,8 @@ fn chosen_by(alloc: Global, tests: &Tests, items: &[Item]) -> Result<Vec<Step>, 
     ensures { IfOk result (λ steps. steps.items ≡ chosen unknown (threaded_by (tests_in tests.now) unknown false items.now)) }
 {
     let mut known = Known::nothing();
-    let mut steps = Vec::with_capacity(alloc, items.len())?;
+    // One for each item, and room for a second behind the last.
+    let mut steps = Vec::with_capacity(alloc, items.len().saturating_add(2))?;
     let mut gone = false;
     for item in items {
         if gone {
