@@ -4,7 +4,7 @@
     bench/rooms.py                              of every crate: definitions directly in specs/ on which no public contract rests and
                                                 no type's model, definitions of specs/internal/ on which a contract or a public
                                                 type's model does, and contracts that rest on what stands in proofs/; and names in
-                                                the crates' READMEs, docs/PROOFS.md and docs/DECISIONS.md that nothing has any more
+                                                the crates' READMEs and five documents that nothing has any more
     bench/rooms.py CRATE FUNCTION [CLAUSE..]    what that function's contract rests on, or these clauses of it: the pages in
                                                 reading order, with how many of their lines, and how many lines in all
 
@@ -274,10 +274,12 @@ def clauses_of(crate):
 def unknown_in(path, words, pages):
     """Returns what a document names in backquotes that is not there: files, words, clauses of calls, pages of crates."""
     with open(path, encoding="utf-8") as file:
-        text = re.sub(r"\s*\n\s*", " ", file.read())
+        text = re.sub(r"\s*\n\s*", " ", re.sub(r"^```.*?^```$", "", file.read(), flags=re.M | re.S))
     crate = os.path.basename(os.path.dirname(path))
     roots, unknown = [TOP, f"{TOP}/crates", f"{TOP}/crates/{crate}", f"{TOP}/crates/*"], []
     for quoted in QUOTED.findall(text):
+        if quoted.startswith("rt "):
+            continue
         for part in re.findall(r"[\w.*-]+(?:/[\w.*-]+)+", quoted):
             if not any(glob.glob(f"{root}/{part}{end}") for root in roots for end in ("", ".antt")):
                 unknown.append(part)
@@ -295,7 +297,8 @@ def unknown_in(path, words, pages):
 
 def check_documents(repository):
     wrong, words = 0, words_of_sources()
-    for path in [*sorted(glob.glob(f"{TOP}/crates/*/README.md")), f"{TOP}/docs/PROOFS.md", f"{TOP}/docs/DECISIONS.md"]:
+    pages = [f"{TOP}/docs/{it}.md" for it in ("ARCHITECTURE", "DECISIONS", "DEVELOPING", "PROOFS", "THREADS")]
+    for path in [*sorted(glob.glob(f"{TOP}/crates/*/README.md")), *pages]:
         for it in unknown_in(path, words, repository.pages):
             wrong += 1
             print(f"{os.path.relpath(path, TOP)}: {it} is not there")
