@@ -1,5 +1,5 @@
 #!/usr/bin/env python3
-"""The map of the crates by what their code uses: computed, and compared with the table "The map" of docs/ARCHITECTURE.md.
+"""The map of the crates by what their code uses: computed, and compared with the table "The map of the crates" of docs/ARCHITECTURE.md.
 
 A crate uses another where its `src/` names it outside comments, contracts and lines that begin with `ghost`; tests and bench are left
 out. An arrow is left out of the map where a longer way leads to the same crate. A crate's layer is one above the highest of those that it
