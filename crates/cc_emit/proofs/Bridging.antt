@@ -6,9 +6,9 @@ use Rattle.std.specs.List.{AllByRecursion}
 use Rattle.std.proofs.lemmas.List.{drop_more, drop_all}
 use Rattle.std.proofs.lemmas.Bool.{lt-ltb}
 use Rattle.std.proofs.lemmas.Bool.Decides.{nat_tests, leb_tells}
-use Rattle.cc_linear.specs.declared.item.Item as linear
-use Rattle.cc_linear.specs.declared.item.Item.TheVariants.{Jump, IfNonzero, IfZero}
-use Rattle.cc_linear.specs.Linear.{IsItem}
+use Rattle.cc_linear_language.specs.declared.item.Item as linear
+use Rattle.cc_linear_language.specs.declared.item.Item.TheVariants.{Jump, IfNonzero, IfZero}
+use Rattle.cc_linear_language.specs.Linear.{IsItem}
 use Rattle.cc_rv32.specs.declared.instr.BranchOperation.TheVariants.{Beq, Bne}
 use Rattle.cc_select.specs.declared.step.Step.{Step}
 use Rattle.cc_select.specs.declared.step.Step.TheVariants.{One, Immediate, LoadAt, StoreAt, Branch, BranchImmediate}

@@ -13,7 +13,7 @@ use Rattle.cc_ltl.specs.declared.operation.Move.{Move}
 use Rattle.cc_ltl.specs.declared.operation.Move.TheVariants.{Between, Reload, Spill}
 use Rattle.cc_ltl.specs.Registers.{IsAllocatable}
 use Rattle.cc_ltl.specs.Ltl.{Locations, put}
-use Rattle.cc_linear.specs.declared.item.Item.TheVariants.{Jump, IfNonzero, IfZero, Copy, Const, Unary, Binary, Load, Store, Read, Write}
+use Rattle.cc_linear_language.specs.declared.item.Item.TheVariants.{Jump, IfNonzero, IfZero, Copy, Const, Unary, Binary, Load, Store, Read, Write}
 use Rattle.cc_select.specs.declared.step.Step.{Step}
 use Rattle.cc_select.specs.declared.step.Step.TheVariants.{One}
 use Rattle.cc_select.specs.Selected.{at_steps, led, place, selected_move}

@@ -9,8 +9,8 @@ use Rattle.cc_words.specs.declared.operators.Unary.TheVariants.{Neg, Complement,
 use Rattle.cc_runs.specs.Meaning.{Meaning}
 use Rattle.cc_ltl.specs.declared.operation.Move.{Move}
 use Rattle.cc_ltl.specs.declared.operation.Move.TheVariants.{Between, Reload, Spill}
-use Rattle.cc_linear.specs.declared.item.Item as linear
-use Rattle.cc_linear.specs.declared.item.Item.TheVariants.{Label, Jump, IfNonzero, IfZero, Copy, Const, Unary, Binary, Load, Store, Call, Read, Write, Return}
+use Rattle.cc_linear_language.specs.declared.item.Item as linear
+use Rattle.cc_linear_language.specs.declared.item.Item.TheVariants.{Label, Jump, IfNonzero, IfZero, Copy, Const, Unary, Binary, Load, Store, Call, Read, Write, Return}
 use Rattle.cc_select.specs.declared.step.Immediate as immediate
 use Rattle.cc_select.specs.declared.step.Immediate.TheVariants as immediates
 use Rattle.cc_select.specs.declared.step.Step.{Step}

@@ -6,7 +6,7 @@ use Rattle.cc_ast.specs.Source.{source}
 use Rattle.cc_ast.specs.declared.unit.Unit as parsed
 use Rattle.cc_semantics.specs.Numbered.{objects_in}
 use Rattle.cc_ltl.specs.Ltl.{Ltl}
-use Rattle.cc_linear.specs.Pair as linear
+use Rattle.cc_linear_language.specs.Pair as linear
 use Rattle.cc_select.specs.declared.step.Step.{Step}
 use Rattle.cc_select.specs.Selected.{labels, IsStep, IsSelected}
 use Rattle.cc_select.specs.Selection.{selected}

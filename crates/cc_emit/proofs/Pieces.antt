@@ -11,8 +11,7 @@ use Rattle.cc_semantics.specs.Meaning.{Function, functions, functions_from, text
 use Rattle.cc_semantics.specs.Numbered.{arity_in, objects_in}
 use Rattle.cc_runs.specs.World.{Size}
 use Rattle.cc_ltl.specs.Ltl.{IsLtl}
-use Rattle.cc_validate.specs.Pair as validated
-use Rattle.cc_linear.specs.Pair.{most_blocks}
+use Rattle.cc_linear_language.specs.Pair.{most_blocks, LtlKeepsUp}
 use Rattle.cc_select.specs.Selected.{labels, IsStep, IsSelected}
 use Rattle.cc_select.specs.Pair as above
 use Rattle.cc_emit.specs.declared.item.Item.{Item}
@@ -84,6 +83,6 @@ items_do p limits selected keeps meaning is layout in_order =
     subst (λ (b : ℕ → ℕ). IsPiece meaning layout p.function (function_items b p.ltl.slots p.code)) base piece
 
 -- with what `SelectedPair::code` and `into_parts` say of a pair, and the limits of its unit
-pub piece_of : (p : above.Pair) → IsLtl p.ltl → length p.ltl.blocks ≤ most_blocks → validated.KeepsUp (above.tree_of p) p.function p.ltl → IsTyped (above.tree_of p) → IsWithinLimits (above.tree_of p) → p.function < length (functions (above.tree_of p)) → IsSelected p.ltl.slots (length (functions (above.tree_of p))) p.code → above.KeepsUp (above.tree_of p) p.function p.ltl.slots p.code
+pub piece_of : (p : above.Pair) → IsLtl p.ltl → length p.ltl.blocks ≤ most_blocks → LtlKeepsUp (above.tree_of p) p.function p.ltl → IsTyped (above.tree_of p) → IsWithinLimits (above.tree_of p) → p.function < length (functions (above.tree_of p)) → IsSelected p.ltl.slots (length (functions (above.tree_of p))) p.code → above.KeepsUp (above.tree_of p) p.function p.ltl.slots p.code
     → IsPieceOfUnit (record { unit = p.unit; function = p.function; ltl = p.ltl; items = items_for p })
 piece_of p is_ltl few ltl_keeps typed limits lt selected keeps = record { typed = typed; function = lt; ltl = is_ltl; few = few; ltl_keeps_up = ltl_keeps; items = items_do p limits selected keeps }

@@ -9,7 +9,7 @@ use Rattle.cc_runs.specs.Unknown.{survives}
 use Rattle.cc_ltl.specs.declared.location.Location.TheVariants.{Register, Slot}
 use Rattle.cc_ltl.specs.Registers.{IsAllocatable}
 use Rattle.cc_ltl.specs.Ltl.{Locations, put, words_from}
-use Rattle.cc_linear.specs.declared.item.Item.TheVariants.{Return}
+use Rattle.cc_linear_language.specs.declared.item.Item.TheVariants.{Return}
 use Rattle.cc_rv32.specs.declared.instr.Instr.TheVariants.{Jal, Jalr, Lui, OpImm}
 use Rattle.cc_rv32.specs.declared.instr.ImmediateOperation.TheVariants.{Addi}
 use Rattle.cc_emit.specs.declared.item.Item.TheVariants.{Plain}

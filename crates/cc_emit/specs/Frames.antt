@@ -2,8 +2,8 @@
 use Rattle.std.specs.Prelude.{ℕ, ◌+◌, ◌*◌, Bool, true, false, ◌||◌, if◌then◌else◌, ◌==◌, List, [], ◌∷◌, length}
 use Rattle.cc_ltl.specs.declared.location.Location.TheVariants.{Register}
 use Rattle.cc_ltl.specs.Ltl.{target, same_location}
-use Rattle.cc_linear.specs.declared.item.Item as linear
-use Rattle.cc_linear.specs.declared.item.Item.TheVariants.{Copy, Const, Unary, Binary, Load, Call}
+use Rattle.cc_linear_language.specs.declared.item.Item as linear
+use Rattle.cc_linear_language.specs.declared.item.Item.TheVariants.{Copy, Const, Unary, Binary, Load, Call}
 use Rattle.cc_select.specs.declared.step.Step.{Step}
 use Rattle.cc_select.specs.declared.step.Step.TheVariants.{One, Immediate, LoadAt}
 

@@ -8,8 +8,7 @@ use Rattle.cc_semantics.specs.Meaning.{functions}
 use Rattle.cc_semantics.specs.Numbered.{IsMeaningOf}
 use Rattle.cc_runs.specs.Meaning.{Meaning}
 use Rattle.cc_ltl.specs.Ltl.{Ltl, IsLtl}
-use Rattle.cc_validate.specs.Pair as validated
-use Rattle.cc_linear.specs.Pair.{most_blocks}
+use Rattle.cc_linear_language.specs.Pair.{most_blocks, LtlKeepsUp}
 use Rattle.cc_emit.specs.declared.item.Item.{Item}
 use Rattle.cc_emit.specs.Contract.{Layout, IsPiece}
 use Rattle.cc_emit.specs.Objects.{IsInOrder}
@@ -35,5 +34,5 @@ pub record IsPieceOfUnit (p : Piece) : Type 0 where
   pub function : p.function < length (functions (tree_of p))
   pub ltl : IsLtl p.ltl
   pub few : length p.ltl.blocks ≤ most_blocks
-  pub ltl_keeps_up : validated.KeepsUp (tree_of p) p.function p.ltl
+  pub ltl_keeps_up : LtlKeepsUp (tree_of p) p.function p.ltl
   pub items : AreOf (tree_of p) p.function p.items

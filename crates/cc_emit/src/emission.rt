@@ -30,7 +30,7 @@ use crate::operators::{put_binary, put_immediate, unary};
 use crate::recipe::WordRecipe;
 use crate::scratch::addressed;
 use crate::tables::{Places, label_count, long_size};
-use cc_linear::Item as LinearItem;
+use cc_linear_language::Item as LinearItem;
 use cc_ltl::Move;
 use cc_rv32::instr::{BranchOperation, Instr, Operation};
 use cc_select::Step;

@@ -6,7 +6,7 @@ ghost use Rattle.cc_emit.specs.Function.{pair_items};
 use crate::bases::Bases;
 use crate::emission::function_items;
 use crate::piece::Piece;
-use cc_linear::LinearPair;
+use cc_linear_language::LinearPair;
 use cc_select::select;
 use std::alloc::{AllocError, Global};
 use std::sync::Arc;

@@ -11,7 +11,7 @@ use crate::instructions::{
     low, put, store,
 };
 use crate::item::Item;
-use cc_linear::Item as LinearItem;
+use cc_linear_language::Item as LinearItem;
 use cc_ltl::Move;
 use cc_select::Step;
 use std::alloc::{AllocError, Global};

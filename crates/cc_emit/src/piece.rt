@@ -4,8 +4,7 @@ ghost use Rattle.std.specs.Prelude.{◌≡◌, ◌<◌, ◌≤◌, length};
 ghost use Rattle.std.specs.Arc.{arc_value};
 ghost use Rattle.cc_semantics.specs.Meaning.{functions};
 ghost use Rattle.cc_ltl.specs.Ltl.{IsLtl};
-ghost use Rattle.cc_validate.specs.Pair as validated;
-ghost use Rattle.cc_linear.specs.Pair.{most_blocks};
+ghost use Rattle.cc_linear_language.specs.Pair.{most_blocks, LtlKeepsUp};
 ghost use Rattle.cc_emit.specs.Piece.{Piece as Shown, tree_of, IsPieceOfUnit};
 
 use crate::item::Item;
@@ -85,7 +84,7 @@ impl Piece {
         ensures ltl { result.now ≡ self.now.ltl }
         ensures is_ltl { IsLtl self.now.ltl }
         ensures few { length self.now.ltl.blocks ≤ most_blocks }
-        ensures keeps_up { validated.KeepsUp (tree_of self.now) self.now.function self.now.ltl }
+        ensures keeps_up { LtlKeepsUp (tree_of self.now) self.now.function self.now.ltl }
     {
         &self.ltl
     }

@@ -18,11 +18,11 @@ use Rattle.cc_ltl.specs.declared.operation.Operation.TheVariants.{Nop, Const, Un
 use Rattle.cc_ltl.specs.declared.block.Block.{Block}
 use Rattle.cc_ltl.specs.Ltl as ltl
 use Rattle.cc_ltl.specs.Ltl.{Ltl, block_at, Locations, put, target, source, moved, result_location, destroyed_location, after_call, to_block, operate, ltl_move, ltl_output, ltl_start}
-use Rattle.cc_linear.specs.declared.item.Item.{Item}
-use Rattle.cc_linear.specs.declared.item.Item.TheVariants as item
-use Rattle.cc_linear.specs.declared.item.Item.TheVariants.{Label, Jump, IfNonzero, IfZero}
-use Rattle.cc_linear.specs.Linear as linear
-use Rattle.cc_linear.specs.Linear.{place, at_items, does, linear_move, linear_output, linear_start}
+use Rattle.cc_linear_language.specs.declared.item.Item.{Item}
+use Rattle.cc_linear_language.specs.declared.item.Item.TheVariants as item
+use Rattle.cc_linear_language.specs.declared.item.Item.TheVariants.{Label, Jump, IfNonzero, IfZero}
+use Rattle.cc_linear_language.specs.Linear as linear
+use Rattle.cc_linear_language.specs.Linear.{place, at_items, does, linear_move, linear_output, linear_start}
 use Rattle.cc_linear.specs.internal.Lays.{moves_then, operation_then, GoesOnAt, StandsIn, next, IsNop, Straight, BranchesTo, Leaves, Stands, Nearer, Passes, Lays}
 
 -- how many moves the blocks have

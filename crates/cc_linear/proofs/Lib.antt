@@ -2,8 +2,6 @@
 pub mod Laid
 -- blocks in any order are laid out
 pub mod Ordering
--- the moves of Linear are those of a layer
-pub mod Layer
 -- what a pair of Linear keeps
 pub mod Pairs
 -- one more end keeps the table of ends sound

@@ -11,12 +11,12 @@ use Rattle.cc_ltl.specs.declared.block.Block.{Block}
 use Rattle.cc_ltl.specs.Ltl.{Ltl, IsMove, IsOperation, IsBlock, IsLtl, goes_on, block_at}
 use Rattle.cc_validate.specs.Pair as above
 use Rattle.cc_validate.specs.Pair.{EndsAreLast, IsCallOf}
-use Rattle.cc_linear.specs.declared.item.Item.{Item}
-use Rattle.cc_linear.specs.declared.item.Item.TheVariants as item
-use Rattle.cc_linear.specs.declared.item.Item.TheVariants.{Label, Jump, IfNonzero, IfZero}
-use Rattle.cc_linear.specs.Linear.{labels, IsItem}
+use Rattle.cc_linear_language.specs.declared.item.Item.{Item}
+use Rattle.cc_linear_language.specs.declared.item.Item.TheVariants as item
+use Rattle.cc_linear_language.specs.declared.item.Item.TheVariants.{Label, Jump, IfNonzero, IfZero}
+use Rattle.cc_linear_language.specs.Linear.{labels, IsItem}
 use Rattle.cc_linear.specs.Targets.{targets}
-use Rattle.cc_linear.specs.Pair.{Pair, tree_of, IsPair}
+use Rattle.cc_linear_language.specs.Pair.{Pair, tree_of, IsPair}
 use Rattle.cc_linear.specs.internal.Lays.{moves_then, operation_then, next}
 use Rattle.cc_linear.specs.internal.Layout.{is_next, leads, is_empty, tail_of, branch_then, block_then, laid_at, laid, linear_code, HasSuccessors, IsOrder, AreEnds, NoneBehind, BranchesAreLast}
 use Rattle.cc_linear.proofs.Laid.{linear_tracks}

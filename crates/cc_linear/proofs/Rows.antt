@@ -4,9 +4,9 @@ use Rattle.cc_ltl.specs.declared.operation.Move.{Move}
 use Rattle.cc_ltl.specs.declared.operation.Operation.{Operation}
 use Rattle.cc_ltl.specs.declared.operation.Operation.TheVariants.{Nop, Const, Unary, Binary, Load, Store, Call, Read, Write, Branch, Return}
 use Rattle.cc_ltl.specs.declared.block.Block.{Block}
-use Rattle.cc_linear.specs.declared.item.Item.{Item}
-use Rattle.cc_linear.specs.declared.item.Item.TheVariants as item
-use Rattle.cc_linear.specs.declared.item.Item.TheVariants.{Label, Jump, IfNonzero, IfZero, Copy}
+use Rattle.cc_linear_language.specs.declared.item.Item.{Item}
+use Rattle.cc_linear_language.specs.declared.item.Item.TheVariants as item
+use Rattle.cc_linear_language.specs.declared.item.Item.TheVariants.{Label, Jump, IfNonzero, IfZero, Copy}
 use Rattle.cc_linear.specs.internal.Lays.{moves_then, operation_then, next}
 use Rattle.cc_ltl.specs.Ltl.{block_at, goes_on}
 use Rattle.cc_linear.specs.internal.Layout.{is_next, leads, is_empty, tail_of, branch_then, block_then, laid_at, laid}

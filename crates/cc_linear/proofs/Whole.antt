@@ -9,9 +9,9 @@ use Rattle.cc_ltl.specs.declared.block.Block.{Block}
 use Rattle.cc_ltl.specs.Ltl.{Ltl, Ascend, block_at}
 use Rattle.cc_validate.specs.Pair as above
 use Rattle.cc_validate.specs.Pair.{Leads, next_labels}
-use Rattle.cc_linear.specs.declared.item.Item.{Item}
+use Rattle.cc_linear_language.specs.declared.item.Item.{Item}
 use Rattle.cc_linear.specs.Targets.{targets, NoneIdle}
-use Rattle.cc_linear.specs.Pair.{IsPair}
+use Rattle.cc_linear_language.specs.Pair.{IsPair}
 use Rattle.cc_linear.specs.internal.Lays.{next}
 use Rattle.cc_linear.specs.internal.Layout.{has_none, is_nop, is_empty, leads, laid, linear_code, AreEnds, IsOrder}
 use Rattle.cc_linear.specs.internal.Ends.{HasEnds, HasEndsBy}

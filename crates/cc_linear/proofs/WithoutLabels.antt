@@ -19,9 +19,9 @@ use Rattle.cc_runs.specs.internal.Simulation.{Alike, Advances, Asks, Ending, Sim
 use Rattle.cc_runs.proofs.Simulating.{coarser, tracks_on_for_all}
 use Rattle.cc_ltl.specs.declared.location.Location.TheVariants.{Register}
 use Rattle.cc_ltl.specs.Ltl.{Locations}
-use Rattle.cc_linear.specs.declared.item.Item.{Item}
-use Rattle.cc_linear.specs.declared.item.Item.TheVariants.{Label, Jump, IfNonzero, IfZero, Copy, Const, Unary, Binary, Load, Store, Call, Read, Write, Return}
-use Rattle.cc_linear.specs.Linear.{labels, place, IsItem, Configuration, at_items, does, linear_move, linear_output, linear_start}
+use Rattle.cc_linear_language.specs.declared.item.Item.{Item}
+use Rattle.cc_linear_language.specs.declared.item.Item.TheVariants.{Label, Jump, IfNonzero, IfZero, Copy, Const, Unary, Binary, Load, Store, Call, Read, Write, Return}
+use Rattle.cc_linear_language.specs.Linear.{labels, place, IsItem, Configuration, at_items, does, linear_move, linear_output, linear_start}
 use Rattle.cc_linear.specs.Targets.{targets, NoneIdle}
 use Rattle.cc_linear.specs.internal.Idle.{IsRising, has, stays, kept}
 

@@ -1,8 +1,8 @@
 -- To which labels the items of a function lead.
 use Rattle.std.specs.Prelude.{ℕ, List, [], ◌∷◌, Contains}
-use Rattle.cc_linear.specs.declared.item.Item.{Item}
-use Rattle.cc_linear.specs.declared.item.Item.TheVariants.{Jump, IfNonzero, IfZero}
-use Rattle.cc_linear.specs.Linear.{labels}
+use Rattle.cc_linear_language.specs.declared.item.Item.{Item}
+use Rattle.cc_linear_language.specs.declared.item.Item.TheVariants.{Jump, IfNonzero, IfZero}
+use Rattle.cc_linear_language.specs.Linear.{labels}
 
 -- the labels of jumps and branches, one after the other
 abbrev pub targets : List Item → List ℕ

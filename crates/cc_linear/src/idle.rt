@@ -5,7 +5,7 @@ ghost use Rattle.std.specs.List.{Contains};
 ghost use Rattle.cc_linear.specs.Targets.{targets};
 ghost use Rattle.cc_linear.specs.internal.Idle.{IsRising, stays as has_its_place, kept as without};
 
-use crate::item::Item;
+use cc_linear_language::Item;
 use std::alloc::{AllocError, Global};
 
 /// The items without the labels to which no jump and no branch leads.

@@ -4,9 +4,9 @@ ghost use Rattle.std.specs.Prelude.{◌≡◌, ◌<◌, ◌++◌, [], length, dr
 ghost use Rattle.cc_linear.specs.internal.Layout.{block_then, leads, laid};
 ghost use Rattle.cc_linear.specs.internal.Places.{AreLabels, LeadsIn, AllLeadIn, end_in, labels_at, labels_of, listed, listed_first};
 
-use crate::item::Item;
 use crate::tables::end_of;
 use crate::writing::{branch, end_item, item_of, put, way};
+use cc_linear_language::Item;
 use cc_ltl::{Block, Operation};
 use std::alloc::{AllocError, Global};
 

@@ -1,7 +1,6 @@
-//! Linear: the blocks of a function of LTL as one list of moves and operations, with labels, jumps and branches.
+//! From LTL to Linear, the blocks of a function as one list of moves and operations, with labels, jumps and branches.
 //!
-//! `item` has the items, `display` their text, `pair` the type that keeps that a function's Linear does what the function does. What one
-//! item does is defined in `specs/Linear.antt`. In which order blocks are laid out, and which empty ones are passed over, is free:
+//! The language is that of `cc_linear_language`. In which order blocks are laid out, and which empty ones are passed over, is free:
 //! `specs/internal/Lays` says when a list lays out a function's blocks, and the lemmas of `proofs/Laid` prove that it then keeps up with
 //! the source; every order that has each label once and all that is reached is laid out (`proofs/Ordering`).
 //!
@@ -9,19 +8,14 @@
 //! blocks end and an order, `writing` and `layout` put the items one after the other, `idle` leaves out the labels to which nothing leads.
 #![tactic(auto)]
 
-mod display;
 mod fault;
 mod idle;
-mod item;
 mod layout;
 mod lineariser;
-mod pair;
 mod places;
 mod tables;
 mod tracing;
 mod writing;
 
 pub use fault::LinearFault;
-pub use item::Item;
 pub use lineariser::linearise;
-pub use pair::LinearPair;

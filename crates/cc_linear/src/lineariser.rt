@@ -7,13 +7,12 @@ ghost use Rattle.cc_linear.specs.internal.Whole.{IsMadeOf};
 
 use crate::fault::LinearFault;
 use crate::idle::without_idle;
-use crate::item::Item;
 use crate::layout::lay_out;
-use crate::pair::LinearPair;
 use crate::places::labels;
 use crate::tables::{end_of, graph, next_places};
 use crate::tracing::ends::chain_ends;
 use crate::tracing::order::order;
+use cc_linear_language::{Item, LinearPair};
 use cc_ltl::Ltl;
 use cc_validate::LtlPair;
 use std::alloc::{AllocError, Global};

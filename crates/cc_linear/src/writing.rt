@@ -1,13 +1,13 @@
 // The items of a block's parts. Functions that put items name the moves too: they are put together.
 
 ghost use Rattle.std.specs.Prelude.{◌≡◌, ◌++◌, [], ◌∷◌, cond, OnOk};
-ghost use Rattle.cc_linear.specs.declared.item.Item.TheVariants.{Jump};
+ghost use Rattle.cc_linear_language.specs.declared.item.Item.TheVariants.{Jump};
 ghost use Rattle.cc_linear.specs.internal.Lays.{moves_then, operation_then};
 ghost use Rattle.cc_linear.specs.internal.Layout.{leads, is_empty, branch_then};
 ghost use Rattle.cc_linear.specs.internal.Places.{listed, listed_items};
 
-use crate::item::Item;
 use crate::places::does_nothing;
+use cc_linear_language::Item;
 use cc_ltl::{Block, Move, Operation, Register};
 use std::alloc::AllocError;
 

@@ -16,8 +16,7 @@ use Rattle.cc_semantics.specs.Meaning.{functions}
 use Rattle.cc_unit.specs.declared.unit.StoredUnit.{StoredUnit}
 use Rattle.cc_ltl.specs.Bytes.{word_bytes, ltl_bytes}
 use Rattle.cc_ltl.specs.Ltl.{Ltl, IsLtl}
-use Rattle.cc_validate.specs.Pair.{KeepsUp}
-use Rattle.cc_linear.specs.Pair.{most_blocks}
+use Rattle.cc_linear_language.specs.Pair.{most_blocks, LtlKeepsUp}
 use Rattle.cc_emit.specs.Piece.{Piece, tree_of}
 use Rattle.cc_link.specs.Certificate.{IsToldLtl, EachKeepsUp, ltl_field}
 use Rattle.cc_link.specs.Laws.{MadeUnitsAreCertified}
@@ -42,27 +41,27 @@ all_told from (p ∷ ps) h = ((h.1.0, ltl_short p.ltl h.1.0 h.1.1), all_told (su
 
 -- what a piece of a unit with this tree keeps of its LTL's run
 abbrev Keeps : List External → Piece → Type 0
-Keeps tree p = (tree_of p ≡ tree) × KeepsUp (tree_of p) p.function p.ltl
+Keeps tree p = (tree_of p ≡ tree) × LtlKeepsUp (tree_of p) p.function p.ltl
 
 each_keeps : (tree : List External) (ps : List Piece) → AreOfTree tree ps → All IsCompiled ps → AllByRecursion (Keeps tree) ps
 each_keeps tree [] t k = tt
 each_keeps tree (p ∷ ps) t k = ((t.0, (All-head IsCompiled p ps k).of_unit.ltl_keeps_up), each_keeps tree ps t.1 (All-tail IsCompiled p ps k))
 
-keeps_at : (tree : List External) (from : ℕ) (ps : List Piece) → EachFrom (Keeps tree) from ps → (f : ℕ) (l : Ltl) → slice_get (all_ltl ps) f ≡ Some l → KeepsUp tree (from + f) l
+keeps_at : (tree : List External) (from : ℕ) (ps : List Piece) → EachFrom (Keeps tree) from ps → (f : ℕ) (l : Ltl) → slice_get (all_ltl ps) f ≡ Some l → LtlKeepsUp tree (from + f) l
 keeps_at tree from [] h f l e = absurd (let d : ◌≡◌ {A = Option Ltl} None (Some l) = e in cc)
 keeps_at tree from (p ∷ ps) h zero l e =
     let same : p.ltl ≡ l = let d : ◌≡◌ {A = Option Ltl} (Some p.ltl) (Some l) = e in cc in
     let here : p.function ≡ from + 0 = h.0 ∙ omega arith in
-    subst (λ (m : Ltl). KeepsUp tree (from + 0) m) same (subst (λ g. KeepsUp tree g p.ltl) here (subst (λ (u : List External). KeepsUp u p.function p.ltl) h.1.0 h.1.1))
+    subst (λ (m : Ltl). LtlKeepsUp tree (from + 0) m) same (subst (λ g. LtlKeepsUp tree g p.ltl) here (subst (λ (u : List External). LtlKeepsUp u p.function p.ltl) h.1.0 h.1.1))
 keeps_at tree from (p ∷ ps) h (suc f) l e =
     let here : suc from + f ≡ from + suc f = omega arith in
-    subst (λ g. KeepsUp tree g l) here (keeps_at tree (suc from) ps h.2 f l e)
+    subst (λ g. LtlKeepsUp tree g l) here (keeps_at tree (suc from) ps h.2 f l e)
 
 -- those of the first pieces of all functions
 all_keep : (tree : List External) (ps : List Piece) → AreOfTree tree ps → All IsCompiled ps → (n : ℕ) → missing ps 0 n ≡ None → EachKeepsUp tree (all_ltl (in_order ps 0 n))
 all_keep tree ps t k n e f l at =
     let here : 0 + f ≡ f = omega arith in
-    subst (λ g. KeepsUp tree g l) here (keeps_at tree 0 (in_order ps 0 n) (ordered_each (Keeps tree) ps (each_keeps tree ps t k) 0 n e) f l at)
+    subst (λ g. LtlKeepsUp tree g l) here (keeps_at tree 0 (in_order ps 0 n) (ordered_each (Keeps tree) ps (each_keeps tree ps t k) 0 n e) f l at)
 
 pub made_certified : TokensAreOne → TreesAreOne → MadeUnitsAreCertified
 made_certified tokens trees u m =

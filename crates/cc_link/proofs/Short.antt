@@ -1,7 +1,7 @@
 -- Four bytes can tell how many bytes the LTL of a function takes: it has at most 4,096 blocks, each of at most 65,535 moves on either side.
 use Rattle.std.proofs.Common.{◌≡◌, ℕ, ◌*◌, ◌^◌, ◌<◌, ◌≤◌, List, [], ◌∷◌, ◌++◌, length, refl, arith, length-append}
 use Rattle.std.specs.List.{AllByRecursion, flat_map}
-use Rattle.cc_linear.specs.Pair.{most_blocks}
+use Rattle.cc_linear_language.specs.Pair.{most_blocks}
 use Rattle.cc_ltl.specs.declared.operation.Move.{Move}
 use Rattle.cc_ltl.specs.declared.operation.Move.TheVariants.{Between, Reload, Spill}
 use Rattle.cc_ltl.specs.declared.operation.Operation.{Operation}

@@ -5,7 +5,7 @@ use Rattle.std.specs.List.{AllByRecursion, flat_map}
 use Rattle.cc_ltl.specs.Ltl.{Ltl, IsLtl}
 use Rattle.cc_ltl.specs.Bytes.{word_bytes, ltl_bytes}
 use Rattle.cc_ast.specs.Tree.{External}
-use Rattle.cc_validate.specs.Pair.{KeepsUp}
+use Rattle.cc_linear_language.specs.Pair.{LtlKeepsUp}
 
 -- how many bytes the LTL of a function takes, and these
 abbrev pub ltl_field : Ltl → List ℕ
@@ -29,4 +29,4 @@ pub record SpellsAll (bytes : List ℕ) (functions : ℕ) : Type 0 where
 
 -- the run of each of these functions of LTL keeps up with the function of the unit that has its number
 abbrev pub EachKeepsUp : List External → List Ltl → Type 0
-EachKeepsUp unit ltls = (f : ℕ) (ltl : Ltl) → slice_get ltls f ≡ Some ltl → KeepsUp unit f ltl
+EachKeepsUp unit ltls = (f : ℕ) (ltl : Ltl) → slice_get ltls f ≡ Some ltl → LtlKeepsUp unit f ltl

@@ -2,7 +2,7 @@
 
 ghost use Rattle.std.specs.Prelude.{◌≡◌, ◌≤◌, ◌<◌, ◌^◌, ◌++◌, length, IfOk, OnOk};
 ghost use Rattle.cc_ltl.specs.Ltl.{IsLtl};
-ghost use Rattle.cc_linear.specs.Pair.{most_blocks};
+ghost use Rattle.cc_linear_language.specs.Pair.{most_blocks};
 ghost use Rattle.cc_link.specs.Certificate.{certificate_of, ltl_field};
 ghost use Rattle.cc_link.specs.Linked.{all_ltl, lent_pieces};
 

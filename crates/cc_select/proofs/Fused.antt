@@ -18,7 +18,7 @@ use Rattle.cc_runs.proofs.Simulating.{coarser}
 use Rattle.cc_ltl.specs.declared.location.Location.TheVariants.{Register}
 use Rattle.cc_ltl.specs.Registers.{IsAllocatable}
 use Rattle.cc_ltl.specs.Ltl.{Locations, put}
-use Rattle.cc_linear.specs.declared.item.Item.TheVariants.{Label, IfNonzero, IfZero, Unary, Binary}
+use Rattle.cc_linear_language.specs.declared.item.Item.TheVariants.{Label, IfNonzero, IfZero, Unary, Binary}
 use Rattle.cc_select.specs.declared.step.Immediate as immediate
 use Rattle.cc_select.specs.declared.step.Immediate.TheVariants as immediate_operators
 use Rattle.cc_select.specs.declared.step.Step.{Step}

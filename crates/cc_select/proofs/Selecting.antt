@@ -7,9 +7,9 @@ use Rattle.cc_semantics.specs.Meaning.{functions}
 use Rattle.cc_runs.specs.Meaning.{Meaning}
 use Rattle.cc_runs.specs.Tracks.{TracksForAll}
 use Rattle.cc_runs.proofs.Simulating.{coarser}
-use Rattle.cc_linear.specs.declared.item.Item as linear
-use Rattle.cc_linear.specs.Linear.{labels, linear_move, linear_output, linear_start}
-use Rattle.cc_linear.specs.Pair as above
+use Rattle.cc_linear_language.specs.declared.item.Item as linear
+use Rattle.cc_linear_language.specs.Linear.{labels, linear_move, linear_output, linear_start}
+use Rattle.cc_linear_language.specs.Pair as above
 use Rattle.cc_select.specs.declared.step.Step.{Step}
 use Rattle.cc_select.specs.Selected.{selected_move, selected_output, selected_start}
 use Rattle.cc_select.specs.Known.{unknown, chosen}

@@ -8,9 +8,9 @@ use Rattle.cc_runs.specs.World.{World}
 use Rattle.cc_runs.specs.Run.{Goes}
 use Rattle.cc_ltl.specs.declared.location.Location.TheVariants.{Register}
 use Rattle.cc_ltl.specs.Ltl.{Locations}
-use Rattle.cc_linear.specs.declared.item.Item.{Item}
-use Rattle.cc_linear.specs.declared.item.Item.TheVariants.{Label, Jump, IfNonzero, IfZero}
-use Rattle.cc_linear.specs.Linear.{labels, place, at_items, does}
+use Rattle.cc_linear_language.specs.declared.item.Item.{Item}
+use Rattle.cc_linear_language.specs.declared.item.Item.TheVariants.{Label, Jump, IfNonzero, IfZero}
+use Rattle.cc_linear_language.specs.Linear.{labels, place, at_items, does}
 use Rattle.cc_select.specs.Known.{Known, is_taken}
 use Rattle.cc_select.specs.Threading.{Tests, branches_to, first_test, test_behind, tests, way, before_jump}
 use Rattle.cc_select.proofs.Basics.{none_some, eqb_yes, eqb_says, not_holds, or_left, or_right, either_way}

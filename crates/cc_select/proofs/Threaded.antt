@@ -13,9 +13,9 @@ use Rattle.cc_runs.proofs.Simulating.{coarser, tracks_on_for_all}
 use Rattle.cc_ltl.specs.declared.location.Location.TheVariants.{Register, Slot}
 use Rattle.cc_ltl.specs.declared.operation.Move.TheVariants.{Between, Reload, Spill}
 use Rattle.cc_ltl.specs.Ltl.{Locations, put, at_entry}
-use Rattle.cc_linear.specs.declared.item.Item.{Item}
-use Rattle.cc_linear.specs.declared.item.Item.TheVariants.{Label, Jump, IfNonzero, IfZero, Copy, Const, Unary, Binary, Load, Store, Call, Read, Write, Return}
-use Rattle.cc_linear.specs.Linear.{Configuration, at_items, labels, place, does, linear_move, linear_output, linear_start}
+use Rattle.cc_linear_language.specs.declared.item.Item.{Item}
+use Rattle.cc_linear_language.specs.declared.item.Item.TheVariants.{Label, Jump, IfNonzero, IfZero, Copy, Const, Unary, Binary, Load, Store, Call, Read, Write, Return}
+use Rattle.cc_linear_language.specs.Linear.{Configuration, at_items, labels, place, does, linear_move, linear_output, linear_start}
 use Rattle.cc_select.specs.Known.{Known, unknown, forget, learn, known_behind}
 use Rattle.cc_select.specs.Threading.{Tests, tests, way, is_jump, before_label, before_jump, in_jump, is_some, threaded_by, threaded}
 use Rattle.cc_select.proofs.Basics.{eqb_says, if_alike}

@@ -2,9 +2,9 @@
 use Rattle.std.proofs.Common.{◌≡◌, ◌≢◌, ℕ, List, [], ◌∷◌, ◌++◌, Option, Some, None, Bool, true, false, refl, sym, subst}
 use Rattle.std.specs.Prelude.{if◌then◌else◌, ◌==◌, Contains}
 use Rattle.std.specs.List.{AllByRecursion, AllPairs}
-use Rattle.cc_linear.specs.declared.item.Item.{Item}
-use Rattle.cc_linear.specs.declared.item.Item.TheVariants.{Label, Jump, IfNonzero, IfZero}
-use Rattle.cc_linear.specs.Linear.{labels, IsItem, IsLinear}
+use Rattle.cc_linear_language.specs.declared.item.Item.{Item}
+use Rattle.cc_linear_language.specs.declared.item.Item.TheVariants.{Label, Jump, IfNonzero, IfZero}
+use Rattle.cc_linear_language.specs.Linear.{labels, IsItem, IsLinear}
 use Rattle.cc_select.specs.Known.{Known, unknown, known_behind}
 use Rattle.cc_select.specs.Threading.{Tests, branches_to, first_test, test_behind, tests, way, is_jump, before_label, before_jump, in_jump, is_some, threaded_by, threaded}
 use Rattle.cc_select.proofs.Basics.{none_some, eqb_says}

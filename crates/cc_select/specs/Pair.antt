@@ -9,8 +9,7 @@ use Rattle.cc_semantics.specs.Numbered.{IsMeaningOf}
 use Rattle.cc_runs.specs.Meaning.{Meaning}
 use Rattle.cc_runs.specs.Tracks.{TracksForAll}
 use Rattle.cc_ltl.specs.Ltl.{Ltl, IsLtl}
-use Rattle.cc_validate.specs.Pair as validated
-use Rattle.cc_linear.specs.Pair.{most_blocks}
+use Rattle.cc_linear_language.specs.Pair.{most_blocks, LtlKeepsUp}
 use Rattle.cc_select.specs.declared.step.Step.{Step}
 use Rattle.cc_select.specs.Selected.{IsSelected, selected_move, selected_output, selected_start}
 
@@ -36,6 +35,6 @@ pub record IsPair (p : Pair) : Type 0 where
   pub function : p.function < length (functions (tree_of p))
   pub ltl : IsLtl p.ltl
   pub few : length p.ltl.blocks ≤ most_blocks
-  pub ltl_keeps_up : validated.KeepsUp (tree_of p) p.function p.ltl
+  pub ltl_keeps_up : LtlKeepsUp (tree_of p) p.function p.ltl
   pub selected : IsSelected p.ltl.slots (length (functions (tree_of p))) p.code
   pub keeps_up : KeepsUp (tree_of p) p.function p.ltl.slots p.code

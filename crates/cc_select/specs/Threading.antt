@@ -2,8 +2,8 @@
 -- so the label has its place behind the test. Where the word that is tested is known, the test becomes a jump. C's `a && b` needs this: 0 or
 -- the value of `b` is put into a register, and a test of that register stands where the two ways meet.
 use Rattle.std.specs.Prelude.{ℕ, Bool, true, false, ◌||◌, if◌then◌else◌, ◌==◌, Option, Some, None, List, [], ◌∷◌, ◌++◌}
-use Rattle.cc_linear.specs.declared.item.Item.{Item}
-use Rattle.cc_linear.specs.declared.item.Item.TheVariants.{Label, Jump, IfNonzero, IfZero}
+use Rattle.cc_linear_language.specs.declared.item.Item.{Item}
+use Rattle.cc_linear_language.specs.declared.item.Item.TheVariants.{Label, Jump, IfNonzero, IfZero}
 use Rattle.cc_select.specs.Known.{Known, unknown, known_behind, is_taken}
 
 -- ---- which tests go where

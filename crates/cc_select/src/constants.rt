@@ -9,7 +9,7 @@ ghost use Rattle.cc_select.specs.internal.Passes.{stays};
 
 use crate::registers::Registers;
 use crate::step::Step;
-use cc_linear::Item;
+use cc_linear_language::Item;
 use std::alloc::{AllocError, Global};
 
 /// Steps, and what is live behind each.

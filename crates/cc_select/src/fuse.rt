@@ -10,7 +10,7 @@ use crate::immediate::{gains, is_comparison};
 use crate::live::LiveTable;
 use crate::registers::Registers;
 use crate::step::Step;
-use cc_linear::Item;
+use cc_linear_language::Item;
 use cc_ltl::Register;
 use cc_words::{Binary, Unary};
 use std::alloc::{AllocError, Global};

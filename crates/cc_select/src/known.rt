@@ -3,14 +3,14 @@
 
 ghost use Rattle.std.specs.Prelude.{◌≡◌, ◌<◌, None, Some};
 ghost use Rattle.cc_select.specs.Known.{unknown, learn, forget, known_behind, choose, is_taken, with_left, with_number, with_right, with_word};
-ghost use Rattle.cc_linear.specs.declared.item.Item.TheVariants.{Copy};
+ghost use Rattle.cc_linear_language.specs.declared.item.Item.TheVariants.{Copy};
 ghost use Rattle.cc_select.specs.declared.step.Step.TheVariants.{LoadAt, StoreAt};
 ghost use Rattle.cc_select.specs.internal.Sets.{known_in, kept_by_call};
 
 use crate::immediate::{has_word, immediate_of, immediate_of_left};
 use crate::registers::{DESTROYED, RESULT, Registers};
 use crate::step::{Immediate, Step};
-use cc_linear::Item;
+use cc_linear_language::Item;
 use cc_ltl::{Move, Register};
 use cc_words::{Binary, Width};
 

@@ -8,7 +8,7 @@ ghost use Rattle.cc_select.specs.declared.registers.Registers.{Registers as bits
 
 use crate::registers::{DESTROYED, RESULT, Registers};
 use crate::step::Step;
-use cc_linear::Item;
+use cc_linear_language::Item;
 use cc_ltl::Move;
 use std::alloc::{AllocError, Global};
 

@@ -6,8 +6,7 @@ ghost use Rattle.cc_semantics.specs.Meaning.{functions};
 ghost use Rattle.cc_typing.specs.Typed.{IsTyped};
 ghost use Rattle.cc_ltl.specs.Ltl.{IsLtl};
 ghost use Rattle.cc_ltl.specs.Registers.{most_slots};
-ghost use Rattle.cc_validate.specs.Pair as validated;
-ghost use Rattle.cc_linear.specs.Pair.{most_blocks};
+ghost use Rattle.cc_linear_language.specs.Pair.{most_blocks, LtlKeepsUp};
 ghost use Rattle.cc_select.specs.Selected.{IsSelected};
 ghost use Rattle.cc_select.specs.Pair.{Pair, tree_of, KeepsUp, IsPair};
 
@@ -102,7 +101,7 @@ impl SelectedPair {
         ensures ltl { result.1 ≡ self.ltl }
         ensures is_ltl { IsLtl self.ltl }
         ensures few { length self.ltl.blocks ≤ most_blocks }
-        ensures keeps_up { validated.KeepsUp (tree_of self) self.function self.ltl }
+        ensures keeps_up { LtlKeepsUp (tree_of self) self.function self.ltl }
     {
         let SelectedPair {
             unit,

@@ -11,7 +11,7 @@ use crate::pair::SelectedPair;
 use crate::step::Step;
 use crate::table::settle;
 use crate::threading::chosen;
-use cc_linear::{Item, LinearPair};
+use cc_linear_language::{Item, LinearPair};
 use cc_typing::TypedUnit;
 use std::alloc::{AllocError, Global};
 

@@ -1,6 +1,6 @@
 //! The steps of a function: an item of Linear, an operation with a word or an element's number within it, or a branch that compares.
 
-use cc_linear::Item;
+use cc_linear_language::Item;
 use cc_ltl::Register;
 use cc_words::{Binary, Width};
 

@@ -10,7 +10,7 @@ ghost use Rattle.cc_select.specs.internal.Passes.{label_of, is_met};
 use crate::live::{LiveTable, live_before};
 use crate::registers::Registers;
 use crate::step::Step;
-use cc_linear::Item;
+use cc_linear_language::Item;
 use std::alloc::{AllocError, Global};
 
 // The most sweeps.

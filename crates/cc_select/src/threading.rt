@@ -5,7 +5,7 @@
 //! Two walks make the table of these tests: from the back, the test behind each label, and then none for the labels that branches lead to.
 
 ghost use Rattle.std.specs.Prelude.{◌≡◌, ◌++◌, ◌∷◌, [], ℕ, ◌+◌, ◌≤◌, drop, None, false, not, IfOk, vec_len, vec_capacity, if◌then◌else◌, ◌==◌};
-ghost use Rattle.cc_linear.specs.declared.item.Item.TheVariants.{Jump};
+ghost use Rattle.cc_linear_language.specs.declared.item.Item.TheVariants.{Jump};
 ghost use Rattle.cc_select.specs.Known.{unknown, is_taken, chosen};
 ghost use Rattle.cc_select.specs.Threading.{branches_to, first_test, test_behind, tests, way, is_jump, before_label, before_jump, in_jump, piece, is_before_gone, threaded_by, threaded};
 ghost use Rattle.cc_select.specs.internal.Sets.{known_in, tests_in};
@@ -13,7 +13,7 @@ ghost use Rattle.cc_select.specs.internal.Passes.{branched_to};
 
 use crate::known::{Known, choose, is_taken};
 use crate::step::Step;
-use cc_linear::Item;
+use cc_linear_language::Item;
 use std::alloc::{AllocError, Global};
 
 /// The test that goes before each label, by its number.

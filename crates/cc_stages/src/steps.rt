@@ -5,7 +5,7 @@
 //! leads to the label where it holds, `branch lt_s x7, x8 -> 3`, or where it does not, `branch not lt_s x7, 12 -> 3`. Words are
 //! unsigned.
 
-use cc_linear::Item;
+use cc_linear_language::Item;
 use cc_select::{Immediate, SelectedPair, Step};
 use std::io::{self, Write};
 

@@ -6,9 +6,9 @@ use Rattle.cc_ltl.specs.declared.operation.Operation.{Operation}
 use Rattle.cc_ltl.specs.declared.operation.Operation.TheVariants.{Nop, Branch, Return}
 use Rattle.cc_ltl.specs.declared.block.Block.{Block}
 use Rattle.cc_ltl.specs.Ltl.{Ltl, block_at}
-use Rattle.cc_linear.specs.declared.item.Item.{Item}
-use Rattle.cc_linear.specs.declared.item.Item.TheVariants as item
-use Rattle.cc_linear.specs.declared.item.Item.TheVariants.{Label, Jump, IfNonzero, IfZero}
+use Rattle.cc_linear_language.specs.declared.item.Item.{Item}
+use Rattle.cc_linear_language.specs.declared.item.Item.TheVariants as item
+use Rattle.cc_linear_language.specs.declared.item.Item.TheVariants.{Label, Jump, IfNonzero, IfZero}
 use Rattle.cc_linear.specs.internal.Lays.{moves_then, operation_then, next, IsPassed}
 
 abbrev pub is_next : ℕ → List ℕ → Bool

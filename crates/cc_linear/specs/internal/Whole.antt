@@ -1,7 +1,7 @@
 -- What is made of a function: its blocks in some order, without the labels that nothing leads to.
 use Rattle.std.specs.Prelude.{◌≡◌, ℕ, List}
 use Rattle.cc_ltl.specs.Ltl.{Ltl}
-use Rattle.cc_linear.specs.declared.item.Item.{Item}
+use Rattle.cc_linear_language.specs.declared.item.Item.{Item}
 use Rattle.cc_linear.specs.Targets.{targets}
 use Rattle.cc_linear.specs.internal.Layout.{AreEnds, IsOrder, linear_code}
 use Rattle.cc_linear.specs.internal.Idle.{kept}

@@ -2,8 +2,8 @@
 use Rattle.std.specs.Prelude.{◌≡◌, refl, true, Some, None, List, [], ◌∷◌}
 use Rattle.cc_words.specs.declared.operators.Binary.TheVariants as operators
 use Rattle.cc_ltl.specs.declared.operation.Move.TheVariants.{Between}
-use Rattle.cc_linear.specs.declared.item.Item.{Item}
-use Rattle.cc_linear.specs.declared.item.Item.TheVariants.{Label, Jump, IfNonzero, IfZero, Copy, Const, Binary, Write, Return}
+use Rattle.cc_linear_language.specs.declared.item.Item.{Item}
+use Rattle.cc_linear_language.specs.declared.item.Item.TheVariants.{Label, Jump, IfNonzero, IfZero, Copy, Const, Binary, Write, Return}
 use Rattle.cc_select.specs.declared.step.Step.TheVariants.{One, Branch}
 use Rattle.cc_select.specs.Threading.{tests, threaded}
 use Rattle.cc_select.specs.Table.{table}

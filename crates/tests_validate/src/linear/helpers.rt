@@ -2,7 +2,8 @@
 
 use cc_cminor::to_cminor;
 use cc_colour::spill_all;
-use cc_linear::{LinearPair, linearise};
+use cc_linear::linearise;
+use cc_linear_language::LinearPair;
 use cc_rtl::to_rtl;
 use cc_syntax::parse;
 use cc_typing::{TypedUnit, check};

@@ -1,7 +1,7 @@
 // What the turns of loops execute: the items from a label to a branch back to it hold the loop's own test, and those of what stands within.
 
 use super::helpers::{linear_of, shared_unit};
-use cc_linear::Item;
+use cc_linear_language::Item;
 use std::alloc::Global;
 use std::test::Fail;
 

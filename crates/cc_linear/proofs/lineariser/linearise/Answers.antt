@@ -2,7 +2,7 @@
 use Rattle.std.proofs.Common.{ap, sym, subst, ◌∙◌}
 use Rattle.cc_ast.specs.declared.unit.Unit as parsed
 use Rattle.cc_ltl.specs.Ltl.{Ltl}
-use Rattle.cc_linear.specs.Pair.{Pair, IsPair}
+use Rattle.cc_linear_language.specs.Pair.{Pair, IsPair}
 use Rattle.cc_linear.specs.Targets.{NoneIdle}
 use Rattle.cc_linear.specs.internal.Whole.{IsMadeOf}
 use Rattle.cc_validate.specs.Pair as above

@@ -9,8 +9,8 @@ use Rattle.cc_runs.specs.Run.{Move as Moving, Goes, Calls, Returns, Fails, tried
 use Rattle.cc_ltl.specs.declared.location.Location.TheVariants.{Register}
 use Rattle.cc_ltl.specs.Registers.{IsAllocatable, most_slots}
 use Rattle.cc_ltl.specs.Ltl.{IsWord, IsMove, Locations, put, target, source, first_argument, result_location, destroyed_location, words_from, after_call, at_entry}
-use Rattle.cc_linear.specs.declared.item.Item.{Item}
-use Rattle.cc_linear.specs.declared.item.Item.TheVariants.{Label, Jump, IfNonzero, IfZero, Copy, Const, Unary, Binary, Load, Store, Call, Read, Write, Return}
+use Rattle.cc_linear_language.specs.declared.item.Item.{Item}
+use Rattle.cc_linear_language.specs.declared.item.Item.TheVariants.{Label, Jump, IfNonzero, IfZero, Copy, Const, Unary, Binary, Load, Store, Call, Read, Write, Return}
 
 -- ---- which functions there are
 

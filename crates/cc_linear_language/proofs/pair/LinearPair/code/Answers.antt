@@ -1,8 +1,8 @@
 -- What the type keeps, and what comes of it.
 use Rattle.std.proofs.Common.{subst}
-use Rattle.cc_linear.specs.Pair.{Pair, tree_of, KeepsUp}
-use Rattle.cc_linear.proofs.Layer.{follows_of}
-use Rattle.cc_linear.proofs.pair.LinearPair.code.Goals as goal
+use Rattle.cc_linear_language.specs.Pair.{Pair, tree_of, KeepsUp}
+use Rattle.cc_linear_language.proofs.Layer.{follows_of}
+use Rattle.cc_linear_language.proofs.pair.LinearPair.code.Goals as goal
 
 pub returns-clause-keeps_up : goal.returns-clause-keeps_up
 returns-clause-keeps_up c = subst (λ (p : Pair). KeepsUp (tree_of p) p.function p.ltl.slots p.code) c.self.view_is c.self.invariant.keeps_up

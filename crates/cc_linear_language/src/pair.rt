@@ -4,10 +4,9 @@ ghost use Rattle.std.specs.Prelude.{◌≡◌, ◌<◌, ◌≤◌, length};
 ghost use Rattle.std.specs.Arc.{arc_value};
 ghost use Rattle.cc_semantics.specs.Meaning.{functions};
 ghost use Rattle.cc_typing.specs.Typed.{IsTyped};
-ghost use Rattle.cc_linear.specs.Linear.{IsLinear};
+ghost use Rattle.cc_linear_language.specs.Linear.{IsLinear};
 ghost use Rattle.cc_ltl.specs.Ltl.{IsLtl};
-ghost use Rattle.cc_validate.specs.Pair as validated;
-ghost use Rattle.cc_linear.specs.Pair.{Pair, tree_of, most_blocks, KeepsUp, FollowsFunction, IsPair};
+ghost use Rattle.cc_linear_language.specs.Pair.{Pair, tree_of, most_blocks, LtlKeepsUp, KeepsUp, FollowsFunction, IsPair};
 
 use crate::item::Item;
 use cc_ltl::Ltl;
@@ -30,7 +29,7 @@ impl Model for LinearPair {
     ghost use Rattle.std.specs.Arc.{arc_value};
     ghost use Rattle.std.specs.Coded.{codes};
     ghost use Rattle.cc_ast.specs.contracts.unit.Unit as parsed;
-    ghost use Rattle.cc_linear.specs.Pair.{Pair, IsPair};
+    ghost use Rattle.cc_linear_language.specs.Pair.{Pair, IsPair};
 
     ghost Value = { Pair };
 
@@ -42,13 +41,9 @@ impl Model for LinearPair {
 }
 
 impl LinearPair {
-    // The one place where a pair is made.
-    pub(crate) fn new(
-        unit: Arc<TypedUnit>,
-        function: usize,
-        ltl: Ltl,
-        code: Vec<Item>,
-    ) -> LinearPair
+    /// The pair of a function whose LTL and Linear are proved to keep up with it: what the type keeps is asked for here. It
+    /// takes no memory.
+    pub fn new(unit: Arc<TypedUnit>, function: usize, ltl: Ltl, code: Vec<Item>) -> LinearPair
         requires { IsPair (record { unit = arc_value unit; function = function; ltl = ltl; code = code.items }) }
         ensures { result ≡ record { unit = arc_value unit; function = function; ltl = ltl; code = code.items } }
     {
@@ -87,7 +82,7 @@ impl LinearPair {
         ensures ltl { result.now ≡ self.now.ltl }
         ensures is_ltl { IsLtl self.now.ltl }
         ensures few { length self.now.ltl.blocks ≤ most_blocks }
-        ensures keeps_up { validated.KeepsUp (tree_of self.now) self.now.function self.now.ltl }
+        ensures keeps_up { LtlKeepsUp (tree_of self.now) self.now.function self.now.ltl }
     {
         &self.ltl
     }

@@ -11,10 +11,9 @@ use Rattle.cc_runs.specs.World.{World}
 use Rattle.cc_runs.specs.Run.{run}
 use Rattle.cc_runs.specs.Meaning.{Meaning, most_open, IsCall, call_effect, answered}
 use Rattle.cc_runs.specs.Tracks.{TracksForAll}
-use Rattle.cc_ltl.specs.Ltl.{Ltl, IsLtl}
-use Rattle.cc_validate.specs.Pair as validated
-use Rattle.cc_linear.specs.declared.item.Item.{Item}
-use Rattle.cc_linear.specs.Linear.{IsLinear, linear_move, linear_output, linear_start}
+use Rattle.cc_ltl.specs.Ltl.{Ltl, IsLtl, ltl_move, ltl_output, ltl_start}
+use Rattle.cc_linear_language.specs.declared.item.Item.{Item}
+use Rattle.cc_linear_language.specs.Linear.{IsLinear, linear_move, linear_output, linear_start}
 
 -- a pair as contracts see it: the unit, the function's number in the order of definitions, the LTL that was laid out, and its items
 pub record Pair : Type 0 where
@@ -30,6 +29,11 @@ tree_of p = (source p.unit).externals
 -- how many blocks the LTL of a function may have
 abbrev pub most_blocks : ℕ
 most_blocks = 4096
+
+-- at some rate the run of the LTL keeps up with the function, for all lists of unknown words. That is what a pair of LTL keeps (`KeepsUp`
+-- of `cc_validate`), said here again so that what stands on Linear need not wait for the validator
+abbrev pub LtlKeepsUp : List External → (function : ℕ) → Ltl → Type 0
+LtlKeepsUp unit f ltl = (rate : ℕ) × ((meaning : Meaning) → IsMeaningOf unit meaning → TracksForAll meaning f rate (ltl_move meaning.arity ltl) ltl_output (ltl_start ltl))
 
 -- at some rate the run keeps up with the function, for all lists of unknown words
 abbrev pub KeepsUp : List External → (function slots : ℕ) → List Item → Type 0
@@ -48,6 +52,6 @@ pub record IsPair (p : Pair) : Type 0 where
   pub function : p.function < length (functions (tree_of p))
   pub ltl : IsLtl p.ltl
   pub few : length p.ltl.blocks ≤ most_blocks
-  pub ltl_keeps_up : validated.KeepsUp (tree_of p) p.function p.ltl
+  pub ltl_keeps_up : LtlKeepsUp (tree_of p) p.function p.ltl
   pub linear : IsLinear p.ltl.slots (length (functions (tree_of p))) p.code
   pub keeps_up : KeepsUp (tree_of p) p.function p.ltl.slots p.code

@@ -12,10 +12,10 @@ use Rattle.cc_runs.proofs.Following.{all_follow}
 use Rattle.cc_words.specs.Operators.{apply_binary}
 use Rattle.cc_ltl.specs.declared.location.Location.TheVariants.{Register}
 use Rattle.cc_ltl.specs.Ltl.{Locations}
-use Rattle.cc_linear.specs.declared.item.Item.{Item}
-use Rattle.cc_linear.specs.declared.item.Item.TheVariants.{Label, Jump, IfNonzero, IfZero, Copy, Const, Unary, Binary, Load, Store, Call, Read, Write, Return}
-use Rattle.cc_linear.specs.Linear.{Configuration, does, linear_move, linear_output, linear_start}
-use Rattle.cc_linear.specs.Pair.{KeepsUp, FollowsFunction}
+use Rattle.cc_linear_language.specs.declared.item.Item.{Item}
+use Rattle.cc_linear_language.specs.declared.item.Item.TheVariants.{Label, Jump, IfNonzero, IfZero, Copy, Const, Unary, Binary, Load, Store, Call, Read, Write, Return}
+use Rattle.cc_linear_language.specs.Linear.{Configuration, does, linear_move, linear_output, linear_start}
+use Rattle.cc_linear_language.specs.Pair.{KeepsUp, FollowsFunction}
 
 -- a move that goes on, and one that calls, was made of something
 tried_goes : {C X : Type 0} (x : Option X) (go : X → Moving C) (d : C) → tried x go ≡ Goes d → (y : X) × (x ≡ Some y) × (go y ≡ Goes d)

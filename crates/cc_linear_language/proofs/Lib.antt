@@ -1,0 +1,2 @@
+-- the moves of Linear are those of a layer
+pub mod Layer
