@@ -11,13 +11,11 @@ mod serving;
 mod stack;
 
 use cc_answers::Persons;
-use cc_command_line::{Request, Work, read_request, refused_bytes};
+use cc_command_line::{NoRequest, Request, Work, read_or_tell, tell_bytes};
 use cc_filing::take_out_of_file;
 use cc_program::{Fault, perform, perform_and_explain, perform_and_explain_stages, perform_stages};
 use cc_submit::submit_script;
 use cc_task::Task;
-use clap::Error;
-use clap::error::ErrorKind;
 use library::library_session;
 use serving::serve_folder;
 use stack::reserve_stack;
@@ -94,13 +92,12 @@ fn start_stages<R: AllocGlobal + Input + Print, E: Write + Drop>(
     Ok(status)
 }
 
-// Says why a command line is refused, or prints the help that it asks for.
-fn refuse<R: Eprint + Print>(rt: &R, error: Error) -> Result<u8, AllocError> {
-    if error.kind() == ErrorKind::OutOfMemory {
-        return Err(AllocError);
+// The status where there is no work; the error is lack of memory.
+fn status_of(nothing: NoRequest) -> Result<u8, AllocError> {
+    match nothing {
+        NoRequest::Told(status) => Ok(status),
+        NoRequest::OutOfMemory => Err(AllocError),
     }
-    let _ = error.print(rt);
-    Ok(if error.exit_code() == 0 { 0 } else { 2 })
 }
 
 // Does what the command line asks; the status. The error is lack of memory before the work began. Files are opened by a handle of their own.
@@ -131,16 +128,16 @@ where
     let words = match std::env::args(rt) {
         Ok(words) => words,
         Err(error) if error.kind() == io::ErrorKind::InvalidData => {
-            return refuse(rt, refused_bytes(rt.alloc())?);
+            return status_of(tell_bytes(rt, rt.alloc()));
         }
         Err(_) => return Err(AllocError),
     };
     let words: Vec<String> = words.collect(rt.alloc())?;
-    let asked = read_request(rt.alloc(), words.as_slice());
+    let asked = read_or_tell(rt, rt.alloc(), words.as_slice());
     drop(words);
     let Request { work, is_quiet } = match asked {
         Ok(request) => request,
-        Err(error) => return refuse(rt, error),
+        Err(nothing) => return status_of(nothing),
     };
     persons.is_quiet = is_quiet;
     do_work(rt, files, errors, persons, work)

@@ -1,0 +1,48 @@
+// A command line that asks for no work: what a person is told, and the program's status.
+
+ghost use Rattle.std.specs.Prelude.{IfOk};
+ghost use Rattle.cc_command_line.specs.Work.{IsAllowed};
+
+use crate::command_line::{Request, read_request, refused_bytes};
+use clap::Error;
+use clap::error::ErrorKind;
+use std::alloc::Global;
+
+/// Why there is no work.
+#[derive(Clone, Copy)]
+pub enum NoRequest {
+    /// The command line was refused, or asked for help, and that is written: the program's status, 2 or 0.
+    Told(u8),
+    /// Memory ran out.
+    OutOfMemory,
+}
+
+fn tell<R: Eprint + Print>(rt: &R, error: Error) -> NoRequest {
+    if error.kind() == ErrorKind::OutOfMemory {
+        return NoRequest::OutOfMemory;
+    }
+    let _ = error.print(rt);
+    NoRequest::Told(if error.exit_code() == 0 { 0 } else { 2 })
+}
+
+/// Reads the command line as `read_request` does. A refusal goes to standard error, a text of help to standard output.
+pub fn read_or_tell<'a, R: Eprint + Print, S: AsStr>(
+    rt: &R,
+    alloc: Global,
+    words: &'a [S],
+) -> Result<Request, NoRequest>
+    ensures { IfOk result (λ request. IsAllowed request.work) }
+{
+    match read_request(alloc, words) {
+        Ok(request) => Ok(request),
+        Err(error) => Err(tell(rt, error)),
+    }
+}
+
+/// Says on standard error that a word of the command line is not UTF-8. The status is 2.
+pub fn tell_bytes<R: Eprint + Print>(rt: &R, alloc: Global) -> NoRequest {
+    match refused_bytes(alloc) {
+        Ok(error) => tell(rt, error),
+        Err(_) => NoRequest::OutOfMemory,
+    }
+}
