@@ -3,7 +3,7 @@
 ghost use Rattle.std.specs.Prelude.{◌≡◌, ◌<◌, ◌≤◌, length};
 ghost use Rattle.std.specs.Arc.{arc_value};
 ghost use Rattle.cc_semantics.specs.Meaning.{functions};
-ghost use Rattle.cc_typing.specs.Typed.{IsTyped};
+ghost use Rattle.cc_types.specs.Typed.{IsTyped};
 ghost use Rattle.cc_linear.specs.Linear.{IsLinear};
 ghost use Rattle.cc_ltl.specs.Ltl.{IsLtl};
 ghost use Rattle.cc_validate.specs.Pair as validated;
@@ -11,7 +11,7 @@ ghost use Rattle.cc_linear.specs.Pair.{Pair, tree_of, most_blocks, KeepsUp, Foll
 
 use crate::item::Item;
 use cc_ltl::Ltl;
-use cc_typing::TypedUnit;
+use cc_types::TypedUnit;
 use std::marker::Model;
 use std::sync::Arc;
 
