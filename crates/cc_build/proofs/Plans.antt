@@ -9,12 +9,12 @@ use Rattle.cc_tokens.specs.Fault.{fault_number as syntax_number}
 use Rattle.cc_ast.specs.Tree.{Name, Source}
 use Rattle.cc_ast.specs.Parse.{IsParseRefusal}
 use Rattle.cc_syntax.proofs.Determined.{answers_are_one}
-use Rattle.cc_typing.specs.declared.fault.TypeFault.{TypeFault}
-use Rattle.cc_typing.specs.declared.fault.TypeFault.TheVariants as typing
-use Rattle.cc_typing.specs.Fault.{fault_number as type_number}
-use Rattle.cc_typing.specs.Limits.{past, function_names, externals_excesses, word_excesses, objects}
-use Rattle.cc_typing.specs.Typed.{IsWithinLimits, defined_names}
-use Rattle.cc_typing.specs.Verdict.{Verdict, NoTree, NotTyped, Program, IsVerdict}
+use Rattle.cc_types.specs.declared.fault.TypeFault.{TypeFault}
+use Rattle.cc_types.specs.declared.fault.TypeFault.TheVariants as typing
+use Rattle.cc_types.specs.Fault.{fault_number as type_number}
+use Rattle.cc_types.specs.Limits.{past, function_names, externals_excesses, word_excesses, objects}
+use Rattle.cc_types.specs.Typed.{IsWithinLimits, defined_names}
+use Rattle.cc_types.specs.Verdict.{Verdict, NoTree, NotTyped, Program, IsVerdict}
 use Rattle.cc_typing.proofs.Determined.{verdicts_are_one}
 use Rattle.cc_typing.proofs.Verdict.{both_empty}
 use Rattle.cc_link.specs.Text.{IsProgramText, IsRefusedTree, IsTextRefusal, text_fault_number}

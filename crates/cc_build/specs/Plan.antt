@@ -1,9 +1,9 @@
 -- How many pieces a source has, or the number that refuses it: as `parse` and then `check` answer.
 use Rattle.std.specs.Prelude.{ℕ, ◌≡◌, List, length, Result, Ok, Err}
 use Rattle.cc_tokens.specs.Fault as syntax
-use Rattle.cc_typing.specs.Fault as typing
-use Rattle.cc_typing.specs.Limits.{function_names}
-use Rattle.cc_typing.specs.Verdict.{Verdict, NoTree, NotTyped, Program, IsVerdict}
+use Rattle.cc_types.specs.Fault as typing
+use Rattle.cc_types.specs.Limits.{function_names}
+use Rattle.cc_types.specs.Verdict.{Verdict, NoTree, NotTyped, Program, IsVerdict}
 
 -- a program has a piece for each function that it defines; any other text is refused with its fault's number
 abbrev pub pieces_of : Verdict → Result ℕ ℕ

@@ -15,7 +15,7 @@ use Rattle.cc_semantics.specs.Resolved.{arities, IsResolved}
 use Rattle.cc_semantics.specs.Calls.{Size, size, sizes, laid_size, laid_sizes, shared_of, called, CallsAreEffects, CallsKeepObjects, FunctionsAreNumbered, ObjectsAreNumbered, ObjectsAreSized}
 use Rattle.cc_semantics.specs.Numbered as by_number
 use Rattle.cc_semantics.specs.Numbered.{objects_of, world_of, named, shared_in, numbered, call_in, body_in, arity_in, IsMeaningOf, CallsAreNumbered}
-use Rattle.cc_typing.specs.Typed.{IsTyped}
+use Rattle.cc_types.specs.Typed.{IsTyped}
 use Rattle.cc_runs.specs.Behavior.{Ended}
 use Rattle.cc_runs.specs.World as world
 use Rattle.cc_runs.specs.World.{World, Question, Answer, Effect}

@@ -4,7 +4,7 @@ use Rattle.std.proofs.Math.Bool.{not-not}
 use Rattle.std.proofs.lemmas.Bool.{ne_eqb}
 use Rattle.std.proofs.lemmas.Bool.Decides.{nat_tests}
 use Rattle.std.specs.Int.Bits.{xor_self, xor_zero_l, xor_zero_r, xor_assoc}
-use Rattle.cc_typing.specs.Operators.{is_true}
+use Rattle.cc_types.specs.Operators.{is_true}
 use Rattle.cc_words.specs.Words.{truth_value, is_zero, lt_s, le_s, lt_u, le_u, xor}
 use Rattle.cc_words.specs.Operators.{apply_binary}
 use Rattle.cc_words.specs.declared.operators.Unary.TheVariants as one

@@ -3,8 +3,8 @@ use Rattle.std.proofs.Common.{◌≡◌, ℕ, zero, suc, ◌+◌, ◌-◌, ◌�
 use Rattle.cc_tokens.specs.declared.scalar.Scalar.{Scalar}
 use Rattle.cc_ast.specs.Tree as tree
 use Rattle.cc_ast.specs.Tree.{Declarator, Beginning, Declares, Performs, Stmt, Stmts, end, next}
-use Rattle.cc_typing.specs.Scope.{Binding}
-use Rattle.cc_typing.specs.Bindings.{closed}
+use Rattle.cc_types.specs.Scope.{Binding}
+use Rattle.cc_types.specs.Bindings.{closed}
 use Rattle.cc_resolve.specs.Layout.{Layout}
 use Rattle.std.proofs.lemmas.List.{length-drop, length-append}
 use Rattle.std.proofs.Math.Seq.{take-append_seam, drop-append_seam}

@@ -4,8 +4,8 @@ use Rattle.cc_tokens.specs.declared.scalar.Scalar.{Scalar}
 use Rattle.cc_tokens.specs.declared.scalar.Scalar.TheVariants.{Int}
 use Rattle.cc_ast.specs.declared.ast.BinaryOperator.{BinaryOperator}
 use Rattle.cc_ast.specs.declared.ast.UnaryOperator.{UnaryOperator}
-use Rattle.cc_typing.specs.Operators.{working_type, applied_operator, step_operator}
-use Rattle.cc_typing.specs.Types.{value_type, target_type}
+use Rattle.cc_types.specs.Operators.{working_type, applied_operator, step_operator}
+use Rattle.cc_types.specs.Types.{value_type, target_type}
 use Rattle.cc_ast.specs.Tree as tree
 use Rattle.cc_ast.specs.Tree.{Expr, Exprs, none, more, Number, Variable, Element, Parenthesised, Cast, Conditional, Target, AtVariable, AtElement, Action, Assign, Step, Evaluate, Declarator, Beginning, Declares, Performs, Stmt, Stmts, end, next, Perform, Break, Continue, IfElse, While, DoWhile, For}
 use Rattle.cc_resolve.specs.Layout.{Layout, callee}

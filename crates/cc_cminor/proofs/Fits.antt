@@ -9,11 +9,11 @@ use Rattle.cc_ast.specs.declared.ast.BinaryOperator.{BinaryOperator}
 use Rattle.cc_ast.specs.declared.ast.UnaryOperator.{UnaryOperator}
 use Rattle.cc_ast.specs.Tree as tree
 use Rattle.cc_ast.specs.Tree.{Name, External, Expr, Exprs, none, more, Number, Variable, Element, Parenthesised, Cast, Conditional, Target, AtVariable, AtElement, Action, Assign, Step, Evaluate, Declarator, Beginning, Declares, Performs, Stmt, Stmts, end, next, Perform, Break, Continue, IfElse, While, DoWhile, For, Parameter}
-use Rattle.cc_typing.specs.Names.{same_name}
-use Rattle.cc_typing.specs.Operators.{working_type, applied_operator, step_operator}
-use Rattle.cc_typing.specs.Types.{value_type, target_type}
-use Rattle.cc_typing.specs.Rules.{count_of}
-use Rattle.cc_typing.specs.Limits.{declared_names, beginning_names, locals_of, locals}
+use Rattle.cc_types.specs.Names.{same_name}
+use Rattle.cc_types.specs.Operators.{working_type, applied_operator, step_operator}
+use Rattle.cc_types.specs.Types.{value_type, target_type}
+use Rattle.cc_types.specs.Rules.{count_of}
+use Rattle.cc_types.specs.Limits.{declared_names, beginning_names, locals_of, locals}
 use Rattle.cc_resolve.specs.Layout.{Layout, LaidObject, object_number, callee}
 use Rattle.cc_resolve.specs.Environment.{Environment, number_in, types_in, inner, with_local, with_locals, behind, behind_beginning, parameter_names}
 use Rattle.cc_resolve.specs.Operations.{operation, unary_operation}

@@ -4,13 +4,13 @@ use Rattle.std.proofs.lemmas.Bool.{ltb-false}
 use Rattle.cc_tokens.specs.declared.scalar.Scalar.{Scalar}
 use Rattle.cc_tokens.specs.declared.scalar.Scalar.TheVariants.{Int}
 use Rattle.cc_ast.specs.Tree.{Name, Stmts, Signature, ConstantExpr, Object, Single, Array, Bytes, External, Declaration, Definition, Objects}
-use Rattle.cc_typing.specs.Scope.{Elements, FileScope, with_declared, with_object, file_scope_behind, first_file_scope}
-use Rattle.cc_typing.specs.Types.{array_length, array_elements, object_elements, object_words, constant_word, elements_of_word, value_type}
-use Rattle.cc_typing.specs.Rules.{broken, broken_if, value_errors, constant_errors, optional_constant_errors, constants_errors, length_errors, named_array_errors, object_errors, objects_errors, external_errors, externals_errors, errors}
-use Rattle.cc_typing.specs.Limits.{most_words, too_many, past, parameter_excesses, locals, function_names, objects, object_name, word_excesses, external_excesses, externals_excesses, excesses}
-use Rattle.cc_typing.specs.Typed.{IsTyped, IsWithinLimits, definitions}
-use Rattle.cc_typing.specs.declared.rule.RuleError.{RuleError}
-use Rattle.cc_typing.specs.declared.rule.Rule.TheVariants.{WrongKind, WrongCount}
+use Rattle.cc_types.specs.Scope.{Elements, FileScope, with_declared, with_object, file_scope_behind, first_file_scope}
+use Rattle.cc_types.specs.Types.{array_length, array_elements, object_elements, object_words, constant_word, elements_of_word, value_type}
+use Rattle.cc_types.specs.Rules.{broken, broken_if, value_errors, constant_errors, optional_constant_errors, constants_errors, length_errors, named_array_errors, object_errors, objects_errors, external_errors, externals_errors, errors}
+use Rattle.cc_types.specs.Limits.{most_words, too_many, past, parameter_excesses, locals, function_names, objects, object_name, word_excesses, external_excesses, externals_excesses, excesses}
+use Rattle.cc_types.specs.Typed.{IsTyped, IsWithinLimits, definitions}
+use Rattle.cc_types.specs.declared.rule.RuleError.{RuleError}
+use Rattle.cc_types.specs.declared.rule.Rule.TheVariants.{WrongKind, WrongCount}
 use Rattle.cc_resolve.specs.Layout.{laid_from}
 
 -- ---- empty lists

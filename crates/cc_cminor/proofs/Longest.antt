@@ -9,7 +9,7 @@ use Rattle.cc_ast.specs.Tree.{Expr, Action, Declarator, Beginning, Declares, Per
 use Rattle.cc_ast.specs.Grammar.{Measured, outside, full_after, full, begins, SpellsRow, SpellsInitial, SpellsDeclarator, SpellsLocal, SpellsOptional, SpellsOptionalAction, SpellsBeginning, SpellsStatement, SpellsStatements, SpellsExternal, SpellsExternals, SpellsUnit}
 use Rattle.cc_ast.specs.Limits.{IsWithin}
 use Rattle.cc_ast.specs.Parse.{SpellsText}
-use Rattle.cc_typing.specs.Typed.{definitions}
+use Rattle.cc_types.specs.Typed.{definitions}
 use Rattle.cc_cminor.proofs.Tokens.{tokens_or, optional_tokens, expression_long, action_long}
 
 -- the larger

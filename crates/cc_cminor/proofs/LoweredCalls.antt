@@ -5,9 +5,9 @@ use Rattle.cc_tokens.specs.declared.scalar.Scalar.TheVariants.{Int}
 use Rattle.cc_ast.specs.declared.ast.BinaryOperator.{BinaryOperator}
 use Rattle.cc_ast.specs.Tree as tree
 use Rattle.cc_ast.specs.Tree.{External, Expr, Exprs, none, more, Number, Variable, Element, Parenthesised, Unary, Cast, Binary, Conditional, Target, AtVariable, AtElement, Action, Assign, Step, Evaluate, Declarator, Beginning, Declares, Performs, Stmt, Stmts, end, next, Perform, Break, Continue, IfElse, While, DoWhile, For}
-use Rattle.cc_typing.specs.Operators.{working_type, applied_operator, step_operator}
-use Rattle.cc_typing.specs.Types.{value_type, target_type}
-use Rattle.cc_typing.specs.Rules.{count_of}
+use Rattle.cc_types.specs.Operators.{working_type, applied_operator, step_operator}
+use Rattle.cc_types.specs.Types.{value_type, target_type}
+use Rattle.cc_types.specs.Rules.{count_of}
 use Rattle.cc_resolve.specs.Layout.{Layout, callee}
 use Rattle.cc_resolve.specs.Environment.{Environment, number_in, types_in, inner, with_local, behind, behind_beginning}
 use Rattle.cc_resolve.specs.declared.layout.Callee.{Callee}

@@ -5,8 +5,8 @@ use Rattle.cc_ast.specs.Tree.{Name, External, Definition}
 use Rattle.cc_ast.specs.Source.{source}
 use Rattle.cc_ast.specs.Grammar.{SpellsExternal}
 use Rattle.cc_ast.specs.Parse.{SpellsText}
-use Rattle.cc_typing.specs.Limits.{locals, function_names}
-use Rattle.cc_typing.specs.Typed.{IsTyped, IsWithinLimits, defined_names}
+use Rattle.cc_types.specs.Limits.{locals, function_names}
+use Rattle.cc_types.specs.Typed.{IsTyped, IsWithinLimits, defined_names}
 use Rattle.cc_resolve.specs.Layout.{layout_of}
 use Rattle.cc_semantics.specs.Meaning.{Function, functions}
 use Rattle.cc_semantics.specs.Calls.{CallsAreEffects, CallsKeepObjects, FunctionsAreNumbered, ObjectsAreNumbered, ObjectsAreSized}

@@ -9,10 +9,10 @@ use Rattle.cc_ast.specs.declared.ast.AssignmentOperator.TheVariants as assignmen
 use Rattle.cc_ast.specs.declared.ast.StepOperator.{StepOperator}
 use Rattle.cc_ast.specs.declared.ast.StepOperator.TheVariants as steps
 use Rattle.cc_semantics.specs.declared.cause.Cause.TheVariants.{Index}
-use Rattle.cc_typing.specs.Operators.{binary_word, working_type, applied_operator, step_operator}
-use Rattle.cc_typing.specs.Types.{value_type, target_type}
+use Rattle.cc_types.specs.Operators.{binary_word, working_type, applied_operator, step_operator}
+use Rattle.cc_types.specs.Types.{value_type, target_type}
 use Rattle.cc_ast.specs.Tree.{Expr, Target, AtVariable, AtElement, Action, Assign, Step, Evaluate, Declarator, Beginning, Declares, Performs}
-use Rattle.cc_typing.specs.Names.{same_name}
+use Rattle.cc_types.specs.Names.{same_name}
 use Rattle.cc_resolve.specs.Layout.{Layout}
 use Rattle.cc_resolve.specs.Environment.{Environment, types_in, number_in, with_local, with_locals, behind_beginning}
 use Rattle.cc_semantics.specs.Meaning as meaning

@@ -4,8 +4,8 @@ use Rattle.std.proofs.lemmas.Bool.{ne_eqb}
 use Rattle.cc_tokens.specs.declared.scalar.Scalar.{Scalar}
 use Rattle.cc_ast.specs.declared.ast.BinaryOperator.{BinaryOperator}
 use Rattle.cc_ast.specs.declared.ast.BinaryOperator.TheVariants as source
-use Rattle.cc_typing.specs.Operators.{unary_word, binary_word, decided, is_true, working_type}
-use Rattle.cc_typing.specs.Types.{value_type}
+use Rattle.cc_types.specs.Operators.{unary_word, binary_word, decided, is_true, working_type}
+use Rattle.cc_types.specs.Types.{value_type}
 use Rattle.cc_words.specs.Words.{truth_value}
 use Rattle.cc_ast.specs.Tree as tree
 use Rattle.cc_ast.specs.Tree.{Name, Expr, Exprs, none, more, Number, Variable, Element, Parenthesised, Cast, Conditional}

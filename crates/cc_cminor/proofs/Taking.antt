@@ -6,8 +6,8 @@ use Rattle.cc_ast.specs.declared.ast.Expression as code
 use Rattle.cc_ast.specs.internal.Arguments.{expressions_of}
 use Rattle.cc_ast.specs.Tree as tree
 use Rattle.cc_ast.specs.Tree.{Name, Expr, Exprs, none, more, Number, Variable, Element, Parenthesised, Cast, Conditional, Target, AtVariable, AtElement, Assign, Step, Evaluate}
-use Rattle.cc_typing.specs.Operators.{working_type}
-use Rattle.cc_typing.specs.Types.{value_type}
+use Rattle.cc_types.specs.Operators.{working_type}
+use Rattle.cc_types.specs.Types.{value_type}
 use Rattle.cc_resolve.specs.Layout.{Layout, callee}
 use Rattle.cc_resolve.specs.Environment.{Environment, types_in}
 use Rattle.cc_cminor.specs.Cminor.{Expression, Local, Load, Statement, Set, Sequence}

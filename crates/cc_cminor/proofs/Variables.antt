@@ -10,9 +10,9 @@ use Rattle.cc_ast.specs.declared.ast.BinaryOperator.TheVariants as source
 use Rattle.cc_ast.specs.declared.ast.UnaryOperator.{UnaryOperator}
 use Rattle.cc_ast.specs.declared.ast.UnaryOperator.TheVariants as prefix
 use Rattle.cc_semantics.specs.declared.cause.Cause.TheVariants.{Index}
-use Rattle.cc_typing.specs.Names.{same_name}
-use Rattle.cc_typing.specs.Operators.{unary_word, binary_word, decided, is_true, working_type}
-use Rattle.cc_typing.specs.Types.{value_type}
+use Rattle.cc_types.specs.Names.{same_name}
+use Rattle.cc_types.specs.Operators.{unary_word, binary_word, decided, is_true, working_type}
+use Rattle.cc_types.specs.Types.{value_type}
 use Rattle.cc_words.specs.Words.{signed_value, truth_value, is_zero}
 use Rattle.cc_words.specs.Operators.{apply_unary, apply_binary}
 use Rattle.cc_words.specs.declared.operators.Unary as unary

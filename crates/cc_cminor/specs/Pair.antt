@@ -3,7 +3,7 @@ use Rattle.std.specs.Prelude.{◌≡◌, ℕ, suc, ◌<◌, List, length, Some, 
 use Rattle.cc_ast.specs.Tree.{External}
 use Rattle.cc_ast.specs.Source.{source}
 use Rattle.cc_ast.specs.declared.unit.Unit as parsed
-use Rattle.cc_typing.specs.Typed.{IsTyped}
+use Rattle.cc_types.specs.Typed.{IsTyped}
 use Rattle.cc_semantics.specs.Meaning.{functions}
 use Rattle.cc_semantics.specs.Resolved.{arities}
 use Rattle.cc_semantics.specs.Numbered.{IsMeaningOf}

@@ -2,7 +2,7 @@
 use Rattle.std.specs.Prelude.{◌≡◌, ℕ, suc, ◌+◌, ◌*◌, ◌≤◌, List, [], ◌∷◌, length, Some, slice_get}
 use Rattle.cc_ast.specs.Tree.{External}
 use Rattle.cc_ast.specs.Grammar.{Measured, SpellsExternal}
-use Rattle.cc_typing.specs.Typed.{definitions}
+use Rattle.cc_types.specs.Typed.{definitions}
 use Rattle.cc_cminor.specs.Cminor.{Expression, Constant, Local, Unary, Binary, Load, Statement, Skip, Set, Store, Call, Read, Write, Sequence, If, Loop, Block, Exit, Return}
 
 -- an expression, with the expressions in it

@@ -1,8 +1,8 @@
 // Variables, which are locals and objects of one word, and elements.
 
 ghost use Rattle.std.specs.Prelude.{◌≡◌, IfOk};
-ghost use Rattle.cc_typing.specs.Scope.{found};
-ghost use Rattle.cc_typing.specs.Types.{variable_type, element_type};
+ghost use Rattle.cc_types.specs.Scope.{found};
+ghost use Rattle.cc_types.specs.Types.{variable_type, element_type};
 ghost use Rattle.cc_resolve.specs.Environment.{types_in};
 ghost use Rattle.cc_cminor.specs.Cminor as cminor;
 ghost use Rattle.cc_cminor.specs.Code.{expression_of, statement_of};

@@ -18,7 +18,7 @@ use super::operators::binary;
 use super::taken::{Taken, behind, word};
 use cc_ast::{Action, BinaryOperator, Expression as Tree, Identifier, Scalar, Target};
 use cc_resolve::Environment;
-use cc_typing::{applied_operator, step_operator, working_type};
+use cc_types::{applied_operator, step_operator, working_type};
 use std::alloc::{AllocError, Global};
 
 // What is written, of an old value in a type and a right side in another.

@@ -8,7 +8,7 @@ ghost use Rattle.std.specs.Prelude.{◌≡◌, true, IfOk};
 ghost use Rattle.cc_ast.specs.Tree as tree;
 ghost use Rattle.cc_ast.specs.Erase.{expression_tree, name_tree, optional_tree};
 ghost use Rattle.cc_ast.specs.internal.Arguments.{expressions_of};
-ghost use Rattle.cc_typing.specs.Types.{value_type};
+ghost use Rattle.cc_types.specs.Types.{value_type};
 ghost use Rattle.cc_resolve.specs.Environment.{types_in};
 ghost use Rattle.cc_cminor.specs.Cminor as cminor;
 ghost use Rattle.cc_cminor.specs.Code as code;

@@ -6,7 +6,7 @@
 ghost use Rattle.std.specs.Prelude.{◌≡◌, ◌<◌, length, IfOk};
 ghost use Rattle.std.specs.Arc.{arc_value};
 ghost use Rattle.cc_ast.specs.Source.{source};
-ghost use Rattle.cc_typing.specs.Typed.{defined_names};
+ghost use Rattle.cc_types.specs.Typed.{defined_names};
 ghost use Rattle.cc_cminor.specs.Code.{statement_of};
 ghost use Rattle.cc_cminor.specs.Pair.{tree_of, code_of};
 ghost use Rattle.cc_cminor.specs.Size.{AtMostTwelveAToken};
@@ -21,7 +21,7 @@ use cc_semantics::{
     calls_are_effects, calls_keep_objects, functions_are_resolved, names_have_numbers,
     units_have_meanings,
 };
-use cc_typing::TypedUnit;
+use cc_types::TypedUnit;
 use std::alloc::{AllocError, Global};
 use std::sync::Arc;
 

@@ -3,12 +3,12 @@
 ghost use Rattle.std.specs.Prelude.{◌≡◌, ◌<◌, length};
 ghost use Rattle.std.specs.Arc.{arc_value};
 ghost use Rattle.cc_semantics.specs.Meaning.{functions};
-ghost use Rattle.cc_typing.specs.Typed.{IsTyped};
+ghost use Rattle.cc_types.specs.Typed.{IsTyped};
 ghost use Rattle.cc_cminor.specs.Numbers.{StatementFits};
 ghost use Rattle.cc_cminor.specs.Pair.{Pair, tree_of, code_of, AreCalls, KeepsUp, FollowsFunction, IsPair};
 
 use super::code::Statement;
-use cc_typing::TypedUnit;
+use cc_types::TypedUnit;
 use std::marker::Model;
 use std::sync::Arc;
 

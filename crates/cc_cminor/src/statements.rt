@@ -6,7 +6,7 @@
 ghost use Rattle.std.specs.Prelude.{◌≡◌, ◌≤◌, ◌-◌, ◌∷◌, ◌++◌, true, length, drop, IfOk, OnOk};
 ghost use Rattle.cc_ast.specs.Tree as tree;
 ghost use Rattle.cc_ast.specs.Erase.{expression_tree, optional_tree, optional_action, declarator_tree, declarator_trees, beginning_tree, statement_tree, statements_of};
-ghost use Rattle.cc_typing.specs.Bindings.{closed};
+ghost use Rattle.cc_types.specs.Bindings.{closed};
 ghost use Rattle.cc_resolve.specs.Environment.{inner, behind, behind_beginning, with_local, with_locals};
 ghost use Rattle.cc_cminor.specs.Cminor as cminor;
 ghost use Rattle.cc_cminor.specs.internal.Statements as codes;

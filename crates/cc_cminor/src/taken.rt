@@ -6,7 +6,7 @@
 // stands in the order of statements.
 
 ghost use Rattle.std.specs.Prelude.{◌≡◌, false, IfOk};
-ghost use Rattle.cc_typing.specs.Operators.{binary_type, common_type, unary_type, working_type};
+ghost use Rattle.cc_types.specs.Operators.{binary_type, common_type, unary_type, working_type};
 ghost use Rattle.cc_cminor.specs.Cminor as cminor;
 ghost use Rattle.cc_cminor.specs.Code.{expression_of, statement_of};
 ghost use Rattle.cc_cminor.specs.internal.Lowering.{is_strict, kind, unary_of, branch};
@@ -17,7 +17,7 @@ use super::code::{Expression, Statement};
 use super::conditions::branch;
 use super::operators::{binary, truth, unary};
 use cc_ast::{BinaryOperator, Scalar, UnaryOperator};
-use cc_typing::{binary_type, common_type, unary_type, working_type};
+use cc_types::{binary_type, common_type, unary_type, working_type};
 use std::alloc::{AllocError, Global};
 
 /// The type of a value, the code in front of it where there is some, and the expression that has it then.

@@ -10,7 +10,8 @@ use super::typing::{noted, told_of, word_at};
 use super::walk::{Note, Use};
 use cc_syntax::{SyntaxFault, Unit, parse};
 use cc_syntax_diagnostic::{Diagnostic, offset_in, words};
-use cc_typing::{TypeFault, check};
+use cc_types::TypeFault;
+use cc_typing::check;
 use std::alloc::{AllocError, Global};
 use std::mem::replace;
 

@@ -2,7 +2,7 @@
 
 use cc_resolve::Extent;
 use cc_syntax_diagnostic::near_name;
-use cc_typing::{Bindings, Entity, READ_WORD, WRITE_WORD};
+use cc_types::{Bindings, Entity, READ_WORD, WRITE_WORD};
 use std::alloc::{AllocError, Global};
 
 /// Where a name leads.

@@ -1,7 +1,7 @@
 // What is told of a tree that breaks a rule or passes a limit.
 
 ghost use Rattle.std.specs.Prelude.{◌≡◌, ◌≤◌, length, is_some, IfOk, IfSome};
-ghost use Rattle.cc_typing.specs.Fault.{fault_place};
+ghost use Rattle.cc_types.specs.Fault.{fault_place};
 
 use super::constant::{Cause, why};
 use super::declarations::{Declaration, Declared, declarations, first_of, named_at};
@@ -12,7 +12,7 @@ use cc_syntax_diagnostic::{
     Diagnostic, Part, Related, message, near_keyword, offset_in, said_of_foreign, words,
 };
 use cc_tokens::{Place, SyntaxFault, place_at};
-use cc_typing::{
+use cc_types::{
     Entity, MOST_FUNCTIONS, MOST_LOCALS, MOST_PARAMETERS, MOST_WORDS, TypeFault, array_length,
 };
 use std::alloc::{AllocError, Global};

@@ -5,7 +5,7 @@ use Rattle.std.proofs.Math.Logic.{∥∥₁_map}
 use Rattle.cc_rv32.specs.declared.image.Image.{Image}
 use Rattle.cc_tokens.specs.Tokens.{TokensAreOne}
 use Rattle.cc_ast.specs.Tree.{External}
-use Rattle.cc_typing.specs.Verdict.{source_with}
+use Rattle.cc_types.specs.Verdict.{source_with}
 use Rattle.cc_semantics.specs.Numbered.{without_cause}
 use Rattle.cc_runs.specs.Behavior.{Outcome, Follows}
 use Rattle.cc_link.specs.Agree.{image_behavior, program_behavior, Agreement}

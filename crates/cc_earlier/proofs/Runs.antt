@@ -6,11 +6,11 @@ use Rattle.cc_tokens.specs.declared.scalar.Scalar.TheVariants.{Int}
 use Rattle.cc_ast.specs.declared.ast.BinaryOperator.{BinaryOperator}
 use Rattle.cc_ast.specs.Tree as tree
 use Rattle.cc_ast.specs.Tree.{Expr, Exprs, none, more, Number, Variable, Element, Call, Parenthesised, Unary, Cast, Binary, Conditional, Target, AtVariable, AtElement, Action, Assign, Step, Evaluate, Declarator, Beginning, Declares, Performs, Stmt, Stmts, end, next, Block, Perform, Return, Break, Continue, If, IfElse, While, DoWhile, For, Source}
-use Rattle.cc_typing.specs.Names.{same_name}
-use Rattle.cc_typing.specs.Operators.{working_type, unary_word, binary_word, decided, applied_operator, step_operator}
-use Rattle.cc_typing.specs.Scope as scope
-use Rattle.cc_typing.specs.Scope.{Binding, Visible, in_scope, opened, declared, scope_behind, scope_behind_beginning}
-use Rattle.cc_typing.specs.Types.{value_type, target_type}
+use Rattle.cc_types.specs.Names.{same_name}
+use Rattle.cc_types.specs.Operators.{working_type, unary_word, binary_word, decided, applied_operator, step_operator}
+use Rattle.cc_types.specs.Scope as scope
+use Rattle.cc_types.specs.Scope.{Binding, Visible, in_scope, opened, declared, scope_behind, scope_behind_beginning}
+use Rattle.cc_types.specs.Types.{value_type, target_type}
 use Rattle.cc_semantics.specs.declared.cause.Cause.TheVariants.{Index, Depth}
 use Rattle.cc_semantics.specs.Meaning.{Global, State, Run, Gives, Going, Wrong, Flow, Falls, Breaks, Continues, Returns, then_do, choose, Calls, words_of, with_local_word, with_element, local_word, variable_word, stored, read_element, write_element, given, unless_decided, evaluate, evaluate_all, evaluate_or, Destination, ToVariable, ToElement, destination, old_value, write, new_value, perform, perform_optional, spend_of, spend, behind_flow, behind_body, begin_body, turns, with_local, declare, start, left_scope, in_block, execute, execute_all, Function, functions, function_named, bound, result_of, run_optional, read_input, most_open, calls, outcome_of, initial_globals, source_behavior}
 use Rattle.cc_earlier.specs.Texts.{ArePlain, EarlierGlobal, earlier_with_element, earlier_global, AreOfWords, EarlierMeaningStays}

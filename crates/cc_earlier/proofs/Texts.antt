@@ -10,12 +10,12 @@ use Rattle.cc_tokens.specs.Tokens.{TokensAreOne}
 use Rattle.cc_ast.specs.Tree.{Object, Single, Array, Bytes, External, Declaration, Definition, Objects}
 use Rattle.cc_ast.specs.Grammar.{Measured, outside, SpellsRow, SpellsObject, SpellsExternal, SpellsExternals, SpellsUnit, plain_tokens, Spells}
 use Rattle.cc_ast.specs.Limits.{TreesAreOne}
-use Rattle.cc_typing.specs.Names.{same_name}
-use Rattle.cc_typing.specs.Scope.{FileScope, first_file_scope, with_object, file_scope_behind}
-use Rattle.cc_typing.specs.Types.{array_length, object_width, object_words, initial_words}
-use Rattle.cc_typing.specs.Rules.{object_errors, objects_errors, external_errors, externals_errors}
-use Rattle.cc_typing.specs.Limits.{most_words, most_functions, too_many, past, function_names, objects, object_name, word_excesses, externals_excesses}
-use Rattle.cc_typing.specs.declared.rule.RuleError.{RuleError}
+use Rattle.cc_types.specs.Names.{same_name}
+use Rattle.cc_types.specs.Scope.{FileScope, first_file_scope, with_object, file_scope_behind}
+use Rattle.cc_types.specs.Types.{array_length, object_width, object_words, initial_words}
+use Rattle.cc_types.specs.Rules.{object_errors, objects_errors, external_errors, externals_errors}
+use Rattle.cc_types.specs.Limits.{most_words, most_functions, too_many, past, function_names, objects, object_name, word_excesses, externals_excesses}
+use Rattle.cc_types.specs.declared.rule.RuleError.{RuleError}
 use Rattle.cc_semantics.specs.Meaning.{Global, words_of, with_element, initial_global}
 use Rattle.cc_semantics.specs.Function.{Shared, Effect, Answer, Answers, Unfinished, Failed, call_function, body_of_function}
 use Rattle.cc_semantics.specs.Calls.{Size, sizes, KeepsObjects}

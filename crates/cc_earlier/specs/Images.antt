@@ -8,10 +8,10 @@ use Rattle.cc_tokens.specs.Token.{Lexeme}
 use Rattle.cc_tokens.specs.Tokens.{IsTokens}
 use Rattle.cc_ast.specs.Tree.{External, Source}
 use Rattle.cc_ast.specs.Parse.{SpellsText}
-use Rattle.cc_typing.specs.Scope.{first_file_scope}
-use Rattle.cc_typing.specs.Rules.{defines_main, undefined_calls}
-use Rattle.cc_typing.specs.Checked.{IsChecked}
-use Rattle.cc_typing.specs.Verdict.{source_with}
+use Rattle.cc_types.specs.Scope.{first_file_scope}
+use Rattle.cc_types.specs.Rules.{defines_main, undefined_calls}
+use Rattle.cc_types.specs.Checked.{IsChecked}
+use Rattle.cc_types.specs.Verdict.{source_with}
 use Rattle.cc_semantics.specs.Meaning.{source_behavior}
 use Rattle.cc_semantics.specs.Numbered.{without_cause}
 use Rattle.cc_runs.specs.Behavior.{AreWords, Outcome, Follows}

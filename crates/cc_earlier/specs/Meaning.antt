@@ -7,11 +7,11 @@ use Rattle.cc_tokens.specs.declared.scalar.Scalar.TheVariants.{Int}
 use Rattle.cc_ast.specs.declared.ast.BinaryOperator.{BinaryOperator}
 use Rattle.cc_ast.specs.Tree as tree
 use Rattle.cc_ast.specs.Tree.{Expr, Exprs, none, more, Number, Variable, Element, Call, Parenthesised, Unary, Cast, Binary, Conditional, Target, AtVariable, AtElement, Action, Assign, Step, Evaluate, Declarator, Beginning, Declares, Performs, Stmt, Stmts, end, next, Block, Perform, Return, Break, Continue, If, IfElse, While, DoWhile, For, Source}
-use Rattle.cc_typing.specs.Names.{same_name}
-use Rattle.cc_typing.specs.Operators.{working_type, unary_word, binary_word, decided, applied_operator, step_operator}
-use Rattle.cc_typing.specs.Scope as scope
-use Rattle.cc_typing.specs.Scope.{Binding, Visible, in_scope, opened, declared, scope_behind, scope_behind_beginning}
-use Rattle.cc_typing.specs.Types.{value_type, target_type}
+use Rattle.cc_types.specs.Names.{same_name}
+use Rattle.cc_types.specs.Operators.{working_type, unary_word, binary_word, decided, applied_operator, step_operator}
+use Rattle.cc_types.specs.Scope as scope
+use Rattle.cc_types.specs.Scope.{Binding, Visible, in_scope, opened, declared, scope_behind, scope_behind_beginning}
+use Rattle.cc_types.specs.Types.{value_type, target_type}
 use Rattle.cc_semantics.specs.Outcome as outcome
 use Rattle.cc_semantics.specs.Outcome.{Outcome}
 use Rattle.cc_semantics.specs.Meaning.{Local, Flow, Falls, Breaks, Continues, Returns, local_word, with_local_word, cause_of, Destination, ToVariable, ToElement, Function, functions, function_named, bound, result_of, most_open}

@@ -15,13 +15,13 @@ use Rattle.cc_ast.specs.Tree.{Object, Single, Array, Bytes, ConstantExpr, Extern
 use Rattle.cc_ast.specs.Grammar.{Measured, outside, identifier, Marks, IsKeyword, SpellsRow, SpellsType, SpellsConstantExpr, SpellsOptionalConstant, SpellsList, SpellsExternal, plain_tokens}
 use Rattle.cc_ast.specs.Limits.{IsWithin}
 use Rattle.cc_ast.specs.Parse.{SpellsText}
-use Rattle.cc_typing.specs.Names.{same_name}
-use Rattle.cc_typing.specs.Scope.{FileScope, is_declared, first_file_scope, with_object, file_scope_behind}
-use Rattle.cc_typing.specs.Types.{array_length, initial_word}
-use Rattle.cc_typing.specs.Rules.{broken_if, optional_constant_errors, constants_errors, length_errors, external_errors, errors}
-use Rattle.cc_typing.specs.Limits.{most_words, most_functions, too_many, past, function_names, objects, object_name, externals_excesses, excesses}
-use Rattle.cc_typing.specs.declared.rule.RuleError.{RuleError}
-use Rattle.cc_typing.specs.declared.rule.Rule.TheVariants.{Redeclared}
+use Rattle.cc_types.specs.Names.{same_name}
+use Rattle.cc_types.specs.Scope.{FileScope, is_declared, first_file_scope, with_object, file_scope_behind}
+use Rattle.cc_types.specs.Types.{array_length, initial_word}
+use Rattle.cc_types.specs.Rules.{broken_if, optional_constant_errors, constants_errors, length_errors, external_errors, errors}
+use Rattle.cc_types.specs.Limits.{most_words, most_functions, too_many, past, function_names, objects, object_name, externals_excesses, excesses}
+use Rattle.cc_types.specs.declared.rule.RuleError.{RuleError}
+use Rattle.cc_types.specs.declared.rule.Rule.TheVariants.{Redeclared}
 use Rattle.cc_semantics.specs.Meaning.{Global, words_of, with_element, initial_globals}
 use Rattle.cc_semantics.specs.Function.{Shared, Effect, Answer, Answers, Unfinished, Failed, call_function, body_of_function}
 

@@ -3,10 +3,10 @@ use Rattle.std.proofs.Common.{◌≡◌, ℕ, zero, suc, ◌+◌, ◌<◌, ◌�
 use Rattle.std.proofs.lemmas.Bool.Decides.{nat_tests}
 use Rattle.std.specs.List.{AllByRecursion}
 use Rattle.cc_ast.specs.Tree.{Parameter, Signature, External, Declaration, Definition, Objects}
-use Rattle.cc_typing.specs.Limits.{too_many, most_parameters, parameter_excesses, external_excesses, externals_excesses}
-use Rattle.cc_typing.specs.Typed.{IsTyped, IsWithinLimits}
-use Rattle.cc_typing.specs.Scope.{FileScope, file_scope_behind, first_file_scope}
-use Rattle.cc_typing.specs.declared.rule.RuleError.{RuleError}
+use Rattle.cc_types.specs.Limits.{too_many, most_parameters, parameter_excesses, external_excesses, externals_excesses}
+use Rattle.cc_types.specs.Typed.{IsTyped, IsWithinLimits}
+use Rattle.cc_types.specs.Scope.{FileScope, file_scope_behind, first_file_scope}
+use Rattle.cc_types.specs.declared.rule.RuleError.{RuleError}
 use Rattle.cc_semantics.specs.Meaning.{Function, functions, functions_from, text_of}
 use Rattle.cc_semantics.specs.Numbered.{arity_in, objects_in}
 use Rattle.cc_runs.specs.World.{Size}

@@ -3,8 +3,8 @@
 ghost use Rattle.std.specs.Prelude.{◌≡◌, ◌≤◌, ◌<◌, ◌++◌, ◌∷◌, ℕ, List, length, IfOk, OnOk};
 ghost use Rattle.cc_ast.specs.Erase.{object_trees, external_tree, external_trees};
 ghost use Rattle.cc_ast.specs.Tree.{External as Tree};
-ghost use Rattle.cc_typing.specs.Limits.{objects};
-ghost use Rattle.cc_typing.specs.Typed.{IsTyped, IsWithinLimits};
+ghost use Rattle.cc_types.specs.Limits.{objects};
+ghost use Rattle.cc_types.specs.Typed.{IsTyped, IsWithinLimits};
 ghost use Rattle.cc_semantics.specs.Numbered.{objects_in};
 ghost use Rattle.cc_rv32.specs.Machine.{globals_to};
 ghost use Rattle.cc_emit.specs.Objects.{object_address};
@@ -13,7 +13,7 @@ ghost use Rattle.cc_emit.specs.internal.Bases.{base_in, bases_from, address_behi
 use cc_ast::{External, Object};
 use cc_rv32::map::GLOBALS_FROM;
 use cc_semantics::names_have_numbers;
-use cc_typing::object_words;
+use cc_types::object_words;
 use std::alloc::{AllocError, Global};
 use std::marker::Model;
 

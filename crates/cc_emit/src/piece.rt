@@ -9,7 +9,7 @@ ghost use Rattle.cc_emit.specs.Piece.{Piece as Shown, tree_of, IsPieceOfUnit};
 
 use crate::item::Item;
 use cc_ltl::Ltl;
-use cc_typing::TypedUnit;
+use cc_types::TypedUnit;
 use std::marker::Model;
 use std::sync::Arc;
 

@@ -3,14 +3,14 @@
 ghost use Rattle.std.specs.Prelude.{◌≡◌, ◌<◌, ◌≤◌, length};
 ghost use Rattle.std.specs.Arc.{arc_value};
 ghost use Rattle.cc_semantics.specs.Meaning.{functions};
-ghost use Rattle.cc_typing.specs.Typed.{IsTyped};
+ghost use Rattle.cc_types.specs.Typed.{IsTyped};
 ghost use Rattle.cc_linear_language.specs.Linear.{IsLinear};
 ghost use Rattle.cc_ltl.specs.Ltl.{IsLtl};
 ghost use Rattle.cc_linear_language.specs.Pair.{Pair, tree_of, most_blocks, LtlKeepsUp, KeepsUp, FollowsFunction, IsPair};
 
 use crate::item::Item;
 use cc_ltl::Ltl;
-use cc_typing::TypedUnit;
+use cc_types::TypedUnit;
 use std::marker::Model;
 use std::sync::Arc;
 

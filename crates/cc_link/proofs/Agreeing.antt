@@ -1,9 +1,9 @@
 -- An image of the pieces of a unit agrees with the unit's text.
 use Rattle.std.proofs.Common.{◌≡◌, ℕ, ◌<◌, ◌≤◌, List, [], length, get_or, unwrap_or, refl, sym, ap, ◌∙◌, subst}
 use Rattle.cc_ast.specs.Tree.{External}
-use Rattle.cc_typing.specs.Typed.{IsTyped, IsWithinLimits}
-use Rattle.cc_typing.specs.Limits.{objects}
-use Rattle.cc_typing.specs.Verdict.{source_with}
+use Rattle.cc_types.specs.Typed.{IsTyped, IsWithinLimits}
+use Rattle.cc_types.specs.Limits.{objects}
+use Rattle.cc_types.specs.Verdict.{source_with}
 use Rattle.cc_semantics.specs.Meaning.{functions, initial_globals}
 use Rattle.cc_semantics.specs.Calls.{HasMain, main_of, first_shared, TypedUnitsHaveMain, ObjectsAreSized}
 use Rattle.cc_semantics.specs.Numbered.{IsMeaningOf, objects_of, world_of, outcome_by_number, TypedUnitsHaveMeanings, ProgramsAreNumbered}

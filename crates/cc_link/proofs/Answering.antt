@@ -8,8 +8,8 @@ use Rattle.cc_tokens.specs.Tokens.{TokensAreOne}
 use Rattle.cc_ast.specs.Tree.{Source}
 use Rattle.cc_ast.specs.Limits.{TreesAreOne}
 use Rattle.cc_ast.specs.Parse.{SpellsText}
-use Rattle.cc_typing.specs.Typed.{IsTyped, IsWithinLimits, defined_names}
-use Rattle.cc_typing.specs.Checked.{IsChecked}
+use Rattle.cc_types.specs.Typed.{IsTyped, IsWithinLimits, defined_names}
+use Rattle.cc_types.specs.Checked.{IsChecked}
 use Rattle.cc_semantics.specs.Meaning.{functions}
 use Rattle.cc_semantics.specs.Calls.{ObjectsAreSized}
 use Rattle.cc_semantics.specs.Numbered.{TypedUnitsHaveMeanings}

@@ -18,9 +18,9 @@ use Rattle.cc_ast.specs.declared.ast.BinaryOperator.TheVariants.{Multiply, Divid
 use Rattle.cc_ast.specs.Tree.{Expr, Number, Variable, Element, Call, Parenthesised, Unary, Cast, Binary, Conditional, ConstantExpr, Object, Single, Array, Bytes, External, Declaration, Definition, Objects}
 use Rattle.cc_ast.specs.Grammar.{Measured, outside, full_after, identifier, plain_tokens, SpellsExpression, SpellsConstantExpr, SpellsRow, SpellsList, SpellsObject, SpellsByteArray, SpellsExternal, SpellsExternals, SpellsUnit}
 use Rattle.cc_ast.specs.Parse.{SpellsText}
-use Rattle.cc_typing.specs.Operators.{unary_word, binary_word, decided, is_true, working_type}
-use Rattle.cc_typing.specs.Types.{is_constant, decided_or, with_word, value_type, constant_value, array_elements, object_width, initial_word, zeros_behind, initial_words}
-use Rattle.cc_typing.specs.Limits.{objects}
+use Rattle.cc_types.specs.Operators.{unary_word, binary_word, decided, is_true, working_type}
+use Rattle.cc_types.specs.Types.{is_constant, decided_or, with_word, value_type, constant_value, array_elements, object_width, initial_word, zeros_behind, initial_words}
+use Rattle.cc_types.specs.Limits.{objects}
 use Rattle.cc_link.specs.internal.Packing.{AreBytes}
 use Rattle.cc_link.proofs.Laying.{AreKept}
 use Rattle.cc_link.proofs.Sizes.{AllKept}

@@ -10,9 +10,9 @@ use Rattle.cc_tokens.specs.Tokens.{TokensAreOne}
 use Rattle.cc_ast.specs.Tree.{Name, External, Source, Declaration, Definition, Objects}
 use Rattle.cc_ast.specs.Limits.{TreesAreOne}
 use Rattle.cc_ast.specs.Parse.{SpellsText}
-use Rattle.cc_typing.specs.Scope.{FileScope, first_file_scope, file_scope_behind}
-use Rattle.cc_typing.specs.Limits.{function_names}
-use Rattle.cc_typing.specs.Typed.{IsTyped, IsWithinLimits, defined_names}
+use Rattle.cc_types.specs.Scope.{FileScope, first_file_scope, file_scope_behind}
+use Rattle.cc_types.specs.Limits.{function_names}
+use Rattle.cc_types.specs.Typed.{IsTyped, IsWithinLimits, defined_names}
 use Rattle.cc_semantics.specs.Meaning.{functions, functions_from}
 use Rattle.cc_semantics.specs.Calls.{ObjectsAreSized}
 use Rattle.cc_semantics.specs.Numbered.{TypedUnitsHaveMeanings}

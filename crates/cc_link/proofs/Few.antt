@@ -2,8 +2,8 @@
 use Rattle.std.proofs.Common.{◌≡◌, ℕ, zero, suc, ◌≤◌, List, [], ◌∷◌, ◌++◌, length, ap, arith, length-append}
 use Rattle.std.proofs.lemmas.List.{length-map}
 use Rattle.cc_ast.specs.Tree.{Name, Source}
-use Rattle.cc_typing.specs.Limits.{most_functions, past, externals_excesses, function_names, objects, word_excesses}
-use Rattle.cc_typing.specs.Typed.{IsWithinLimits, defined_names}
+use Rattle.cc_types.specs.Limits.{most_functions, past, externals_excesses, function_names, objects, word_excesses}
+use Rattle.cc_types.specs.Typed.{IsWithinLimits, defined_names}
 
 at_most : (n : ℕ) (xs : List Name) → length (past n xs) ≡ 0 → length xs ≤ n
 at_most zero [] none = omega arith

@@ -13,7 +13,7 @@ use Rattle.cc_ast.specs.Tree.{External}
 use Rattle.cc_ast.specs.Source.{source}
 use Rattle.cc_ast.specs.Limits.{TreesAreOne}
 use Rattle.cc_ast.specs.Parse.{SpellsText}
-use Rattle.cc_typing.specs.Limits.{objects}
+use Rattle.cc_types.specs.Limits.{objects}
 use Rattle.cc_link.proofs.Sizes.{AllKept}
 use Rattle.cc_semantics.specs.Meaning.{functions}
 use Rattle.cc_semantics.specs.Calls.{TypedUnitsHaveMain, ObjectsAreSized}

@@ -2,8 +2,8 @@
 use Rattle.std.proofs.Common.{◌≡◌, ℕ, zero, suc, List, [], ◌∷◌, slice_get, Some, ap}
 use Rattle.cc_ast.specs.Tree as tree
 use Rattle.cc_ast.specs.Tree.{Declaration, Definition, Objects}
-use Rattle.cc_typing.specs.Limits.{function_names}
-use Rattle.cc_typing.specs.Typed.{definitions}
+use Rattle.cc_types.specs.Limits.{function_names}
+use Rattle.cc_types.specs.Typed.{definitions}
 
 -- a definition has the name with its number
 pub named : (es : List tree.External) (n : ℕ) (s : tree.Signature) (body : tree.Stmts) → slice_get (definitions es) n ≡ Some (Definition s body) → slice_get (function_names es) n ≡ Some s.name

@@ -3,8 +3,8 @@ use Rattle.std.proofs.Common.{◌≡◌, ℕ, zero, suc, ◌+◌, ◌*◌, ◌^�
 use Rattle.std.proofs.lemmas.List.{get_or-drop, drop-drop, drop_all, length-drop}
 use Rattle.cc_words.specs.declared.operators.Width.TheVariants.{Byte}
 use Rattle.cc_ast.specs.Tree.{Object, Single, Array, Bytes, External, Declaration, Definition, Objects}
-use Rattle.cc_typing.specs.Types.{object_width, initial_words}
-use Rattle.cc_typing.specs.Limits.{objects}
+use Rattle.cc_types.specs.Types.{object_width, initial_words}
+use Rattle.cc_types.specs.Limits.{objects}
 use Rattle.cc_link.specs.Packed.{word_of_bytes, packed_bytes, object_image, image_words}
 use Rattle.cc_link.specs.internal.Packing.{AreBytes, external_image}
 use Rattle.cc_link.proofs.Constants.{byte_list}

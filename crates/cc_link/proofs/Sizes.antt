@@ -3,9 +3,9 @@ use Rattle.std.proofs.Common.{◌≡◌, ℕ, zero, suc, ◌+◌, ◌≤◌, Boo
 use Rattle.std.proofs.lemmas.Bool.{ltb-false}
 use Rattle.cc_words.specs.Widths.{words_of}
 use Rattle.cc_ast.specs.Tree.{Object, External}
-use Rattle.cc_typing.specs.Types.{object_elements, object_width, object_words, initial_words}
-use Rattle.cc_typing.specs.Limits.{most_words, too_many, past, function_names, objects, object_name, word_excesses, externals_excesses}
-use Rattle.cc_typing.specs.Typed.{IsTyped, IsWithinLimits}
+use Rattle.cc_types.specs.Types.{object_elements, object_width, object_words, initial_words}
+use Rattle.cc_types.specs.Limits.{most_words, too_many, past, function_names, objects, object_name, word_excesses, externals_excesses}
+use Rattle.cc_types.specs.Typed.{IsTyped, IsWithinLimits}
 use Rattle.cc_resolve.specs.Layout.{laid_from}
 use Rattle.cc_semantics.specs.Meaning.{Global, initial_global, initial_globals}
 use Rattle.cc_semantics.specs.Calls as calls

@@ -7,8 +7,8 @@ use Rattle.cc_rv32.specs.declared.outcome.MachineOutcome.TheVariants as machine
 use Rattle.cc_rv32.specs.Machine.{Behavior, machine_behavior}
 use Rattle.cc_ast.specs.Tree.{External, Source}
 use Rattle.cc_ast.specs.Parse.{SpellsText}
-use Rattle.cc_typing.specs.Typed.{IsTyped}
-use Rattle.cc_typing.specs.Verdict.{source_with}
+use Rattle.cc_types.specs.Typed.{IsTyped}
+use Rattle.cc_types.specs.Verdict.{source_with}
 use Rattle.cc_semantics.specs.Meaning.{source_behavior}
 use Rattle.cc_semantics.specs.Numbered.{without_cause}
 use Rattle.cc_runs.specs.Behavior.{AreWords, Stop, Going, Ended, Wrong, Outcome, Follows}

@@ -4,9 +4,9 @@ use Rattle.cc_tokens.specs.declared.place.Place.{Place}
 use Rattle.cc_ast.specs.Tree.{Name, External}
 use Rattle.cc_ast.specs.Source.{source}
 use Rattle.cc_ast.specs.Grammar.{Measured, SpellsExternal}
-use Rattle.cc_typing.specs.Limits.{function_names}
-use Rattle.cc_typing.specs.Typed.{definitions}
-use Rattle.cc_typing.specs.Verdict.{source_with}
+use Rattle.cc_types.specs.Limits.{function_names}
+use Rattle.cc_types.specs.Typed.{definitions}
+use Rattle.cc_types.specs.Verdict.{source_with}
 use Rattle.cc_semantics.specs.Meaning.{functions}
 use Rattle.cc_emit.specs.Piece as emit
 use Rattle.cc_link.specs.Fault.{link_fault_number}

@@ -4,7 +4,7 @@ use Rattle.std.specs.Prelude.{ℕ, ◌+◌, ◌*◌, ◌^◌, List, [], ◌∷�
 use Rattle.cc_words.specs.declared.operators.Width.{Width}
 use Rattle.cc_words.specs.declared.operators.Width.TheVariants.{Byte, Word}
 use Rattle.cc_ast.specs.Tree.{Object}
-use Rattle.cc_typing.specs.Types.{object_width, initial_words}
+use Rattle.cc_types.specs.Types.{object_width, initial_words}
 
 -- four bytes as a word
 abbrev pub word_of_bytes : (a b c d : ℕ) → ℕ

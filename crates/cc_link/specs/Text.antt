@@ -5,11 +5,11 @@ use Rattle.cc_tokens.specs.Fault as tokens
 use Rattle.cc_tokens.specs.Tokens.{most_bytes}
 use Rattle.cc_ast.specs.Tree.{External}
 use Rattle.cc_ast.specs.Parse.{SpellsText, IsParseRefusal}
-use Rattle.cc_typing.specs.declared.fault.TypeFault.{TypeFault}
-use Rattle.cc_typing.specs.declared.fault.TypeFault.TheVariants as typing
-use Rattle.cc_typing.specs.Fault as typed
-use Rattle.cc_typing.specs.Typed.{IsTyped, IsWithinLimits, IsTypeRefusal}
-use Rattle.cc_typing.specs.Verdict.{source_with}
+use Rattle.cc_types.specs.declared.fault.TypeFault.{TypeFault}
+use Rattle.cc_types.specs.declared.fault.TypeFault.TheVariants as typing
+use Rattle.cc_types.specs.Fault as typed
+use Rattle.cc_types.specs.Typed.{IsTyped, IsWithinLimits, IsTypeRefusal}
+use Rattle.cc_types.specs.Verdict.{source_with}
 use Rattle.cc_link.specs.declared.text.TextFault.{TextFault}
 use Rattle.cc_link.specs.declared.text.TextFault.TheVariants.{Syntax, Typing}
 

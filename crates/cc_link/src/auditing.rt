@@ -9,7 +9,7 @@ ghost use Rattle.std.specs.Prelude.{◌≡◌, ◌↔◌, ◌<◌, length, Some,
 ghost use Rattle.std.specs.Arc.{arc_value};
 ghost use Rattle.std.specs.Option.{option_map};
 ghost use Rattle.cc_ast.specs.Source.{source};
-ghost use Rattle.cc_typing.specs.Typed.{defined_names};
+ghost use Rattle.cc_types.specs.Typed.{defined_names};
 ghost use Rattle.cc_link.specs.Audit.{AuditSays};
 
 use crate::audit_answer::Audit;
@@ -24,7 +24,7 @@ use cc_emit::Piece;
 use cc_ltl::{Ltl, LtlFault, read_ltl};
 use cc_rtl::{RtlFault, RtlPair};
 use cc_rv32::image::Image;
-use cc_typing::TypedUnit;
+use cc_types::TypedUnit;
 use cc_unit::StoredUnit;
 use cc_validate::{ValidateFault, validate};
 use std::alloc::{AllocError, Global};

@@ -18,7 +18,7 @@ use crate::linking::link;
 use crate::piece_fault::PieceFault;
 use crate::text::typed_unit;
 use cc_emit::Piece;
-use cc_typing::TypedUnit;
+use cc_types::TypedUnit;
 use std::alloc::Global;
 use std::sync::Arc;
 

@@ -3,7 +3,7 @@
 ghost use Rattle.std.specs.Prelude.{◌≡◌, ◌<◌, length, IfOk, IfErr};
 ghost use Rattle.std.specs.Arc.{arc_value};
 ghost use Rattle.cc_ast.specs.Source.{source};
-ghost use Rattle.cc_typing.specs.Typed.{defined_names};
+ghost use Rattle.cc_types.specs.Typed.{defined_names};
 ghost use Rattle.cc_cminor.specs.Pair.{code_of};
 ghost use Rattle.cc_cminor.specs.Size.{AtMostTwelveAToken};
 ghost use Rattle.cc_rtl.specs.declared.fault.RtlFault.TheVariants.{FunctionTooLarge};
@@ -17,7 +17,7 @@ use cc_linear::linearise;
 use cc_live::{Liveness, drop_faint};
 use cc_ltl::Ltl;
 use cc_rtl::{Rtl, RtlFault, RtlPair, to_rtl};
-use cc_typing::TypedUnit;
+use cc_types::TypedUnit;
 use cc_validate::{LtlPair, Refused, ValidateFault, validate};
 use std::alloc::{AllocError, Global};
 use std::sync::Arc;

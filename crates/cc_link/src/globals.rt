@@ -2,7 +2,7 @@
 
 ghost use Rattle.std.specs.Prelude.{◌≡◌, ◌<◌, ◌+◌, ◌^◌, ◌++◌, get_or, length, IfOk, OnOk};
 ghost use Rattle.cc_ast.specs.Erase.{object_tree, object_trees, external_tree, external_trees};
-ghost use Rattle.cc_typing.specs.Limits.{objects};
+ghost use Rattle.cc_types.specs.Limits.{objects};
 ghost use Rattle.cc_link.specs.Packed.{word_of_bytes, packed_bytes, object_image, image_words};
 ghost use Rattle.cc_link.specs.internal.Packing.{AreBytes, external_image};
 

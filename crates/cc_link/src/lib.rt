@@ -29,4 +29,4 @@ pub use function::compile_function;
 pub use laws::{linked_units_agree, made_units_are_certified};
 pub use linking::{link, link_lent};
 pub use piece_fault::PieceFault;
-pub use text::{TextFault, typed_unit};
+pub use text::{TextFault, typed_unit, verdicts_are_determined};

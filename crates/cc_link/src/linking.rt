@@ -23,7 +23,7 @@ use crate::words::{code, fits};
 use cc_emit::{Item, Piece};
 use cc_resolve::lay_out;
 use cc_rv32::image::{Globals, Image};
-use cc_typing::TypedUnit;
+use cc_types::TypedUnit;
 use cc_unit::{Source, StoredUnit};
 use std::alloc::{AllocError, Global};
 use std::sync::Arc;

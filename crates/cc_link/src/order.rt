@@ -12,7 +12,7 @@ ghost use Rattle.cc_link.specs.internal.Lent.{functions_of};
 
 use crate::fault::LinkFault;
 use cc_emit::{Item, Piece};
-use cc_typing::TypedUnit;
+use cc_types::TypedUnit;
 use std::alloc::{AllocError, Global};
 
 /// 28 for the first piece of a unit of another text. Where there is none, each piece is what its type keeps.

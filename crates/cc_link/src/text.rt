@@ -1,13 +1,16 @@
-//! From a text to its program: the one door by which every text comes in, be it checked, run, compiled, audited or shown.
+//! From a text to its program: the one door by which every text comes in, be it checked, run, compiled, audited or shown;
+//! and that a text comes to one program or one fault.
 
 ghost use Rattle.std.specs.Prelude.{◌≡◌, ◌≤◌, length, IfOk, IfErr};
 ghost use Rattle.std.specs.Arc.{arc_value};
 ghost use Rattle.cc_tokens.specs.Tokens.{most_bytes};
 ghost use Rattle.cc_ast.specs.Source.{source};
+ghost use Rattle.cc_types.specs.Verdict.{VerdictsAreOne, TextsHaveVerdicts};
 ghost use Rattle.cc_link.specs.Text.{IsProgramText, IsTextRefusal, text_fault_number, text_fault_place};
 
-use cc_syntax::{Place, SyntaxFault, parse};
-use cc_typing::{TypeFault, TypedUnit, check};
+use cc_syntax::{Place, SyntaxFault, parse, parse_is_determined};
+use cc_types::{TypeFault, TypedUnit};
+use cc_typing::check;
 use std::alloc::Global;
 use std::sync::Arc;
 use thiserror::Error;
@@ -66,4 +69,12 @@ pub fn typed_unit(alloc: Global, text: &[u8]) -> Result<Arc<TypedUnit>, TextFaul
         Ok(unit) => Ok(unit),
         Err(_) => Err(TextFault::Typing(TypeFault::OutOfMemory)),
     }
+}
+
+/// What `parse` and then `check` answer is a function of the text, lack of memory set aside.
+pub fn verdicts_are_determined()
+    ensures one_verdict { VerdictsAreOne }
+    ensures some_verdict { TextsHaveVerdicts }
+{
+    parse_is_determined();
 }

@@ -5,7 +5,7 @@ use Rattle.cc_words.specs.Widths.{kept}
 use Rattle.cc_words.specs.declared.operators.Width.{Width}
 use Rattle.cc_tokens.specs.declared.scalar.Scalar.{Scalar}
 use Rattle.cc_ast.specs.declared.ast.BinaryOperator.{BinaryOperator}
-use Rattle.cc_typing.specs.Operators.{working_type, binary_word}
+use Rattle.cc_types.specs.Operators.{working_type, binary_word}
 use Rattle.cc_resolve.specs.declared.layout.Extent.{Extent}
 use Rattle.cc_resolve.specs.declared.operations.BinaryOperation.{BinaryOperation}
 use Rattle.cc_meaning.specs.declared.form.Instruction.TheVariants as instruction

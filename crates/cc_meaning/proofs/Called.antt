@@ -3,10 +3,10 @@ use Rattle.std.proofs.Common.{◌≡◌, ℕ, zero, suc, ◌+◌, ◌<◌, ◌�
 use Rattle.std.proofs.lemmas.Bool.{le-leb}
 use Rattle.std.proofs.lemmas.List.{length-map, length-reverse, length-replicate, reverse-reverse, take_at, drop_at}
 use Rattle.cc_ast.specs.Tree.{Name, Parameter}
-use Rattle.cc_typing.specs.Names.{same_name}
-use Rattle.cc_typing.specs.Scope.{has_name}
-use Rattle.cc_typing.specs.Rules.{Around, statements_errors, undefined_among, called_in_statements}
-use Rattle.cc_typing.specs.Limits.{locals}
+use Rattle.cc_types.specs.Names.{same_name}
+use Rattle.cc_types.specs.Scope.{has_name}
+use Rattle.cc_types.specs.Rules.{Around, statements_errors, undefined_among, called_in_statements}
+use Rattle.cc_types.specs.Limits.{locals}
 use Rattle.cc_meaning.specs.declared.form.Entry.{Entry}
 use Rattle.cc_meaning.specs.declared.form.Instruction.{Instruction}
 use Rattle.cc_meaning.specs.declared.form.Instruction.TheVariants as instruction

@@ -1,11 +1,11 @@
 -- The instructions of each expression push its value: by recursion on the tree. What a call does is handed in.
 use Rattle.std.proofs.Common.{◌≡◌, ℕ, ◌+◌, ◌<◌, List, [], ◌∷◌, ◌++◌, length, reverse, refl, sym, subst, arith, length-append}
 use Rattle.cc_ast.specs.Tree.{Name, Expr, Exprs, none, more, Number, Variable, Element, Call, Parenthesised, Unary, Cast, Binary, Conditional}
-use Rattle.cc_typing.specs.Operators.{working_type, unary_word}
-use Rattle.cc_typing.specs.Scope.{found}
-use Rattle.cc_typing.specs.Types.{value_type}
-use Rattle.cc_typing.specs.Rules.{array_errors, function_errors, count_of, void_errors, expression_errors, argument_errors, undefined_among, called_in, called_in_all}
-use Rattle.cc_typing.specs.declared.rule.Rule.TheVariants.{WrongKind}
+use Rattle.cc_types.specs.Operators.{working_type, unary_word}
+use Rattle.cc_types.specs.Scope.{found}
+use Rattle.cc_types.specs.Types.{value_type}
+use Rattle.cc_types.specs.Rules.{array_errors, function_errors, count_of, void_errors, expression_errors, argument_errors, undefined_among, called_in, called_in_all}
+use Rattle.cc_types.specs.declared.rule.Rule.TheVariants.{WrongKind}
 use Rattle.cc_meaning.specs.declared.form.Instruction.TheVariants as instruction
 use Rattle.cc_meaning.specs.internal.Form.{FormTree, unary_code, load, call_of, expression_code, arguments_code}
 use Rattle.cc_resolve.specs.Environment.{Environment, types_in}

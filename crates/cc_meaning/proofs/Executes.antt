@@ -4,10 +4,10 @@ use Rattle.std.proofs.lemmas.List.{length-map}
 use Rattle.cc_tokens.specs.declared.scalar.Scalar.{Scalar}
 use Rattle.cc_ast.specs.Tree as tree
 use Rattle.cc_ast.specs.Tree.{Expr, Declarator, Beginning, Declares, Performs, Stmt, Stmts, end, next, Block, Perform, Return, Break, Continue, If, IfElse, While, DoWhile, For}
-use Rattle.cc_typing.specs.Scope.{Binding, Visible, in_scope, opened, scope_behind, scope_behind_beginning}
-use Rattle.cc_typing.specs.Rules.{broken, void_errors, expression_errors, value_errors, optional_errors, optional_action_errors, beginning_errors, return_errors, Around, within_loop, statement_errors, statements_errors, undefined_among, called_in, called_in_optional, called_in_optional_action, called_in_beginning, called_in_statement, called_in_statements}
-use Rattle.cc_typing.specs.declared.rule.Rule.TheVariants.{BadReturn}
-use Rattle.cc_typing.specs.Limits.{beginning_names, locals_of, locals}
+use Rattle.cc_types.specs.Scope.{Binding, Visible, in_scope, opened, scope_behind, scope_behind_beginning}
+use Rattle.cc_types.specs.Rules.{broken, void_errors, expression_errors, value_errors, optional_errors, optional_action_errors, beginning_errors, return_errors, Around, within_loop, statement_errors, statements_errors, undefined_among, called_in, called_in_optional, called_in_optional_action, called_in_beginning, called_in_statement, called_in_statements}
+use Rattle.cc_types.specs.declared.rule.Rule.TheVariants.{BadReturn}
+use Rattle.cc_types.specs.Limits.{beginning_names, locals_of, locals}
 use Rattle.cc_meaning.specs.declared.form.Instruction.{Instruction}
 use Rattle.cc_meaning.specs.declared.form.Instruction.TheVariants as instruction
 use Rattle.cc_meaning.specs.internal.Form.{FormTree, expression_code, optional_action_code, Exits, further, declared_code, beginning_code, value_code, condition_code, turns_code, loop_code, exits_of_body, statement_code, statements_code}

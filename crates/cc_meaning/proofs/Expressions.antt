@@ -8,7 +8,7 @@ use Rattle.cc_ast.specs.declared.ast.UnaryOperator.{UnaryOperator}
 use Rattle.cc_ast.specs.declared.ast.UnaryOperator.TheVariants as unary
 use Rattle.cc_ast.specs.declared.ast.BinaryOperator.{BinaryOperator}
 use Rattle.cc_ast.specs.declared.ast.BinaryOperator.TheVariants.{LogicalAnd, LogicalOr}
-use Rattle.cc_typing.specs.Operators.{unary_word, binary_word, decided, is_true}
+use Rattle.cc_types.specs.Operators.{unary_word, binary_word, decided, is_true}
 use Rattle.cc_resolve.specs.declared.layout.Extent.{Extent}
 use Rattle.cc_resolve.specs.declared.operations.BinaryOperation.{BinaryOperation}
 use Rattle.cc_meaning.specs.declared.form.Instruction.{Instruction}

@@ -6,11 +6,11 @@ use Rattle.cc_tokens.specs.declared.scalar.Scalar.{Scalar}
 use Rattle.cc_tokens.specs.declared.scalar.Scalar.TheVariants.{Int}
 use Rattle.cc_ast.specs.declared.ast.BinaryOperator.{BinaryOperator}
 use Rattle.cc_ast.specs.Tree.{Expr, Target, AtVariable, AtElement, Action, Assign, Step, Evaluate, Declarator}
-use Rattle.cc_typing.specs.Operators.{applied_operator, step_operator}
-use Rattle.cc_typing.specs.Scope.{found, is_declared}
-use Rattle.cc_typing.specs.Types.{value_type, target_type}
-use Rattle.cc_typing.specs.Rules.{broken_if, array_errors, void_errors, expression_errors, value_errors, optional_errors, target_errors, action_errors, optional_action_errors, declared_errors, undefined_among, called_in, called_in_optional, called_in_target, called_in_action, called_in_optional_action, called_in_declared}
-use Rattle.cc_typing.specs.declared.rule.Rule.TheVariants.{BadAssign, Redeclared}
+use Rattle.cc_types.specs.Operators.{applied_operator, step_operator}
+use Rattle.cc_types.specs.Scope.{found, is_declared}
+use Rattle.cc_types.specs.Types.{value_type, target_type}
+use Rattle.cc_types.specs.Rules.{broken_if, array_errors, void_errors, expression_errors, value_errors, optional_errors, target_errors, action_errors, optional_action_errors, declared_errors, undefined_among, called_in, called_in_optional, called_in_target, called_in_action, called_in_optional_action, called_in_declared}
+use Rattle.cc_types.specs.declared.rule.Rule.TheVariants.{BadAssign, Redeclared}
 use Rattle.cc_meaning.specs.declared.form.Instruction.{Instruction}
 use Rattle.cc_meaning.specs.declared.form.Instruction.TheVariants as instruction
 use Rattle.cc_meaning.specs.internal.Form.{FormTree, expression_code, store_of, store_element_of, applied, assignment_code, action_code, optional_action_code, initial_code, declared_code}

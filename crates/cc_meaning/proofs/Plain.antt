@@ -8,7 +8,7 @@ use Rattle.cc_ast.specs.declared.ast.AssignmentOperator.{AssignmentOperator}
 use Rattle.cc_ast.specs.declared.ast.AssignmentOperator.TheVariants as assignment
 use Rattle.cc_ast.specs.declared.ast.StepOperator.{StepOperator}
 use Rattle.cc_ast.specs.declared.ast.StepOperator.TheVariants.{Increment, Decrement}
-use Rattle.cc_typing.specs.Operators.{binary_word, decided, applied_operator, step_operator}
+use Rattle.cc_types.specs.Operators.{binary_word, decided, applied_operator, step_operator}
 use Rattle.cc_resolve.specs.Operations.{operation}
 use Rattle.cc_meaning.specs.internal.Form.{joined}
 use Rattle.cc_resolve.specs.declared.operations.BinaryOperation.{BinaryOperation}

@@ -2,13 +2,13 @@
 use Rattle.std.proofs.Common.{◌≡◌, ℕ, zero, suc, ◌+◌, Bool, true, false, true≢false, ◌||◌, if◌then◌else◌, List, [], ◌∷◌, ◌++◌, length, map, replicate, Some, slice_get, codes, refl, sym, ap, ◌∙◌, subst, arith, length-append, append_assoc}
 use Rattle.std.proofs.lemmas.List.{nil_from_length}
 use Rattle.cc_ast.specs.Tree.{Object, External, Declaration, Definition, Objects}
-use Rattle.cc_typing.specs.Names.{same_name}
-use Rattle.cc_typing.specs.Scope.{FileScope, has_name, first_file_scope, with_objects, file_scope_behind, file_scope_behind_all, body_scope}
-use Rattle.cc_typing.specs.Types.{object_elements, object_width, initial_words}
-use Rattle.cc_typing.specs.Rules.{broken_if, signature_errors, statements_errors, external_errors, externals_errors, undefined_among, called_in_statements, called_in_external, called}
-use Rattle.cc_typing.specs.declared.rule.Rule.TheVariants.{Redeclared}
-use Rattle.cc_typing.specs.Limits.{objects, object_name}
-use Rattle.cc_typing.specs.Typed.{IsTyped}
+use Rattle.cc_types.specs.Names.{same_name}
+use Rattle.cc_types.specs.Scope.{FileScope, has_name, first_file_scope, with_objects, file_scope_behind, file_scope_behind_all, body_scope}
+use Rattle.cc_types.specs.Types.{object_elements, object_width, initial_words}
+use Rattle.cc_types.specs.Rules.{broken_if, signature_errors, statements_errors, external_errors, externals_errors, undefined_among, called_in_statements, called_in_external, called}
+use Rattle.cc_types.specs.declared.rule.Rule.TheVariants.{Redeclared}
+use Rattle.cc_types.specs.Limits.{objects, object_name}
+use Rattle.cc_types.specs.Typed.{IsTyped}
 use Rattle.cc_meaning.specs.declared.form.Entry.{Entry}
 use Rattle.cc_meaning.specs.declared.form.Instruction.{Instruction}
 use Rattle.cc_resolve.specs.Layout.{Layout, LaidObject, laid_from, names_before, layout_of, all_words}

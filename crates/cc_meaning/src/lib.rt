@@ -19,7 +19,7 @@ mod writer;
 pub use cc_semantics::{
     Cause, calls_are_effects, calls_go_on, calls_keep_objects, functions_are_resolved,
     functions_have_meaning, names_have_numbers, programs_call_main, runs_go_on,
-    units_have_meanings, verdicts_are_determined,
+    units_have_meanings,
 };
 pub use fault::MeaningFault;
 pub use interpreter::MOST_OPEN;

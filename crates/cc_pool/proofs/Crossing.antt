@@ -16,8 +16,8 @@ use Rattle.cc_ast.specs.contracts.ast.Signature as Signature
 use Rattle.cc_ast.specs.contracts.ast.Object as Object
 use Rattle.cc_ast.specs.contracts.ast.External as External
 use Rattle.cc_ast.specs.contracts.unit.Unit as Unit
-use Rattle.cc_typing.specs.contracts.typed.TypedUnit as TypedUnit
-use Rattle.cc_typing.specs.contracts.typed.TypedUnit.TheInside as inside
+use Rattle.cc_types.specs.contracts.typed.TypedUnit as TypedUnit
+use Rattle.cc_types.specs.contracts.typed.TypedUnit.TheInside as inside
 use Rattle.cc_ltl.specs.contracts.location.Register as Register
 use Rattle.cc_ltl.specs.contracts.location.Register.TheInside as registers
 use Rattle.cc_ltl.specs.contracts.location.Slot as Slot

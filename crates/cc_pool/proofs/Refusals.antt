@@ -3,9 +3,9 @@ use Rattle.std.proofs.Common.{◌≡◌, ℕ, suc, ◌<◌, List, [], ◌∷◌,
 use Rattle.std.proofs.Math.Logic.{∥∥₁_map}
 use Rattle.cc_ast.specs.Tree.{Name, External, Source, Declaration, Definition, Objects}
 use Rattle.cc_ast.specs.Parse.{SpellsText}
-use Rattle.cc_typing.specs.Scope.{FileScope, first_file_scope, file_scope_behind}
-use Rattle.cc_typing.specs.Limits.{function_names}
-use Rattle.cc_typing.specs.Typed.{IsTyped, IsWithinLimits, defined_names}
+use Rattle.cc_types.specs.Scope.{FileScope, first_file_scope, file_scope_behind}
+use Rattle.cc_types.specs.Limits.{function_names}
+use Rattle.cc_types.specs.Typed.{IsTyped, IsWithinLimits, defined_names}
 use Rattle.cc_semantics.specs.Meaning.{functions, functions_from}
 use Rattle.cc_link.specs.Compile.{IsBlamed, IsPieceRefusal}
 use Rattle.cc_link.specs.declared.piece_fault.PieceFault.{PieceFault}

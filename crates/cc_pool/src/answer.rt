@@ -3,14 +3,14 @@
 ghost use Rattle.std.specs.Prelude.{◌≡◌, ◌≢◌, ◌<◌, length, IfSome};
 ghost use Rattle.std.specs.Arc.{arc_value};
 ghost use Rattle.cc_ast.specs.Source.{source};
-ghost use Rattle.cc_typing.specs.Typed.{defined_names};
+ghost use Rattle.cc_types.specs.Typed.{defined_names};
 ghost use Rattle.cc_link.specs.Compile.{IsPieceRefusal};
 ghost use Rattle.cc_link.specs.declared.piece_fault.PieceFault.TheVariants.{OutOfMemory};
 ghost use Rattle.cc_pool.specs.Fault.{IsRefusedAt};
 
 use cc_emit::Piece;
 use cc_link::{PieceFault, compile_function};
-use cc_typing::TypedUnit;
+use cc_types::TypedUnit;
 use std::alloc::Global;
 use std::marker::Model;
 use std::sync::Arc;

@@ -3,12 +3,12 @@
 ghost use Rattle.std.specs.Prelude.{◌≡◌, ◌<◌, IfOk, length};
 ghost use Rattle.std.specs.Arc.{arc_value};
 ghost use Rattle.cc_ast.specs.Source.{source};
-ghost use Rattle.cc_typing.specs.Typed.{defined_names};
-ghost use Rattle.cc_typing.specs.Limits.{most_functions};
+ghost use Rattle.cc_types.specs.Typed.{defined_names};
+ghost use Rattle.cc_types.specs.Limits.{most_functions};
 
 use crate::answer::{Answer, answered};
 use crate::gate::Gate;
-use cc_typing::TypedUnit;
+use cc_types::TypedUnit;
 use crossbeam_channel::Sender;
 use std::alloc::{AllocError, Global};
 use std::marker::Model;
@@ -34,8 +34,8 @@ impl Model for Order {
     ghost use Rattle.std.specs.Prelude.{◌<◌, length};
     ghost use Rattle.std.specs.Arc.{arc_value};
     ghost use Rattle.cc_ast.specs.Source.{source};
-    ghost use Rattle.cc_typing.specs.Typed.{defined_names};
-    ghost use Rattle.cc_typing.specs.Limits.{most_functions};
+    ghost use Rattle.cc_types.specs.Typed.{defined_names};
+    ghost use Rattle.cc_types.specs.Limits.{most_functions};
     ghost use Rattle.cc_pool.specs.Job.{Task};
 
     ghost Value = { Task };

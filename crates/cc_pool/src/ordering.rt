@@ -12,7 +12,7 @@ ghost use Rattle.cc_pool.specs.internal.Reason.{IsOf, IsReason};
 use crate::answer::{Answer, Refusal};
 use crate::fault::PoolFault;
 use cc_emit::Piece;
-use cc_typing::TypedUnit;
+use cc_types::TypedUnit;
 use crossbeam_channel::Receiver;
 use std::alloc::{AllocError, Global};
 use std::sync::Wait;

@@ -3,7 +3,7 @@
 ghost use Rattle.std.specs.Prelude.{◌≡◌, ◌≤◌, ◌++◌, [], length, All, IfOk, IfErr, OnOk};
 ghost use Rattle.std.specs.Arc.{arc_value};
 ghost use Rattle.cc_ast.specs.Source.{source};
-ghost use Rattle.cc_typing.specs.Typed.{defined_names};
+ghost use Rattle.cc_types.specs.Typed.{defined_names};
 ghost use Rattle.cc_link.specs.Made.{IsCompiled};
 ghost use Rattle.cc_link.specs.Pieces.{AreFrom};
 ghost use Rattle.cc_pool.specs.Fault.{IsJobRefusal};
@@ -19,7 +19,7 @@ use crate::named::Queued;
 use crate::seats::{Drained, Own, Pass, Taker};
 use crate::ticket::Ticket;
 use cc_emit::Piece;
-use cc_typing::TypedUnit;
+use cc_types::TypedUnit;
 use crossbeam_channel::{Receiver, Sender, bounded};
 use std::alloc::Global;
 use std::marker::Model;

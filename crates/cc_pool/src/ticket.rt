@@ -3,7 +3,7 @@
 ghost use Rattle.std.specs.Prelude.{◌≡◌, length, All, IfOk, IfErr};
 ghost use Rattle.std.specs.Arc.{arc_value};
 ghost use Rattle.cc_ast.specs.Source.{source};
-ghost use Rattle.cc_typing.specs.Typed.{defined_names};
+ghost use Rattle.cc_types.specs.Typed.{defined_names};
 ghost use Rattle.cc_link.specs.Made.{IsCompiled};
 ghost use Rattle.cc_link.specs.Pieces.{AreFrom};
 ghost use Rattle.cc_pool.specs.Fault.{IsJobRefusal};
@@ -12,7 +12,7 @@ use crate::answer::Answer;
 use crate::fault::PoolFault;
 use crate::ordering::{gather, in_order};
 use cc_emit::Piece;
-use cc_typing::TypedUnit;
+use cc_types::TypedUnit;
 use crossbeam_channel::Receiver;
 use std::alloc::Global;
 use std::marker::Model;
@@ -40,7 +40,7 @@ impl Model for Ticket {
     ghost use Rattle.std.specs.Prelude.{length};
     ghost use Rattle.std.specs.Arc.{arc_value};
     ghost use Rattle.cc_ast.specs.Source.{source};
-    ghost use Rattle.cc_typing.specs.Typed.{defined_names};
+    ghost use Rattle.cc_types.specs.Typed.{defined_names};
     ghost use Rattle.cc_pool.specs.Job.{Job};
 
     ghost Value = { Job };

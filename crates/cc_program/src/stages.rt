@@ -11,7 +11,7 @@ use super::unknown::explain_unknown;
 use super::work::{Performed, read_text, refused, status};
 use cc_link::typed_unit;
 use cc_stages::{StagesFault, stages};
-use cc_typing::TypedUnit;
+use cc_types::TypedUnit;
 use std::alloc::{AllocError, Global};
 use std::io::{self, Read, Write};
 

@@ -4,10 +4,10 @@ use Rattle.cc_tokens.specs.declared.scalar.Scalar.{Scalar}
 use Rattle.cc_ast.specs.Erase.{external_trees}
 use Rattle.cc_ast.specs.declared.ast.External as declared
 use Rattle.cc_ast.specs.Tree.{Stmts, Signature, Object, External, Declaration, Definition, Objects}
-use Rattle.cc_typing.specs.Bindings.{file_level, file_of}
-use Rattle.cc_typing.specs.Scope.{FileScope, first_file_scope, with_function, with_objects, file_scope_behind}
-use Rattle.cc_typing.specs.Typed.{definitions}
-use Rattle.cc_typing.proofs.FileScopes.{with_objects-same}
+use Rattle.cc_types.specs.Bindings.{file_level, file_of}
+use Rattle.cc_types.specs.Scope.{FileScope, first_file_scope, with_function, with_objects, file_scope_behind}
+use Rattle.cc_types.specs.Typed.{definitions}
+use Rattle.cc_types.proofs.FileScopes.{with_objects-same}
 use Rattle.cc_resolve.specs.Layout.{Layout, layout_of}
 use Rattle.cc_resolve.specs.Environment.{Environment, environment_of, environments_from, environments}
 

@@ -3,9 +3,9 @@
 use Rattle.std.specs.Prelude.{ℕ, suc, ◌+◌, List, [], ◌∷◌, ◌++◌, map, Option, Some, None, if◌then◌else◌, option_map, codes}
 use Rattle.cc_words.specs.declared.operators.Width.TheVariants.{Word}
 use Rattle.cc_ast.specs.Tree.{Name, Object, External}
-use Rattle.cc_typing.specs.Names.{same_name}
-use Rattle.cc_typing.specs.Types.{object_elements, object_width, initial_words}
-use Rattle.cc_typing.specs.Limits.{objects, object_name, function_names}
+use Rattle.cc_types.specs.Names.{same_name}
+use Rattle.cc_types.specs.Types.{object_elements, object_width, initial_words}
+use Rattle.cc_types.specs.Limits.{objects, object_name, function_names}
 use Rattle.cc_resolve.specs.declared.layout.Extent.{Extent}
 use Rattle.cc_resolve.specs.declared.layout.Callee.{Callee}
 use Rattle.cc_resolve.specs.declared.layout.Callee.TheVariants.{WriteWord, ReadWord, Defined}

@@ -1,11 +1,11 @@
 -- How the code keeps where names lead: the names of the objects and of the functions of a unit.
 use Rattle.std.specs.Prelude.{ℕ, suc, ◌≡◌, ◌≤◌, List, [], ◌∷◌, length, map, Option, Some, None, if◌then◌else◌, option_map}
 use Rattle.std.specs.Borrow.{Bor}
-use Rattle.cc_typing.specs.Names.{same_name}
-use Rattle.cc_typing.specs.Numberings.{AreNumbers, number_of_name, at_number}
-use Rattle.cc_typing.specs.Entities.{names_in}
+use Rattle.cc_types.specs.Names.{same_name}
+use Rattle.cc_types.specs.Numberings.{AreNumbers, number_of_name, at_number}
+use Rattle.cc_types.specs.Entities.{names_in}
 use Rattle.cc_resolve.specs.Layout.{LaidObject}
-use Rattle.cc_typing.specs.Scope as scope
+use Rattle.cc_types.specs.Scope as scope
 use Rattle.cc_resolve.specs.declared.layout.Extent.{Extent}
 
 -- how many names stand before a name, where it is one of them

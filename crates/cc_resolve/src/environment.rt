@@ -2,16 +2,16 @@
 
 ghost use Rattle.std.specs.Prelude.{◌≡◌, ◌≤◌, [], ◌∷◌, length, drop, None, Some, IfOk, OnOk};
 ghost use Rattle.cc_ast.specs.Erase.{parameter_tree};
-ghost use Rattle.cc_typing.specs.Scope.{parameter_declared, with_declared, first_file_scope, found};
-ghost use Rattle.cc_typing.specs.Entities.{entity_of};
-ghost use Rattle.cc_typing.specs.Bindings.{closed, file_level};
-ghost use Rattle.cc_typing.specs.Types.{variable_type, element_type, result_type, or_int};
+ghost use Rattle.cc_types.specs.Scope.{parameter_declared, with_declared, first_file_scope, found};
+ghost use Rattle.cc_types.specs.Entities.{entity_of};
+ghost use Rattle.cc_types.specs.Bindings.{closed, file_level};
+ghost use Rattle.cc_types.specs.Types.{variable_type, element_type, result_type, or_int};
 ghost use Rattle.cc_resolve.specs.Environment.{inner, number_in, with_local, types_in};
 ghost use Rattle.cc_resolve.specs.Layout.{callee, extent_of, object_number};
 
 use super::layout::{Callee, Extent, Layout};
 use cc_ast::{Parameter, Scalar};
-use cc_typing::{Bindings, Entity, Scope};
+use cc_types::{Bindings, Entity, Scope};
 use std::alloc::{AllocError, Global};
 use std::marker::Model;
 

@@ -4,7 +4,7 @@ ghost use Rattle.std.specs.Prelude.{◌≡◌, [], ◌∷◌, ◌++◌, length, 
 ghost use Rattle.cc_resolve.specs.Layout.{callee, extent_of, names_before, object_number};
 
 use super::places::Places;
-use cc_typing::{READ_WORD, WRITE_WORD};
+use cc_types::{READ_WORD, WRITE_WORD};
 use cc_words::Width;
 use std::alloc::{AllocError, Global};
 use std::marker::Model;

@@ -3,17 +3,17 @@
 ghost use Rattle.std.specs.Prelude.{◌≡◌, ◌≤◌, ◌+◌, ◌%◌, ◌^◌, [], ◌∷◌, ◌++◌, Some, length, map, replicate, OnOk, IfOk};
 ghost use Rattle.cc_ast.specs.Erase.{constant_tree, constant_trees, optional_constant, object_tree, object_trees};
 ghost use Rattle.cc_ast.specs.Tree as tree;
-ghost use Rattle.cc_typing.specs.Bindings.{file_level, file_of};
-ghost use Rattle.cc_typing.specs.Limits.{object_name};
+ghost use Rattle.cc_types.specs.Bindings.{file_level, file_of};
+ghost use Rattle.cc_types.specs.Limits.{object_name};
 ghost use Rattle.cc_resolve.specs.Layout.{laid_from, all_words};
 ghost use Rattle.cc_resolve.specs.internal.Laying.{offset_behind};
-ghost use Rattle.cc_typing.specs.Scope.{with_object, with_objects};
-ghost use Rattle.cc_typing.specs.Types.{initial_word, initial_words, object_elements, object_width};
+ghost use Rattle.cc_types.specs.Scope.{with_object, with_objects};
+ghost use Rattle.cc_types.specs.Types.{initial_word, initial_words, object_elements, object_width};
 
 use super::environment::Environment;
 use super::layout::{Extent, Layout};
 use cc_ast::{ConstantExpression, Object, Scalar};
-use cc_typing::{Entity, array_length, constant_word, object_elements};
+use cc_types::{Entity, array_length, constant_word, object_elements};
 use cc_words::Width;
 use std::alloc::AllocError;
 

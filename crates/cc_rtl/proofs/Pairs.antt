@@ -1,7 +1,7 @@
 -- What is generated of a function's Cminor is a pair of RTL.
 use Rattle.std.proofs.Common.{◌≡◌, ℕ, suc, ◌<◌, ◌≤◌, List, length, Some, slice_get, sym, ap, ◌∙◌, subst}
 use Rattle.cc_ast.specs.declared.unit.Unit as parsed
-use Rattle.cc_typing.specs.Typed.{IsTyped}
+use Rattle.cc_types.specs.Typed.{IsTyped}
 use Rattle.cc_semantics.specs.Meaning.{functions}
 use Rattle.cc_semantics.specs.Resolved.{arities}
 use Rattle.cc_runs.proofs.Simulating.{coarser}

@@ -3,16 +3,16 @@ use Rattle.std.proofs.Common.{◌≡◌, ℕ, zero, suc, ◌<◌, ◌≤◌, Boo
 use Rattle.std.proofs.lemmas.Bool.Decides.{nat_tests}
 use Rattle.std.proofs.lemmas.Option.{slice_get-map, slice_get_within}
 use Rattle.cc_ast.specs.Tree.{Name, Stmts, Parameter, Signature, External, Declaration, Definition, Objects, Source}
-use Rattle.cc_typing.specs.Limits.{too_many, most_parameters, parameter_excesses, external_excesses, externals_excesses, function_names}
-use Rattle.cc_typing.specs.Typed.{IsTyped, IsWithinLimits, definitions, defined_names}
-use Rattle.cc_typing.specs.declared.rule.RuleError.{RuleError}
+use Rattle.cc_types.specs.Limits.{too_many, most_parameters, parameter_excesses, external_excesses, externals_excesses, function_names}
+use Rattle.cc_types.specs.Typed.{IsTyped, IsWithinLimits, definitions, defined_names}
+use Rattle.cc_types.specs.declared.rule.RuleError.{RuleError}
 use Rattle.cc_semantics.specs.Meaning.{Function, functions, text_of}
 use Rattle.cc_semantics.specs.Resolved.{arities, IsResolved, FunctionsAreResolved}
 use Rattle.cc_ast.specs.Erase.{parameter_tree, signature_tree, statements_of}
 use Rattle.cc_ast.specs.Source.{source}
 use Rattle.cc_ast.specs.declared.unit.Unit as parsed
-use Rattle.cc_typing.specs.Defined.{definition_tree}
-use Rattle.cc_typing.specs.declared.typed.Definition.{Definition as Defined}
+use Rattle.cc_types.specs.Defined.{definition_tree}
+use Rattle.cc_types.specs.declared.typed.Definition.{Definition as Defined}
 
 prefix_none : (xs ys : List RuleError) → xs ++ ys ≡ [] → xs ≡ []
 prefix_none [] ys e = refl

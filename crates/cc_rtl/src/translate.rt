@@ -15,7 +15,7 @@ use crate::variables::with_statement;
 use cc_cminor::CminorPair;
 use cc_rtl_language::{Rtl, RtlPair};
 use cc_semantics::functions_are_resolved;
-use cc_typing::TypedUnit;
+use cc_types::TypedUnit;
 use std::alloc::Global;
 
 // How many parameters the function has: at most 8.

@@ -3,13 +3,13 @@
 ghost use Rattle.std.specs.Prelude.{◌≡◌, ◌<◌, [], ◌∷◌, length, All, IsSome};
 ghost use Rattle.std.specs.Arc.{arc_value};
 ghost use Rattle.cc_semantics.specs.Meaning.{functions};
-ghost use Rattle.cc_typing.specs.Typed.{IsTyped};
+ghost use Rattle.cc_types.specs.Typed.{IsTyped};
 ghost use Rattle.cc_rtl_language.specs.Rtl.{IsRtl, node_at};
 ghost use Rattle.cc_rtl_language.specs.Live.{without, MayGo};
 ghost use Rattle.cc_rtl_language.specs.Pair.{Pair, tree_of, AreCalls, HasParameters, KeepsUp, FollowsFunction, IsPair};
 
 use crate::rtl::Rtl;
-use cc_typing::TypedUnit;
+use cc_types::TypedUnit;
 use std::marker::Model;
 use std::sync::Arc;
 

@@ -2,7 +2,7 @@
 -- rate that the items had, times how many steps there were before constants went, and again before comparisons were joined.
 use Rattle.std.proofs.Common.{ℕ, ◌≤◌, List, length}
 use Rattle.cc_ast.specs.Tree.{External}
-use Rattle.cc_typing.specs.Typed.{IsWithinLimits}
+use Rattle.cc_types.specs.Typed.{IsWithinLimits}
 use Rattle.cc_semantics.specs.Meaning.{functions}
 use Rattle.cc_runs.specs.Meaning.{Meaning}
 use Rattle.cc_runs.specs.Tracks.{TracksForAll}

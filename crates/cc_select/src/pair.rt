@@ -3,7 +3,7 @@
 ghost use Rattle.std.specs.Prelude.{◌≡◌, ◌<◌, ◌≤◌, length};
 ghost use Rattle.std.specs.Arc.{arc_value};
 ghost use Rattle.cc_semantics.specs.Meaning.{functions};
-ghost use Rattle.cc_typing.specs.Typed.{IsTyped};
+ghost use Rattle.cc_types.specs.Typed.{IsTyped};
 ghost use Rattle.cc_ltl.specs.Ltl.{IsLtl};
 ghost use Rattle.cc_ltl.specs.Registers.{most_slots};
 ghost use Rattle.cc_linear_language.specs.Pair.{most_blocks, LtlKeepsUp};
@@ -12,7 +12,7 @@ ghost use Rattle.cc_select.specs.Pair.{Pair, tree_of, KeepsUp, IsPair};
 
 use crate::step::Step;
 use cc_ltl::Ltl;
-use cc_typing::TypedUnit;
+use cc_types::TypedUnit;
 use std::marker::Model;
 use std::sync::Arc;
 

@@ -2,7 +2,7 @@
 
 ghost use Rattle.std.specs.Prelude.{◌≡◌, IfOk};
 ghost use Rattle.cc_ast.specs.Source.{source};
-ghost use Rattle.cc_typing.specs.Typed.{IsWithinLimits};
+ghost use Rattle.cc_types.specs.Typed.{IsWithinLimits};
 ghost use Rattle.cc_select.specs.Selection.{trimmed, selected};
 
 use crate::constants::without_unread;
@@ -12,7 +12,7 @@ use crate::step::Step;
 use crate::table::settle;
 use crate::threading::chosen;
 use cc_linear_language::{Item, LinearPair};
-use cc_typing::TypedUnit;
+use cc_types::TypedUnit;
 use std::alloc::{AllocError, Global};
 
 // The steps without the constants that nobody reads, with comparisons and their tests as one.

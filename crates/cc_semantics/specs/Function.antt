@@ -2,7 +2,7 @@
 -- and what holds of both in each typed unit.
 use Rattle.std.specs.Prelude.{◌≡◌, ℕ, suc, ◌+◌, ◌-◌, ◌<◌, ◌≤◌, List, [], length, map, unwrap_or, slice_get}
 use Rattle.cc_ast.specs.Tree.{External, Source}
-use Rattle.cc_typing.specs.Typed.{IsTyped}
+use Rattle.cc_types.specs.Typed.{IsTyped}
 use Rattle.cc_runs.specs.Behavior.{IsPrefixOf}
 use Rattle.cc_semantics.specs.Outcome as outcome
 use Rattle.cc_semantics.specs.Outcome.{Stop, Outcome}

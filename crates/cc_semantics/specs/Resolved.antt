@@ -6,8 +6,8 @@ use Rattle.cc_words.specs.declared.operators.Width.TheVariants.{Word}
 use Rattle.cc_tokens.specs.declared.scalar.Scalar.{Scalar}
 use Rattle.cc_ast.specs.Tree as tree
 use Rattle.cc_ast.specs.Tree.{Expr, Exprs, none, more, Number, Variable, Element, Parenthesised, Unary, Cast, Binary, Conditional, Target, AtVariable, AtElement, Action, Assign, Step, Evaluate, Declarator, Beginning, Declares, Performs, Stmt, Stmts, end, next, Block, Perform, Return, Break, Continue, If, IfElse, While, DoWhile, For, Parameter, Signature, External, Definition}
-use Rattle.cc_typing.specs.Rules.{count_of}
-use Rattle.cc_typing.specs.Typed.{IsTyped, definitions}
+use Rattle.cc_types.specs.Rules.{count_of}
+use Rattle.cc_types.specs.Typed.{IsTyped, definitions}
 use Rattle.cc_resolve.specs.Layout.{object_number, extent_of, layout_of, callee}
 use Rattle.cc_resolve.specs.declared.layout.Extent.{Extent}
 use Rattle.cc_resolve.specs.declared.layout.Callee.{Callee}

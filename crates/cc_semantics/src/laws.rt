@@ -4,9 +4,6 @@ ghost use Rattle.cc_semantics.specs.Calls.{BodiesGoOn, BodiesKeepObjects, CallsA
 ghost use Rattle.cc_semantics.specs.Function.{TypedUnitsHaveMeaning, RunsGoOn};
 ghost use Rattle.cc_semantics.specs.Numbered.{CallsAreNumbered, ProgramsAreNumbered, TypedUnitsHaveMeanings};
 ghost use Rattle.cc_semantics.specs.Resolved.{FunctionsAreResolved};
-ghost use Rattle.cc_typing.specs.Verdict.{VerdictsAreOne, TextsHaveVerdicts};
-
-use cc_syntax::parse_is_determined;
 
 /// Each function of a typed unit has its meaning: a call with no step left is unfinished; where 1,024 calls are open a call
 /// spends a step and goes wrong; below that it is its body with one step less.
@@ -57,14 +54,6 @@ pub fn programs_call_main()
 pub fn functions_are_resolved()
     ensures { FunctionsAreResolved }
 {}
-
-/// What `parse` and then `check` answer is a function of the text, lack of memory set aside.
-pub fn verdicts_are_determined()
-    ensures one_verdict { VerdictsAreOne }
-    ensures some_verdict { TextsHaveVerdicts }
-{
-    parse_is_determined();
-}
 
 /// Each typed unit has a meaning by number, which its calls, its bodies and its run have by name.
 pub fn units_have_meanings()

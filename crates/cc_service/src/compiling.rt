@@ -2,7 +2,7 @@
 ghost use Rattle.std.specs.Prelude.{◌≡◌, length, All, IfErr, IfOk};
 ghost use Rattle.std.specs.Arc.{arc_value};
 ghost use Rattle.cc_ast.specs.Source.{source};
-ghost use Rattle.cc_typing.specs.Typed.{defined_names};
+ghost use Rattle.cc_types.specs.Typed.{defined_names};
 ghost use Rattle.cc_link.specs.Agree.{Agree};
 ghost use Rattle.cc_link.specs.Made.{IsCompiled};
 ghost use Rattle.cc_link.specs.Pieces.{AreFrom};
@@ -15,7 +15,7 @@ use crate::named::Named;
 use cc_emit::Piece;
 use cc_link::{CompiledUnit, LinkFault, link, typed_unit};
 use cc_pool::{Pass, Pool, PoolFault};
-use cc_typing::TypedUnit;
+use cc_types::TypedUnit;
 use std::alloc::Global;
 use std::sync::{Arc, Wait};
 

@@ -1,7 +1,7 @@
 -- Which names are those of functions.
 use Rattle.std.specs.Prelude.{ℕ, ◌≡◌, List, Some, slice_get}
 use Rattle.cc_ast.specs.Tree.{Source}
-use Rattle.cc_typing.specs.Typed.{defined_names}
+use Rattle.cc_types.specs.Typed.{defined_names}
 
 -- the unit defines a function of this name
 abbrev pub IsDefined : Source → (name : List ℕ) → Type 0

@@ -8,7 +8,7 @@ use crate::fault::StagesFault;
 use cc_emit::Piece;
 use cc_link::{compile_function, link};
 use cc_rv32::listing::list;
-use cc_typing::TypedUnit;
+use cc_types::TypedUnit;
 use std::alloc::{AllocError, Global};
 use std::sync::Arc;
 

@@ -4,7 +4,7 @@
 ghost use Rattle.std.specs.Prelude.{◌≡◌, ◌<◌, length, IfErr};
 ghost use Rattle.std.specs.Arc.{arc_value};
 ghost use Rattle.cc_ast.specs.Source.{source};
-ghost use Rattle.cc_typing.specs.Typed.{defined_names};
+ghost use Rattle.cc_types.specs.Typed.{defined_names};
 ghost use Rattle.cc_stages.specs.declared.fault.StagesFault.TheVariants.{UnknownFunction};
 
 use crate::fault::StagesFault;
@@ -19,7 +19,7 @@ use cc_live::{drop_faint, liveness};
 use cc_ltl::Ltl;
 use cc_rtl::{Rtl, RtlFault, RtlPair, to_rtl};
 use cc_select::{SelectedPair, select};
-use cc_typing::TypedUnit;
+use cc_types::TypedUnit;
 use cc_validate::{LtlPair, Refused, ValidateFault, validate};
 use std::alloc::{AllocError, Global};
 use std::io::{self, Write};

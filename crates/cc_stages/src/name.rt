@@ -2,12 +2,12 @@
 
 ghost use Rattle.std.specs.Prelude.{◌≡◌, ◌<◌, length};
 ghost use Rattle.cc_ast.specs.Source.{source};
-ghost use Rattle.cc_typing.specs.Typed.{defined_names};
+ghost use Rattle.cc_types.specs.Typed.{defined_names};
 ghost use Rattle.cc_stages.specs.declared.fault.StagesFault.TheVariants.{UnknownFunction};
 
 use crate::fault::StagesFault;
 use cc_link::PieceFault;
-use cc_typing::TypedUnit;
+use cc_types::TypedUnit;
 
 /// A function's name, and where it stands in the text.
 #[derive(Clone, Copy)]

@@ -3,7 +3,7 @@
 ghost use Rattle.std.specs.Prelude.{◌≡◌, ◌<◌, ℕ, Some, IsNone, IfSome, IfErr, IsErrOf, MatchOption, length, slice_get};
 ghost use Rattle.std.specs.Arc.{arc_value};
 ghost use Rattle.cc_ast.specs.Source.{source};
-ghost use Rattle.cc_typing.specs.Typed.{defined_names};
+ghost use Rattle.cc_types.specs.Typed.{defined_names};
 ghost use Rattle.cc_stages.specs.Named.{IsDefined};
 ghost use Rattle.cc_stages.specs.declared.fault.StagesFault.TheVariants.{UnknownFunction};
 
@@ -11,7 +11,7 @@ use crate::code::{Listing, list_unit};
 use crate::fault::StagesFault;
 use crate::function::write_function;
 use crate::stage::Stage;
-use cc_typing::TypedUnit;
+use cc_types::TypedUnit;
 use std::alloc::Global;
 use std::io::{self, Write};
 use std::sync::Arc;

@@ -6,17 +6,17 @@ use Rattle.cc_ast.specs.Tree.{External, Source}
 use Rattle.cc_tokens.specs.declared.fault.SyntaxFault.{SyntaxFault}
 use Rattle.cc_tokens.specs.Place.{place_of}
 use Rattle.cc_ast.specs.Parse.{IsParseAnswer, ParseAnswersAreOne, TextsHaveAnswers}
-use Rattle.cc_typing.specs.Fault.{fault_of, rule_number}
-use Rattle.cc_typing.specs.Limits.{excesses}
-use Rattle.cc_typing.specs.Rules.{errors, defines_main, undefined_calls}
-use Rattle.cc_typing.specs.Typed.{NotAfter, IsFirst, IsFaultOfFirst, all_errors, IsTypeAnswer, TypeAnswersAreOne, UnitsHaveTypeAnswers}
-use Rattle.cc_typing.specs.Verdict.{Verdict, NoTree, NotTyped, Program, source_with, IsVerdict, VerdictsAreOne, TextsHaveVerdicts}
+use Rattle.cc_types.specs.Fault.{fault_of, rule_number}
+use Rattle.cc_types.specs.Limits.{excesses}
+use Rattle.cc_types.specs.Rules.{errors, defines_main, undefined_calls}
+use Rattle.cc_types.specs.Typed.{NotAfter, IsFirst, IsFaultOfFirst, all_errors, IsTypeAnswer, TypeAnswersAreOne, UnitsHaveTypeAnswers}
+use Rattle.cc_types.specs.Verdict.{Verdict, NoTree, NotTyped, Program, source_with, IsVerdict, VerdictsAreOne, TextsHaveVerdicts}
 use Rattle.cc_typing.specs.internal.Findings.{noted}
-use Rattle.cc_typing.specs.declared.fault.TypeFault.{TypeFault}
-use Rattle.cc_typing.specs.declared.fault.TypeFault.TheVariants.{NoMain}
-use Rattle.cc_typing.specs.declared.rule.RuleError.{RuleError}
-use Rattle.cc_typing.specs.declared.rule.Rule.{Rule}
-use Rattle.cc_typing.specs.declared.rule.Rule.TheVariants.{Unknown, Redeclared, WrongKind, WrongCount, VoidValue, BadReturn, BadAssign, BadBreak, Undefined, TooMany}
+use Rattle.cc_types.specs.declared.fault.TypeFault.{TypeFault}
+use Rattle.cc_types.specs.declared.fault.TypeFault.TheVariants.{NoMain}
+use Rattle.cc_types.specs.declared.rule.RuleError.{RuleError}
+use Rattle.cc_types.specs.declared.rule.Rule.{Rule}
+use Rattle.cc_types.specs.declared.rule.Rule.TheVariants.{Unknown, Redeclared, WrongKind, WrongCount, VoidValue, BadReturn, BadAssign, BadBreak, Undefined, TooMany}
 use Rattle.cc_typing.proofs.First.{IsFirst-noted, noted-none}
 use Rattle.cc_typing.proofs.Verdict.{both_empty}
 

@@ -4,16 +4,17 @@ use Rattle.std.specs.Prelude.{not, is_some}
 use Rattle.cc_tokens.specs.declared.scalar.Scalar.{Scalar}
 use Rattle.cc_ast.specs.Tree as tree
 use Rattle.cc_ast.specs.Tree.{Parameter, Signature, Object, Single, Array, Bytes, External, Declaration, Definition, Objects, Stmts, ConstantExpr}
-use Rattle.cc_typing.specs.Bindings.{closed, file_level, file_of, file_with}
-use Rattle.cc_typing.specs.internal.Counts.{defined_in}
+use Rattle.cc_types.specs.Bindings.{closed, file_level, file_of, file_with}
+use Rattle.cc_types.specs.internal.Externals.{defined_in}
 use Rattle.cc_typing.specs.internal.Findings.{Found, after, with_before, is_bad_length}
-use Rattle.cc_typing.specs.Scope.{Elements, Binding, Visible, in_scope, is_declared, FileScope, has_name, with_declared, with_function, with_object, with_objects, parameter_declared, parameters_declared, body_scope, file_scope_behind}
-use Rattle.cc_typing.specs.Rules.{Around, broken_if, optional_constant_errors, constants_errors, length_errors, named_array_errors, object_errors, objects_errors, parameter_errors, parameters_errors, signature_errors, external_errors, externals_errors, statements_errors, called_in_constants, called_in_optional_constant, called_in_object, called_in_objects, called_in_external, called, called_in_statements}
-use Rattle.cc_typing.specs.declared.rule.RuleError.{RuleError}
-use Rattle.cc_typing.specs.declared.rule.Rule.TheVariants.{Redeclared, WrongCount}
-use Rattle.cc_typing.specs.Entities.{optional_entity}
-use Rattle.cc_typing.specs.Types.{array_length}
-use Rattle.cc_typing.specs.declared.entity.Entity as code
+use Rattle.cc_types.specs.Scope.{Elements, Binding, Visible, in_scope, is_declared, FileScope, has_name, with_declared, with_function, with_object, with_objects, parameter_declared, parameters_declared, body_scope, file_scope_behind}
+use Rattle.cc_types.specs.Rules.{Around, broken_if, optional_constant_errors, constants_errors, length_errors, named_array_errors, object_errors, objects_errors, parameter_errors, parameters_errors, signature_errors, external_errors, externals_errors, statements_errors, called_in_constants, called_in_optional_constant, called_in_object, called_in_objects, called_in_external, called, called_in_statements}
+use Rattle.cc_types.specs.declared.rule.RuleError.{RuleError}
+use Rattle.cc_types.specs.declared.rule.Rule.TheVariants.{Redeclared, WrongCount}
+use Rattle.cc_types.specs.Entities.{optional_entity}
+use Rattle.cc_types.specs.Types.{array_length}
+use Rattle.cc_types.specs.declared.entity.Entity as code
+use Rattle.cc_types.proofs.FileScopes.{parameters_declared-outer, with_object-same, with_objects-same}
 use Rattle.cc_typing.proofs.Parts as parts
 use Rattle.cc_typing.proofs.Parts.{two, three}
 
@@ -70,24 +71,6 @@ Parametering-next v0 f0 all v f p rest v' f' before es ef = record {
 }
 
 -- ---- external declarations
-
--- parameters leave what is around them
-parameter_declared-outer : (t : Scalar) (x : Option tree.Name) (v : Visible) → (parameter_declared t x v).outer ≡ v.outer
-parameter_declared-outer t None v = refl
-parameter_declared-outer t (Some x) v = refl
-
-pub parameters_declared-outer : (ps : List Parameter) (v : Visible) → (parameters_declared ps v).outer ≡ v.outer
-parameters_declared-outer [] v = refl
-parameters_declared-outer (p ∷ ps) v = parameters_declared-outer ps (parameter_declared p.scalar p.name v) ∙ parameter_declared-outer p.scalar p.name v
-
-with_object-same : (t : Scalar) (o : Object) (g h : FileScope) → g.bindings ≡ h.bindings → (with_object t o g).bindings ≡ (with_object t o h).bindings
-with_object-same t (Single x initial) g h e = ap (λ bs. (with_object t (Single x initial) (record { bindings = bs; defined = [] })).bindings) e
-with_object-same t (Array x n values) g h e = ap (λ bs. (with_object t (Array x n values) (record { bindings = bs; defined = [] })).bindings) e
-with_object-same t (Bytes x n values) g h e = ap (λ bs. (with_object t (Bytes x n values) (record { bindings = bs; defined = [] })).bindings) e
-
-pub with_objects-same : (t : Scalar) (os : List Object) (g h : FileScope) → g.bindings ≡ h.bindings → (with_objects t os g).bindings ≡ (with_objects t os h).bindings
-with_objects-same t [] g h e = e
-with_objects-same t (o ∷ os) g h e = with_objects-same t os (with_object t o g) (with_object t o h) (with_object-same t o g h e)
 
 with_object-defined : (t : Scalar) (o : Object) (g : FileScope) → (with_object t o g).defined ≡ g.defined
 with_object-defined t (Single x initial) g = refl

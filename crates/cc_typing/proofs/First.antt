@@ -3,10 +3,10 @@ use Rattle.std.proofs.Common.{◌≡◌, ℕ, ◌<◌, ◌≤◌, ◌⊎◌, inl
 use Rattle.std.specs.List.{AllByRecursion}
 use Rattle.std.proofs.lemmas.Bool.Decides.{nat_tests}
 use Rattle.std.proofs.lemmas.List.Elements.{Contains-append_right}
-use Rattle.cc_typing.specs.Fault.{rule_number}
-use Rattle.cc_typing.specs.Typed.{NotAfter, IsFirst}
+use Rattle.cc_types.specs.Fault.{rule_number}
+use Rattle.cc_types.specs.Typed.{NotAfter, IsFirst}
 use Rattle.cc_typing.specs.internal.Findings.{is_before, earlier, noted}
-use Rattle.cc_typing.specs.declared.rule.RuleError.{RuleError}
+use Rattle.cc_types.specs.declared.rule.RuleError.{RuleError}
 
 -- the order of errors, on numbers
 order-true : (a b m n : ℕ) → (nat_lt a b || (a == b && nat_lt m n)) ≡ true → (a < b) ⊎ ((a ≡ b) × (m ≤ n))

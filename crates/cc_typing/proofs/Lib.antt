@@ -1,15 +1,8 @@
-pub mod KeyOrder
-pub mod NameNumbers
-pub mod Tables
-pub mod Numbers
 pub mod States
-pub mod SameTypes
 pub mod Parts
-pub mod Trees
 pub mod Walks
 pub mod FileScopes
-pub mod Counting
+pub mod Excesses
 pub mod First
 pub mod Verdict
 pub mod Determined
-pub mod Definitions

@@ -1,11 +1,11 @@
 -- What is found in one part and then in the next is found in both.
 use Rattle.std.proofs.Common.{◌≡◌, ℕ, true, false, List, [], ◌∷◌, ◌++◌, Option, Some, refl, sym, ap, ◌∙◌, append_assoc}
 use Rattle.cc_ast.specs.Tree.{Name}
-use Rattle.cc_typing.specs.Rules.{undefined_among, broken_if}
-use Rattle.cc_typing.specs.Scope.{has_name}
+use Rattle.cc_types.specs.Rules.{undefined_among, broken_if}
+use Rattle.cc_types.specs.Scope.{has_name}
 use Rattle.cc_typing.specs.internal.Findings.{Found, earlier, noted, after}
-use Rattle.cc_typing.specs.declared.rule.RuleError.{RuleError}
-use Rattle.cc_typing.specs.declared.rule.Rule.TheVariants.{Undefined}
+use Rattle.cc_types.specs.declared.rule.RuleError.{RuleError}
+use Rattle.cc_types.specs.declared.rule.Rule.TheVariants.{Undefined}
 use Rattle.std.specs.Prelude.{not}
 
 pub noted-append : (f : Option RuleError) (xs ys : List RuleError) → noted (noted f xs) ys ≡ noted f (xs ++ ys)

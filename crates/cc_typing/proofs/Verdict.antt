@@ -2,19 +2,19 @@
 use Rattle.std.proofs.Common.{◌≡◌, inl, inr, true, false, List, [], ◌∷◌, ◌++◌, length, Option, Some, None, refl, sym, ap, ◌∙◌}
 use Rattle.cc_ast.specs.Tree.{Source, External}
 use Rattle.cc_tokens.specs.Place.{place_of}
-use Rattle.cc_typing.specs.Checked.{IsChecked}
+use Rattle.cc_types.specs.Checked.{IsChecked}
 use Rattle.cc_typing.specs.internal.Counts.{all_defined}
-use Rattle.cc_typing.specs.Fault.{fault_of}
-use Rattle.cc_typing.specs.Bindings.{file_level, file_with}
+use Rattle.cc_types.specs.Fault.{fault_of}
+use Rattle.cc_types.specs.Bindings.{file_level, file_with}
 use Rattle.cc_typing.specs.internal.Findings.{Found, noted, nothing_found}
 use Rattle.cc_typing.specs.internal.Functions.{Functions}
-use Rattle.cc_typing.specs.Limits.{excesses}
-use Rattle.cc_typing.specs.Rules.{errors, defines_main, undefined_among, undefined_calls, called, externals_errors}
-use Rattle.cc_typing.specs.Scope.{Visible, FileScope, first_file_scope, file_scope_behind, file_scope_behind_all}
-use Rattle.cc_typing.specs.Typed.{IsTypeRefusal, all_errors}
-use Rattle.cc_typing.specs.declared.fault.TypeFault.{TypeFault}
-use Rattle.cc_typing.specs.declared.fault.TypeFault.TheVariants.{NoMain}
-use Rattle.cc_typing.specs.declared.rule.RuleError.{RuleError}
+use Rattle.cc_types.specs.Limits.{excesses}
+use Rattle.cc_types.specs.Rules.{errors, defines_main, undefined_among, undefined_calls, called, externals_errors}
+use Rattle.cc_types.specs.Scope.{Visible, FileScope, first_file_scope, file_scope_behind, file_scope_behind_all}
+use Rattle.cc_types.specs.Typed.{IsTypeRefusal, all_errors}
+use Rattle.cc_types.specs.declared.fault.TypeFault.{TypeFault}
+use Rattle.cc_types.specs.declared.fault.TypeFault.TheVariants.{NoMain}
+use Rattle.cc_types.specs.declared.rule.RuleError.{RuleError}
 use Rattle.cc_typing.proofs.First.{IsFirst-noted, noted-none}
 use Rattle.cc_typing.proofs.FileScopes.{defined-behind}
 use Rattle.cc_typing.proofs.Parts.{noted-append}

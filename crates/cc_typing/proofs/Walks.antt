@@ -1,15 +1,15 @@
 -- The walk over statements, part by part.
-use Rattle.std.proofs.Common.{◌≡◌, ℕ, ◌+◌, ◌≤◌, Result, Ok, Err, OnOk, List, [], ◌∷◌, ◌++◌, length, length-append, take, drop, Option, Some, None, refl, sym, ap, ◌∙◌, append_assoc, arith}
+use Rattle.std.proofs.Common.{◌≡◌, ℕ, ◌+◌, ◌≤◌, List, [], ◌∷◌, ◌++◌, length, length-append, take, drop, Option, Some, None, refl, sym, ap, ◌∙◌, append_assoc, arith}
 use Rattle.std.proofs.Math.Seq.{take-append_seam, drop-append_seam}
 use Rattle.cc_tokens.specs.declared.scalar.Scalar.{Scalar}
 use Rattle.cc_ast.specs.Tree as tree
 use Rattle.cc_ast.specs.Tree.{Expr, Declarator, Beginning, Action, Stmt, Stmts, next, If, IfElse, While, DoWhile, For, Declares, Performs}
-use Rattle.cc_typing.specs.Bindings.{closed}
+use Rattle.cc_types.specs.Bindings.{closed}
 use Rattle.cc_typing.specs.internal.Findings.{Found, after, declarator_errors, is_bad_return}
-use Rattle.cc_typing.specs.Scope.{Variable, Binding, Visible, in_scope, opened, declared, is_declared, all_declared, scope_behind, scope_behind_beginning}
-use Rattle.cc_typing.specs.Rules.{broken_if, Around, within_loop, value_errors, optional_errors, optional_action_errors, declared_errors, beginning_errors, return_errors, statement_errors, statements_errors, called_in, called_in_optional, called_in_optional_action, called_in_declared, called_in_beginning, called_in_statement, called_in_statements}
-use Rattle.cc_typing.specs.declared.rule.RuleError.{RuleError}
-use Rattle.cc_typing.specs.declared.rule.Rule.TheVariants.{Redeclared, BadReturn}
+use Rattle.cc_types.specs.Scope.{Variable, Binding, Visible, in_scope, opened, declared, is_declared, all_declared, scope_behind, scope_behind_beginning}
+use Rattle.cc_types.specs.Rules.{broken_if, Around, within_loop, value_errors, optional_errors, optional_action_errors, declared_errors, beginning_errors, return_errors, statement_errors, statements_errors, called_in, called_in_optional, called_in_optional_action, called_in_declared, called_in_beginning, called_in_statement, called_in_statements}
+use Rattle.cc_types.specs.declared.rule.RuleError.{RuleError}
+use Rattle.cc_types.specs.declared.rule.Rule.TheVariants.{Redeclared, BadReturn}
 use Rattle.cc_typing.proofs.Parts as parts
 use Rattle.cc_typing.proofs.Parts.{two, three}
 
@@ -156,8 +156,3 @@ Walking-next a v0 f0 all v f s rest v' f' before es ef = record {
       ∙ parts.next f f' _ (statement_errors s a v) (statements_errors rest a (scope_behind s v)) (statements_errors (next s rest) a v)
       (called_in_statement s) (called_in_statements rest) (called_in_statements (next s rest)) before.found refl refl ef;
 }
-
--- what follows from what holds on success holds on success
-pub on_ok : {T E P Q : Type 0} (r : Result T E) → (P → Q) → OnOk r P → OnOk r Q
-on_ok (Ok v) f h = f h
-on_ok (Err e) f h = tt

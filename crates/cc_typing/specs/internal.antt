@@ -1,5 +1,4 @@
 -- What only private contracts and proofs speak of.
-pub mod Scopes
 pub mod Functions
 pub mod Findings
 pub mod Counts

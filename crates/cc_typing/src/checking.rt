@@ -4,23 +4,20 @@ ghost use Rattle.std.specs.Prelude.{◌≡◌, ◌⊎◌, ◌++◌, [], None, If
 ghost use Rattle.cc_ast.specs.Source.{source};
 ghost use Rattle.cc_tokens.specs.Place.{place_of};
 ghost use Rattle.cc_ast.specs.Erase.{external_tree, external_trees};
-ghost use Rattle.cc_typing.specs.internal.Counts.{all_defined, defined_in};
-ghost use Rattle.cc_typing.specs.Fault.{fault_of};
+ghost use Rattle.cc_typing.specs.internal.Counts.{all_defined};
+ghost use Rattle.cc_types.specs.internal.Externals.{defined_in};
+ghost use Rattle.cc_types.specs.Fault.{fault_of};
 ghost use Rattle.cc_typing.specs.internal.Findings.{noted};
-ghost use Rattle.cc_typing.specs.Rules.{errors, is_main, defines_main, undefined_calls};
-ghost use Rattle.cc_typing.specs.Scope.{first_file_scope};
-ghost use Rattle.cc_typing.specs.Typed.{IsTyped, IsWithinLimits, IsTypeRefusal, TypeAnswersAreOne, UnitsHaveTypeAnswers, all_errors};
+ghost use Rattle.cc_types.specs.Rules.{errors, is_main, defines_main, undefined_calls};
+ghost use Rattle.cc_types.specs.Scope.{first_file_scope};
+ghost use Rattle.cc_types.specs.Typed.{IsTyped, IsWithinLimits, IsTypeRefusal, TypeAnswersAreOne, UnitsHaveTypeAnswers, all_errors};
 
-use super::entity::same_result;
 use super::externals::all_externals;
-use super::fault::TypeFault;
 use super::findings::Findings;
 use super::functions::Functions;
 use super::limits::with_excesses;
-use super::rule::{Rule, RuleError};
-use super::scope::{READ_WORD, Scope, WRITE_WORD};
-use super::typed::TypedUnit;
 use cc_ast::{External, Place, Scalar, Unit, place_at};
+use cc_types::{READ_WORD, Rule, RuleError, Scope, TypeFault, TypedUnit, WRITE_WORD, same_result};
 use std::alloc::{AllocError, Global};
 
 const MAIN: &[u8] = b"main";

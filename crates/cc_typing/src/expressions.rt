@@ -6,18 +6,16 @@
 ghost use Rattle.std.specs.Prelude.{◌≡◌, ◌==◌, [], not, length};
 ghost use Rattle.cc_ast.specs.Erase.{expression_tree, optional_tree, target_tree, action_tree, optional_action};
 ghost use Rattle.cc_ast.specs.internal.Arguments.{expressions_of};
-ghost use Rattle.cc_typing.specs.Entities.{optional_entity};
+ghost use Rattle.cc_types.specs.Entities.{optional_entity};
 ghost use Rattle.cc_typing.specs.internal.Findings.{after};
-ghost use Rattle.cc_typing.specs.declared.rule.Rule.TheVariants.{WrongCount};
-ghost use Rattle.cc_typing.specs.Types.{result_type};
-ghost use Rattle.cc_typing.specs.Rules.{broken_if, variable_errors, array_errors, function_errors, void_errors, expression_errors, argument_errors, value_errors, optional_errors, target_errors, action_errors, optional_action_errors, called_in, called_in_all, called_in_optional, called_in_target, called_in_action, called_in_optional_action};
-ghost use Rattle.cc_typing.specs.Scope.{found, in_scope};
+ghost use Rattle.cc_types.specs.declared.rule.Rule.TheVariants.{WrongCount};
+ghost use Rattle.cc_types.specs.Types.{result_type};
+ghost use Rattle.cc_types.specs.Rules.{broken_if, variable_errors, array_errors, function_errors, void_errors, expression_errors, argument_errors, value_errors, optional_errors, target_errors, action_errors, optional_action_errors, called_in, called_in_all, called_in_optional, called_in_target, called_in_action, called_in_optional_action};
+ghost use Rattle.cc_types.specs.Scope.{found, in_scope};
 
-use super::entity::Entity;
 use super::findings::Findings;
-use super::rule::Rule;
-use super::scope::Scope;
 use cc_ast::{Action, Expression, Identifier, Scalar, Target};
+use cc_types::{Entity, Rule, Scope};
 
 // A name that must be a variable. An array or a function there breaks the rule that is given.
 fn variable(scope: &Scope, findings: &mut Findings, name: &Identifier, misuse: Rule)

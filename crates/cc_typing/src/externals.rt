@@ -2,21 +2,18 @@
 
 ghost use Rattle.std.specs.Prelude.{◌≡◌, ◌++◌, ℕ, List, [], length, option_map, OnOk};
 ghost use Rattle.cc_ast.specs.Erase.{name_tree, constant_tree, optional_constant, constant_trees, object_tree, object_trees, parameter_tree, parameter_trees, signature_tree, external_tree, external_trees};
-ghost use Rattle.cc_typing.specs.Bindings.{file_level, file_of, file_with};
-ghost use Rattle.cc_typing.specs.internal.Counts.{defined_in};
+ghost use Rattle.cc_types.specs.Bindings.{file_level, file_of, file_with};
+ghost use Rattle.cc_types.specs.internal.Externals.{defined_in};
 ghost use Rattle.cc_typing.specs.internal.Findings.{after, noted, is_bad_length, with_before};
-ghost use Rattle.cc_typing.specs.Rules.{constant_errors, optional_constant_errors, constants_errors, named_array_errors, object_errors, objects_errors, parameter_errors, parameters_errors, signature_errors, external_errors, externals_errors, called_in_constant, called_in_optional_constant, called_in_constants, called_in_object, called_in_objects, called_in_external, called, undefined_among};
-ghost use Rattle.cc_typing.specs.Scope.{Elements, in_scope, has_name, with_declared, with_object, with_objects, parameter_declared, parameters_declared, body_scope, file_scope_behind};
+ghost use Rattle.cc_types.specs.Rules.{constant_errors, optional_constant_errors, constants_errors, named_array_errors, object_errors, objects_errors, parameter_errors, parameters_errors, signature_errors, external_errors, externals_errors, called_in_constant, called_in_optional_constant, called_in_constants, called_in_object, called_in_objects, called_in_external, called, undefined_among};
+ghost use Rattle.cc_types.specs.Scope.{Elements, in_scope, has_name, with_declared, with_object, with_objects, parameter_declared, parameters_declared, body_scope, file_scope_behind};
 
 use super::around::Surroundings;
-use super::constants::{array_length, constant_word};
-use super::entity::{Entity, differs};
 use super::expressions::value;
 use super::findings::Findings;
-use super::rule::Rule;
-use super::scope::Scope;
 use super::statements::all_statements;
 use cc_ast::{ConstantExpression, External, Identifier, Object, Parameter, Scalar, Signature};
+use cc_types::{Entity, Rule, Scope, array_length, constant_word, differs};
 use std::alloc::AllocError;
 
 // A constant expression.

@@ -2,14 +2,14 @@
 
 ghost use Rattle.std.specs.Prelude.{◌≡◌, [], ◌∷◌, ◌≤◌, OnOk};
 ghost use Rattle.cc_ast.specs.Erase.{name_tree};
-ghost use Rattle.cc_typing.specs.Fault.{rule_number};
+ghost use Rattle.cc_types.specs.Fault.{rule_number};
 ghost use Rattle.cc_typing.specs.internal.Findings.{is_before, earlier, after, noted, nothing_found, with_before};
-ghost use Rattle.cc_typing.specs.Rules.{broken, broken_if};
-ghost use Rattle.cc_typing.specs.Scope.{has_name};
+ghost use Rattle.cc_types.specs.Rules.{broken, broken_if};
+ghost use Rattle.cc_types.specs.Scope.{has_name};
 
 use super::functions::Functions;
-use super::rule::{Rule, RuleError};
 use cc_ast::Identifier;
+use cc_types::{Rule, RuleError};
 use std::alloc::AllocError;
 use std::marker::Model;
 

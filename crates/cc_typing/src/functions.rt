@@ -3,10 +3,10 @@
 // A function's name is numbered where it first appears, and the table from the numbers has what is known of the function.
 
 ghost use Rattle.std.specs.Prelude.{◌≡◌, [], ◌∷◌, OnOk};
-ghost use Rattle.cc_typing.specs.Scope.{has_name};
+ghost use Rattle.cc_types.specs.Scope.{has_name};
 ghost use Rattle.cc_typing.specs.internal.Functions.{is_defined, stands_before};
 
-use super::numbering::Numbering;
+use cc_types::Numbering;
 use indexmap::IndexMap;
 use std::alloc::{AllocError, Global};
 use std::marker::Model;

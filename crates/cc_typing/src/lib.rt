@@ -1,44 +1,25 @@
-// The rules of scope and type of the C profile, and its limits.
-//
-// `check` makes a `TypedUnit` of a parsed unit, or says which rule or limit it breaks first (`checking`, `fault`, `rule`).
-// One walk goes over file scope (`externals`), statements and expressions. It keeps the names in scope (`scope`, on `bindings`,
-// `numbering` and `entity`), the functions that are defined (`functions`), where a statement stands (`around`), and the first
-// of what it finds (`findings`). `limits` counts what is limited; `constants` has the values of constant expressions, and
-// `operators` the types in which operators work. Besides `check` and its types the crate hands out what a walk over a typed
-// unit needs again: the names in scope, the types of operators, the words of constants and objects, and how many locals a
-// body declares.
+//! The check of the rules of scope and type of the C profile, and of its limits: whether a parsed unit is a typed one, and which rule or
+//! limit it breaks first.
+//!
+//! `check` makes a `TypedUnit` of a parsed unit (`checking`). One walk goes over file scope (`externals`), `statements` and `expressions`,
+//! with the names in scope. It keeps the functions that are defined (`functions`), where a statement stands (`around`), and the first of
+//! what it finds (`findings`); `limits` counts what is limited. The types, what is in scope, and the rules' definitions are those of
+//! `cc_types`; what a caller of `check` and a walk over a typed unit need of it is handed out here too.
 #![tactic(auto)]
 
 mod around;
-mod bindings;
 mod checking;
-mod constants;
-mod entity;
 mod expressions;
 mod externals;
-mod fault;
 mod findings;
 mod functions;
 mod limits;
-mod numbering;
-mod operators;
-mod rule;
-mod scope;
 mod statements;
-mod typed;
 
-pub use bindings::{Bindings, Newest};
+pub use cc_types::{
+    Bindings, Definition, Entity, MOST_FUNCTIONS, MOST_LOCALS, MOST_PARAMETERS, MOST_WORDS, Newest,
+    Numbering, READ_WORD, Scope, TypeFault, TypedUnit, WRITE_WORD, applied_operator, array_length,
+    binary_type, common_type, constant_word, local_count, object_elements, object_words,
+    step_operator, unary_type, working_type,
+};
 pub use checking::{check, check_is_determined};
-pub use constants::{array_length, constant_word};
-pub use entity::Entity;
-pub use fault::TypeFault;
-pub use limits::{
-    MOST_FUNCTIONS, MOST_LOCALS, MOST_PARAMETERS, MOST_WORDS, local_count, object_elements,
-    object_words,
-};
-pub use numbering::Numbering;
-pub use operators::{
-    applied_operator, binary_type, common_type, step_operator, unary_type, working_type,
-};
-pub use scope::{READ_WORD, Scope, WRITE_WORD};
-pub use typed::{Definition, TypedUnit};

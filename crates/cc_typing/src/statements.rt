@@ -6,16 +6,14 @@ ghost use Rattle.std.specs.Prelude.{◌≡◌, OnOk};
 ghost use Rattle.cc_ast.specs.Erase.{expression_tree, optional_tree, optional_action, declarator_tree, declarator_trees, beginning_tree, statement_tree, statements_of};
 ghost use Rattle.cc_ast.specs.Tree as tree;
 ghost use Rattle.cc_typing.specs.internal.Findings.{after, around_of, declarator_errors, is_bad_return};
-ghost use Rattle.cc_typing.specs.Rules.{within_loop, declared_errors, beginning_errors, return_errors, statement_errors, statements_errors, called_in_optional, called_in_declared, called_in_beginning, called_in_statement, called_in_statements};
-ghost use Rattle.cc_typing.specs.Scope.{Variable, in_scope, opened, declared, all_declared, scope_behind, scope_behind_beginning};
+ghost use Rattle.cc_types.specs.Rules.{within_loop, declared_errors, beginning_errors, return_errors, statement_errors, statements_errors, called_in_optional, called_in_declared, called_in_beginning, called_in_statement, called_in_statements};
+ghost use Rattle.cc_types.specs.Scope.{Variable, in_scope, opened, declared, all_declared, scope_behind, scope_behind_beginning};
 
 use super::around::Surroundings;
-use super::entity::Entity;
 use super::expressions::{optional_action, optional_value, value};
 use super::findings::Findings;
-use super::rule::Rule;
-use super::scope::Scope;
 use cc_ast::{Action, Beginning, Declarator, Expression, Scalar, Statement};
+use cc_types::{Entity, Rule, Scope};
 use std::alloc::AllocError;
 
 // One name of a declaration, which is in scope in its own initialiser.

@@ -3,14 +3,15 @@
 use cc_meaning::{
     MeaningFault, Stop, Words, calls_are_effects, calls_go_on, calls_keep_objects,
     functions_are_resolved, functions_have_meaning, interpret, names_have_numbers,
-    programs_call_main, runs_go_on, units_have_meanings, verdicts_are_determined,
+    programs_call_main, runs_go_on, units_have_meanings,
 };
 use cc_syntax::{
     Expression, External, Keyword, Place, Punctuator, Scalar, Statement, SyntaxFault,
     UnaryOperator, parse, parse_is_determined, place_at, tokens_are_determined,
     trees_are_determined,
 };
-use cc_typing::{TypeFault, TypedUnit, check, check_is_determined};
+use cc_types::{TypeFault, TypedUnit};
+use cc_typing::{check, check_is_determined};
 use std::alloc::{AllocError, Global};
 use std::test::Fail;
 
@@ -208,7 +209,6 @@ fn laws() {
     trees_are_determined();
     parse_is_determined();
     check_is_determined();
-    verdicts_are_determined();
     functions_have_meaning();
     runs_go_on();
     calls_are_effects();

@@ -6,7 +6,7 @@ use cc_resolve::{
     lay_out, leave_function, operation, unary_operation,
 };
 use cc_syntax::{BinaryOperator, Scalar, Statement, UnaryOperator};
-use cc_typing::{Definition, TypedUnit};
+use cc_types::{Definition, TypedUnit};
 use std::alloc::{AllocError, Global};
 use std::test::Fail;
 

@@ -10,7 +10,7 @@ use cc_link::{Audit, CompiledUnit, StoredUnit, audit, compile, link, typed_unit}
 use cc_live::{drop_dead, liveness};
 use cc_ltl::{read_ltl, write_ltl};
 use cc_rv32::image::{Code, Globals, Image};
-use cc_typing::TypedUnit;
+use cc_types::TypedUnit;
 use cc_validate::{Refused, validate};
 use std::alloc::Global;
 use std::sync::Arc;

@@ -6,7 +6,7 @@ use super::padded::{blocks, padded};
 use super::rows::{LONG, WORDS};
 use cc_link::{CompiledUnit, LinkFault, typed_unit};
 use cc_rv32::outcome::MachineOutcome;
-use cc_typing::TypedUnit;
+use cc_types::TypedUnit;
 use std::alloc::Global;
 use std::sync::Arc;
 use std::test::Fail;

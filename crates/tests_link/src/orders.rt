@@ -5,7 +5,7 @@ use super::rows::{LONG, QUOTIENTS, WORDS};
 use cc_emit::Piece;
 use cc_link::{CompiledUnit, LinkFault, compile_function, link, link_lent, typed_unit};
 use cc_rv32::outcome::MachineOutcome;
-use cc_typing::TypedUnit;
+use cc_types::TypedUnit;
 use std::alloc::{AllocError, Global};
 use std::sync::Arc;
 use std::test::Fail;

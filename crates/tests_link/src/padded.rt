@@ -9,7 +9,7 @@ use cc_linear::linearise;
 use cc_link::{CompiledUnit, LinkFault, link};
 use cc_ltl::{Block, Ltl, Move, Moves, Register};
 use cc_rtl::{RtlPair, to_rtl};
-use cc_typing::TypedUnit;
+use cc_types::TypedUnit;
 use cc_validate::{LtlPair, Refused, validate};
 use std::alloc::Global;
 use std::sync::Arc;

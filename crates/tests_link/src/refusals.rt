@@ -1,7 +1,7 @@
-// What `compile` refuses, and where.
+// What `compile` refuses, and where; and that a text comes to one program or one fault.
 
 use super::helpers::{Part, text_of};
-use cc_link::{BuildFault, PieceFault, compile};
+use cc_link::{BuildFault, PieceFault, compile, verdicts_are_determined};
 use std::alloc::Global;
 use std::test::Fail;
 
@@ -164,4 +164,10 @@ fn functions_with_too_many_nodes(rt: HostRuntime) -> Result<(), Fail> {
         assert!(rt; right, "{offset}");
     }
     Ok(())
+}
+
+// The contract is the law; the call does nothing.
+#[test]
+fn a_text_has_one_verdict() {
+    verdicts_are_determined();
 }

@@ -5,7 +5,7 @@ ghost use Rattle.std.specs.Prelude.{◌≡◌};
 
 use super::helpers::{Hold, LONG, are_of, repeat, unit};
 use cc_pool::{Fresh, Pass, Pool, Queued};
-use cc_typing::TypedUnit;
+use cc_types::TypedUnit;
 use std::alloc::{AllocError, Global};
 use std::marker::Brand;
 use std::sync::atomic::Ordering;

@@ -3,7 +3,7 @@
 use cc_emit::Piece;
 use cc_link::typed_unit;
 use cc_pool::{Gate, Pass, Queued};
-use cc_typing::TypedUnit;
+use cc_types::TypedUnit;
 use std::alloc::{AllocError, Global};
 use std::sync::Arc;
 use std::sync::atomic::{AtomicU64, Ordering};

@@ -6,7 +6,7 @@ use super::texts::{DIFFERENCE, EMPTY, LONG};
 use cc_colour::spill_all;
 use cc_ltl::{Ltl, Operation, read_ltl, write_ltl};
 use cc_rtl::RtlPair;
-use cc_typing::TypedUnit;
+use cc_types::TypedUnit;
 use cc_validate::validate;
 use std::alloc::Global;
 use std::sync::Arc;

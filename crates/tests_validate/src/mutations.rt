@@ -9,7 +9,7 @@ use super::world::{Stop, World};
 use cc_colour::spill_all;
 use cc_ltl::{Block, Ltl, Move, Operation};
 use cc_rtl::RtlPair;
-use cc_typing::TypedUnit;
+use cc_types::TypedUnit;
 use cc_validate::validate;
 use std::alloc::{AllocError, Global};
 use std::sync::Arc;

@@ -3,7 +3,8 @@
 use cc_cminor::to_cminor;
 use cc_rtl::{RtlPair, to_rtl};
 use cc_syntax::parse;
-use cc_typing::{TypedUnit, check};
+use cc_types::TypedUnit;
+use cc_typing::check;
 use std::alloc::Global;
 use std::sync::Arc;
 use std::test::Fail;

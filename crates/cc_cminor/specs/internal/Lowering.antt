@@ -13,8 +13,8 @@ use Rattle.cc_ast.specs.declared.ast.BinaryOperator.TheVariants as source
 use Rattle.cc_ast.specs.declared.ast.UnaryOperator.{UnaryOperator}
 use Rattle.cc_ast.specs.Tree as tree
 use Rattle.cc_ast.specs.Tree.{Expr, Exprs, none, more, Number, Variable, Element, Parenthesised, Cast, Conditional, Target, AtVariable, AtElement, Action, Assign, Step, Evaluate, Declarator, Beginning, Declares, Performs, Stmt, Stmts, end, next, Perform, Break, Continue, IfElse, While, DoWhile, For}
-use Rattle.cc_typing.specs.Operators.{working_type, applied_operator, step_operator}
-use Rattle.cc_typing.specs.Types.{value_type, target_type}
+use Rattle.cc_types.specs.Operators.{working_type, applied_operator, step_operator}
+use Rattle.cc_types.specs.Types.{value_type, target_type}
 use Rattle.cc_resolve.specs.Layout.{Layout, object_number, extent_of, callee}
 use Rattle.cc_resolve.specs.Environment.{Environment, number_in, types_in, inner, with_local, behind, behind_beginning}
 use Rattle.cc_resolve.specs.Operations.{operation, unary_operation}

@@ -4,8 +4,8 @@ use Rattle.std.specs.Global.{Box}
 use Rattle.cc_tokens.specs.declared.scalar.Scalar.{Scalar}
 use Rattle.cc_ast.specs.declared.ast.BinaryOperator.{BinaryOperator}
 use Rattle.cc_ast.specs.Tree.{Expr, Target, AtVariable, AtElement}
-use Rattle.cc_typing.specs.Scope.{found}
-use Rattle.cc_typing.specs.Types.{variable_type, element_type}
+use Rattle.cc_types.specs.Scope.{found}
+use Rattle.cc_types.specs.Types.{variable_type, element_type}
 use Rattle.cc_resolve.specs.Layout.{Layout}
 use Rattle.cc_resolve.specs.Environment.{Environment, types_in}
 use Rattle.cc_words.specs.declared.operators.Binary as two

@@ -8,7 +8,7 @@ use cc_syntax::{
     Action, AssignmentOperator, BinaryOperator, Expression, Identifier, StepOperator, Target,
 };
 use cc_tokens::Scalar;
-use cc_typing::{
+use cc_types::{
     Entity, applied_operator, binary_type, common_type, step_operator, unary_type, working_type,
 };
 use cc_words::Width;

@@ -5,7 +5,7 @@ use crate::code::Instruction;
 use crate::names::{Lead, Standing};
 use cc_syntax::{Action, Beginning, Declarator, Expression, Statement};
 use cc_tokens::Scalar;
-use cc_typing::Entity;
+use cc_types::Entity;
 
 /// How many jumps out of loops were open before a loop.
 #[derive(Clone, Copy)]

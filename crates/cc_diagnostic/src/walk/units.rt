@@ -10,7 +10,7 @@ use cc_syntax::{
     ConstantExpression, External, Identifier, Object, Parameter, Signature, Statement,
 };
 use cc_tokens::Scalar;
-use cc_typing::{Entity, array_length};
+use cc_types::{Entity, array_length};
 use cc_words::Width;
 use std::alloc::AllocError;
 

@@ -1,7 +1,7 @@
 -- The addresses of a unit's objects as a table.
 use Rattle.std.specs.Prelude.{ℕ, ◌+◌, ◌-◌, ◌*◌, List, [], ◌∷◌, length, get_or, min}
 use Rattle.cc_ast.specs.Tree.{Object}
-use Rattle.cc_typing.specs.Types.{object_words}
+use Rattle.cc_types.specs.Types.{object_words}
 
 -- the address of an object; from the last entry on all have the address behind the last object
 abbrev pub base_in : (bases : List ℕ) → (object : ℕ) → ℕ

@@ -3,7 +3,7 @@
 ghost use Rattle.std.specs.Prelude.{◌≡◌, ◌++◌, OnOk};
 ghost use Rattle.cc_ast.specs.Tree as tree;
 ghost use Rattle.cc_ast.specs.Erase.{expression_tree, target_tree, action_tree, optional_action};
-ghost use Rattle.cc_typing.specs.Types.{target_type};
+ghost use Rattle.cc_types.specs.Types.{target_type};
 ghost use Rattle.cc_resolve.specs.Environment.{types_in};
 ghost use Rattle.cc_meaning.specs.internal.Form.{applied, action_code, optional_action_code};
 ghost use Rattle.cc_meaning.specs.internal.Emitted.{index_code, write_of};
@@ -16,7 +16,7 @@ use cc_ast::{
     Action, AssignmentOperator, BinaryOperator, Expression, Scalar, StepOperator, Target,
 };
 use cc_resolve::{BinaryOperation, Environment, operation};
-use cc_typing::{applied_operator, step_operator, working_type};
+use cc_types::{applied_operator, step_operator, working_type};
 use std::alloc::AllocError;
 
 // The operation that an assignment applies, of a target and a right side of these types.

@@ -6,9 +6,9 @@ ghost use Rattle.std.specs.Prelude.{◌≡◌, ◌-◌, ◌<◌, ◌≤◌, ◌�
 ghost use Rattle.cc_ast.specs.Erase.{name_tree, expression_tree, optional_tree};
 ghost use Rattle.cc_ast.specs.internal.Arguments.{expressions_of};
 ghost use Rattle.cc_ast.specs.Tree as tree;
-ghost use Rattle.cc_typing.specs.Operators.{working_type};
-ghost use Rattle.cc_typing.specs.Scope.{found};
-ghost use Rattle.cc_typing.specs.Types.{variable_type, element_type, result_type, or_int, value_type};
+ghost use Rattle.cc_types.specs.Operators.{working_type};
+ghost use Rattle.cc_types.specs.Scope.{found};
+ghost use Rattle.cc_types.specs.Types.{variable_type, element_type, result_type, or_int, value_type};
 ghost use Rattle.cc_resolve.specs.Environment.{types_in};
 ghost use Rattle.cc_resolve.specs.Layout.{extent_of};
 ghost use Rattle.cc_resolve.specs.Operations.{operation};
@@ -21,7 +21,7 @@ use crate::emitter::Emitter;
 use crate::form::Instruction;
 use cc_ast::{BinaryOperator, Expression, Identifier, Scalar, UnaryOperator};
 use cc_resolve::{Environment, operation, unary_operation};
-use cc_typing::{binary_type, common_type, unary_type, working_type};
+use cc_types::{binary_type, common_type, unary_type, working_type};
 use std::alloc::AllocError;
 
 fn unary(code: &mut Emitter, operator: UnaryOperator) -> Result<(), AllocError>

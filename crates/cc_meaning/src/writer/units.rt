@@ -2,11 +2,11 @@
 
 ghost use Rattle.std.specs.Prelude.{◌≡◌, ◌≤◌, [], ◌∷◌, ◌++◌, length, OnOk, IfOk};
 ghost use Rattle.cc_ast.specs.Erase.{signature_tree, statements_of, external_tree, external_trees};
-ghost use Rattle.cc_typing.specs.Bindings.{file_level, file_of};
+ghost use Rattle.cc_types.specs.Bindings.{file_level, file_of};
 ghost use Rattle.cc_meaning.specs.internal.FormErase.{form_tree, Resolves};
 ghost use Rattle.cc_meaning.specs.internal.Form.{function_code, functions_code, all_code, entries_from, unit_functions};
 ghost use Rattle.cc_resolve.specs.Layout.{layout_of};
-ghost use Rattle.cc_typing.specs.Scope.{first_file_scope, with_function, file_scope_behind};
+ghost use Rattle.cc_types.specs.Scope.{first_file_scope, with_function, file_scope_behind};
 
 use super::statements::{Exits, statements};
 use crate::emitter::Emitter;
@@ -15,7 +15,7 @@ use cc_ast::{External, Signature, Statement};
 use cc_resolve::{
     Environment, declare_function, declare_objects, enter_function, lay_out, leave_function,
 };
-use cc_typing::local_count;
+use cc_types::local_count;
 use std::alloc::{AllocError, Global};
 
 const MAIN: &[u8] = b"main";

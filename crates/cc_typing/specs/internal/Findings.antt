@@ -2,12 +2,12 @@
 use Rattle.std.specs.Prelude.{ℕ, ◌==◌, ◌&&◌, ◌||◌, ◌++◌, Bool, true, false, List, [], ◌∷◌, Option, Some, None, if◌then◌else◌, nat_lt}
 use Rattle.cc_tokens.specs.declared.scalar.Scalar.{Scalar}
 use Rattle.cc_ast.specs.Tree.{Name, Expr, Declarator}
-use Rattle.cc_typing.specs.Fault.{rule_number}
+use Rattle.cc_types.specs.Fault.{rule_number}
 use Rattle.cc_typing.specs.internal.Functions.{Functions}
-use Rattle.cc_typing.specs.Rules.{undefined_among, Around, broken_if, optional_errors}
-use Rattle.cc_typing.specs.Scope.{Variable, Visible, in_scope, declared, is_declared}
-use Rattle.cc_typing.specs.declared.rule.Rule.TheVariants.{Redeclared}
-use Rattle.cc_typing.specs.declared.rule.RuleError.{RuleError}
+use Rattle.cc_types.specs.Rules.{undefined_among, Around, broken_if, optional_errors}
+use Rattle.cc_types.specs.Scope.{Variable, Visible, in_scope, declared, is_declared}
+use Rattle.cc_types.specs.declared.rule.Rule.TheVariants.{Redeclared}
+use Rattle.cc_types.specs.declared.rule.RuleError.{RuleError}
 use Rattle.cc_typing.specs.declared.around.Surroundings.{Surroundings}
 
 -- one error comes before another

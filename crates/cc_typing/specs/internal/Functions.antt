@@ -1,9 +1,9 @@
 -- How the code keeps which functions are defined.
 use Rattle.std.specs.Prelude.{ℕ, ◌≡◌, ◌≤◌, Bool, false, List, length, reverse, Option, Some, None}
 use Rattle.std.specs.Borrow.{Bor}
-use Rattle.cc_typing.specs.Numberings.{AreNumbers, number_of_name, at_number}
-use Rattle.cc_typing.specs.Scope.{has_name}
-use Rattle.cc_typing.specs.Entities.{names_in}
+use Rattle.cc_types.specs.Numberings.{AreNumbers, number_of_name, at_number}
+use Rattle.cc_types.specs.Scope.{has_name}
+use Rattle.cc_types.specs.Entities.{names_in}
 use Rattle.cc_typing.specs.declared.functions.State.{State}
 
 -- the functions that a unit defines, and those whose definitions stand before a place in it; the builtins are both

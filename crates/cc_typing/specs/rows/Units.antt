@@ -7,9 +7,9 @@ use Rattle.cc_ast.specs.declared.ast.UnaryOperator.TheVariants.{Minus, Not}
 use Rattle.cc_ast.specs.declared.ast.BinaryOperator.TheVariants.{Divide, Add, Less}
 use Rattle.cc_ast.specs.declared.ast.AssignmentOperator.TheVariants as assignment
 use Rattle.cc_ast.specs.declared.ast.StepOperator.TheVariants.{Increment}
-use Rattle.cc_typing.specs.Rules.{broken, errors, defines_main, undefined_calls}
-use Rattle.cc_typing.specs.Limits.{excesses}
-use Rattle.cc_typing.specs.declared.rule.Rule.TheVariants.{Unknown, Redeclared, WrongKind, WrongCount, VoidValue, BadReturn, BadAssign, BadBreak, Undefined, TooMany}
+use Rattle.cc_types.specs.Rules.{broken, errors, defines_main, undefined_calls}
+use Rattle.cc_types.specs.Limits.{excesses}
+use Rattle.cc_types.specs.declared.rule.Rule.TheVariants.{Unknown, Redeclared, WrongKind, WrongCount, VoidValue, BadReturn, BadAssign, BadBreak, Undefined, TooMany}
 
 abbrev name : List ℕ → ℕ → Name
 name text at = record { text = text; at = at }

@@ -4,7 +4,8 @@ use cc_diagnostic::{Diagnostic, further_of_typing, of_syntax, of_typing, warning
 use cc_meaning::{Stop, interpret};
 use cc_run_diagnostic::of_wrong;
 use cc_syntax::{Unit, parse};
-use cc_typing::{TypeFault, check};
+use cc_types::TypeFault;
+use cc_typing::check;
 use std::alloc::{AllocError, Global};
 
 /// What is written of a diagnostic over a text, nothing where there is none.

@@ -2,7 +2,7 @@
 
 use crate::helpers::shared_unit;
 use cc_cminor::{CminorPair, to_cminor};
-use cc_typing::TypedUnit;
+use cc_types::TypedUnit;
 use std::alloc::{AllocError, Global};
 use std::sync::Arc;
 use std::test::Fail;

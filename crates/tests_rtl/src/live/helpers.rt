@@ -4,7 +4,7 @@ use crate::helpers::shared_unit;
 use cc_cminor::to_cminor;
 use cc_live::{Liveness, RegisterSet, drop_dead, drop_faint, liveness};
 use cc_rtl::{Node, RtlFault, RtlPair, to_rtl};
-use cc_typing::TypedUnit;
+use cc_types::TypedUnit;
 use std::alloc::{AllocError, Global};
 use std::fmt::Write;
 use std::sync::Arc;

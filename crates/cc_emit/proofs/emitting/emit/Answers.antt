@@ -1,7 +1,7 @@
 use Rattle.std.proofs.Common.{sym, ap, ◌∙◌, subst}
 use Rattle.cc_ast.specs.Source.{source}
 use Rattle.cc_ast.specs.declared.unit.Unit as parsed
-use Rattle.cc_typing.specs.Typed.{IsTyped, IsWithinLimits}
+use Rattle.cc_types.specs.Typed.{IsTyped, IsWithinLimits}
 use Rattle.cc_emit.specs.Piece.{Piece}
 use Rattle.cc_emit.proofs.Handing.{fit_handed, items_handed, items_selected, piece_handed}
 use Rattle.cc_emit.proofs.Pieces.{piece_of}

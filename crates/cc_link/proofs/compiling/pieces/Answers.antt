@@ -6,8 +6,8 @@ use Rattle.std.specs.Arc.{arc_value}
 use Rattle.cc_ast.specs.Source.{source}
 use Rattle.cc_ast.specs.declared.unit.Unit.{Unit}
 use Rattle.cc_ast.specs.Parse.{SpellsText}
-use Rattle.cc_typing.specs.Checked.{IsChecked}
-use Rattle.cc_typing.specs.Typed.{defined_names}
+use Rattle.cc_types.specs.Checked.{IsChecked}
+use Rattle.cc_types.specs.Typed.{defined_names}
 use Rattle.cc_semantics.specs.Meaning.{functions}
 use Rattle.cc_emit.specs.Piece.{Piece}
 use Rattle.cc_link.specs.Made.{IsCompiled}

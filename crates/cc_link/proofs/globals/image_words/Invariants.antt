@@ -1,6 +1,6 @@
 use Rattle.std.proofs.Common.{◌≡◌, ◌++◌, drop}
 use Rattle.cc_ast.specs.Erase.{external_trees}
-use Rattle.cc_typing.specs.Limits.{objects}
+use Rattle.cc_types.specs.Limits.{objects}
 use Rattle.cc_link.specs.Packed.{image_words}
 use Rattle.cc_link.proofs.globals.image_words.Given as goal
 

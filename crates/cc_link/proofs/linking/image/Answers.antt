@@ -2,7 +2,7 @@
 use Rattle.std.proofs.Common.{◌≡◌, ℕ, List, length, false, true, ap, ◌∙◌, arith}
 use Rattle.cc_ast.specs.Source.{source}
 use Rattle.cc_ast.specs.Tree as tree
-use Rattle.cc_typing.specs.Limits.{objects}
+use Rattle.cc_types.specs.Limits.{objects}
 use Rattle.cc_link.specs.Packed.{image_words}
 use Rattle.cc_link.proofs.Sizes.{few_globals}
 use Rattle.cc_link.proofs.linking.image.Goals as goal

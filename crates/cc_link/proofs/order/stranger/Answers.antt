@@ -1,6 +1,6 @@
 use Rattle.std.proofs.Common.{◌≡◌, ap, subst, ◌∙◌}
 use Rattle.cc_ast.specs.Parse.{SpellsText}
-use Rattle.cc_typing.specs.Checked.{IsChecked}
+use Rattle.cc_types.specs.Checked.{IsChecked}
 use Rattle.cc_emit.specs.Piece.{IsPieceOfUnit}
 use Rattle.cc_link.specs.Made.{IsCompiled}
 use Rattle.cc_ast.specs.Source.{source}

@@ -1,7 +1,7 @@
 use Rattle.std.proofs.Common.{inl, inr, ℕ, List, subst}
 use Rattle.cc_ast.specs.Source.{source}
-use Rattle.cc_typing.specs.Typed.{IsTypeRefusal}
-use Rattle.cc_typing.specs.Verdict.{source_with}
+use Rattle.cc_types.specs.Typed.{IsTypeRefusal}
+use Rattle.cc_types.specs.Verdict.{source_with}
 use Rattle.cc_link.proofs.text.typed_unit.Goals as goal
 
 pub returns-in-Err-check-clause-refused : goal.returns-in-Err-check-clause-refused

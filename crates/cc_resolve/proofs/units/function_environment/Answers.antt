@@ -2,8 +2,8 @@
 use Rattle.std.proofs.Common.{◌≡◌, length, ap, ◌∙◌, arith}
 use Rattle.cc_ast.specs.Source.{source}
 use Rattle.cc_ast.specs.Erase.{external_trees}
-use Rattle.cc_typing.specs.Typed.{definitions, defined_names}
-use Rattle.cc_typing.proofs.Definitions.{length-definitions}
+use Rattle.cc_types.specs.Typed.{definitions, defined_names}
+use Rattle.cc_types.proofs.Definitions.{length-definitions}
 use Rattle.cc_resolve.proofs.units.function_environment.Goals as goal
 
 pub enter_definition-requires-clause-number : goal.enter_definition-requires-clause-number

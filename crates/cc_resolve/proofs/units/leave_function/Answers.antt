@@ -1,7 +1,7 @@
 -- The parameters and locals are in no scope any more.
 use Rattle.std.proofs.Common.{[], ◌∙◌, ap}
-use Rattle.cc_typing.specs.Bindings.{closed}
-use Rattle.cc_typing.specs.Scope.{with_function}
+use Rattle.cc_types.specs.Bindings.{closed}
+use Rattle.cc_types.specs.Scope.{with_function}
 use Rattle.cc_resolve.specs.Environment.{Environment}
 use Rattle.cc_resolve.proofs.Behind.{function-closed}
 use Rattle.cc_resolve.proofs.units.leave_function.Goals as goal

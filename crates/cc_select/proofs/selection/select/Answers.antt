@@ -2,7 +2,7 @@
 use Rattle.std.proofs.Common.{ap, ◌∙◌, subst}
 use Rattle.cc_ast.specs.Source.{source}
 use Rattle.cc_ast.specs.declared.unit.Unit as parsed
-use Rattle.cc_typing.specs.Typed.{IsWithinLimits}
+use Rattle.cc_types.specs.Typed.{IsWithinLimits}
 use Rattle.cc_linear_language.specs.Pair as above
 use Rattle.cc_select.specs.Pair.{Pair}
 use Rattle.cc_select.specs.Selection.{selected}

@@ -3,7 +3,7 @@ use Rattle.std.proofs.Common.{◌≡◌, ℕ, length, inr, List, subst}
 use Rattle.std.specs.Arc.{arc_value}
 use Rattle.cc_ast.specs.Source.{source}
 use Rattle.cc_ast.specs.Tree.{Source}
-use Rattle.cc_typing.specs.Typed.{defined_names}
+use Rattle.cc_types.specs.Typed.{defined_names}
 use Rattle.cc_link.specs.Text.{IsProgramText}
 use Rattle.cc_link.proofs.Deciding.{defined_long}
 use Rattle.cc_pool.specs.Shared.{HasSentSome}

@@ -1,6 +1,6 @@
 use Rattle.std.proofs.Common.{◌≡◌, ◌<◌, ℕ, Some, slice_get}
 use Rattle.cc_ast.specs.Source.{source}
-use Rattle.cc_typing.specs.Typed.{defined_names}
+use Rattle.cc_types.specs.Typed.{defined_names}
 use Rattle.cc_stages.proofs.unit.number_of.Given as goal
 
 -- no function so far has the name

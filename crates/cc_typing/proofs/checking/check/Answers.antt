@@ -3,11 +3,11 @@
 use Rattle.std.proofs.Common.{◌≡◌, ◌∙◌, inr, ap, sym, length, true, false, Some, None}
 use Rattle.cc_ast.specs.Source.{source}
 use Rattle.cc_tokens.specs.Place.{place_of}
-use Rattle.cc_typing.specs.Fault.{fault_of}
+use Rattle.cc_types.specs.Fault.{fault_of}
 use Rattle.cc_typing.specs.internal.Findings.{noted}
-use Rattle.cc_typing.specs.Rules.{defines_main, undefined_calls}
-use Rattle.cc_typing.specs.Typed.{all_errors}
-use Rattle.cc_typing.specs.declared.fault.TypeFault.TheVariants.{NoMain}
+use Rattle.cc_types.specs.Rules.{defines_main, undefined_calls}
+use Rattle.cc_types.specs.Typed.{all_errors}
+use Rattle.cc_types.specs.declared.fault.TypeFault.TheVariants.{NoMain}
 use Rattle.cc_typing.proofs.Verdict.{refused-first, refused-main, refused-call, checked}
 use Rattle.cc_typing.proofs.checking.check.Goals as goal
 

@@ -2,8 +2,8 @@
 use Rattle.std.proofs.Common.{◌≡◌, ◌∙◌, ◌+◌, ◌||◌, true, false, [], ap, sym, drop}
 use Rattle.std.proofs.Math.ListN.{drop_of_length-le}
 use Rattle.cc_ast.specs.Erase.{external_tree, external_trees}
-use Rattle.cc_typing.specs.Rules.{is_main, defines_main}
-use Rattle.cc_typing.proofs.SameTypes.{drop-item}
+use Rattle.cc_types.specs.Rules.{is_main, defines_main}
+use Rattle.cc_types.proofs.SameTypes.{drop-item}
 use Rattle.cc_typing.proofs.checking.defines_main.Goals as goal
 
 pub loop-external-preserved : goal.loop-external-preserved

@@ -1,6 +1,6 @@
 use Rattle.std.proofs.Common.{◌≡◌, drop}
 use Rattle.cc_ast.specs.Erase.{external_trees}
-use Rattle.cc_typing.specs.Rules.{defines_main}
+use Rattle.cc_types.specs.Rules.{defines_main}
 use Rattle.cc_typing.proofs.checking.defines_main.Given as goal
 
 abbrev pub invariant-loop-external : goal.invariant-loop-external

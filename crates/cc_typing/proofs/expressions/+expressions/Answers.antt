@@ -4,12 +4,12 @@ use Rattle.std.proofs.Math.ListN.{drop_of_length-le}
 use Rattle.cc_ast.specs.Erase.{name_tree, expression_tree}
 use Rattle.cc_ast.specs.internal.Arguments.{expressions_of}
 use Rattle.cc_ast.specs.declared.ast.Expression.{Expression}
-use Rattle.cc_typing.specs.Rules.{array_errors, function_errors, count_of, void_errors, expression_errors, value_errors, argument_errors, called_in, called_in_all}
-use Rattle.cc_typing.specs.Scope.{found, in_scope}
+use Rattle.cc_types.specs.Rules.{array_errors, function_errors, count_of, void_errors, expression_errors, value_errors, argument_errors, called_in, called_in_all}
+use Rattle.cc_types.specs.Scope.{found, in_scope}
 use Rattle.cc_typing.proofs.Parts.{next, last, two, three, after_noted}
 use Rattle.cc_typing.specs.internal.Findings.{after}
-use Rattle.cc_typing.proofs.Trees.{expression_tree-call, count_of-expressions}
-use Rattle.cc_typing.proofs.SameTypes.{drop-item}
+use Rattle.cc_types.proofs.Trees.{expression_tree-call, count_of-expressions}
+use Rattle.cc_types.proofs.SameTypes.{drop-item}
 use Rattle.cc_typing.proofs.expressions.+expressions.Goals as goal
 
 pub arguments-loop-tree-preserved : goal.arguments-loop-tree-preserved

@@ -1,8 +1,8 @@
 use Rattle.std.proofs.Common.{◌≡◌, drop}
 use Rattle.cc_ast.specs.internal.Arguments.{expressions_of}
 use Rattle.cc_typing.specs.internal.Findings.{after}
-use Rattle.cc_typing.specs.Rules.{argument_errors, called_in_all}
-use Rattle.cc_typing.specs.Scope.{in_scope}
+use Rattle.cc_types.specs.Rules.{argument_errors, called_in_all}
+use Rattle.cc_types.specs.Scope.{in_scope}
 use Rattle.cc_typing.proofs.expressions.+expressions.Given as goal
 
 -- what is found so far, and then in the arguments that are left, is what is found in all

@@ -2,8 +2,8 @@
 use Rattle.std.proofs.Common.{ap, sym, ◌∙◌}
 use Rattle.cc_ast.specs.Erase.{action_tree, target_tree, expression_tree}
 use Rattle.cc_ast.specs.Tree.{Assign}
-use Rattle.cc_typing.specs.Rules.{target_errors, value_errors, action_errors, called_in, called_in_target, called_in_action}
-use Rattle.cc_typing.specs.Scope.{in_scope}
+use Rattle.cc_types.specs.Rules.{target_errors, value_errors, action_errors, called_in, called_in_target, called_in_action}
+use Rattle.cc_types.specs.Scope.{in_scope}
 use Rattle.cc_typing.proofs.Parts.{two}
 use Rattle.cc_typing.proofs.expressions.action.Goals as goal
 

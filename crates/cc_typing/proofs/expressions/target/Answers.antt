@@ -2,8 +2,8 @@
 use Rattle.std.proofs.Common.{[], ap, sym, ◌∙◌}
 use Rattle.cc_ast.specs.Erase.{name_tree, target_tree, expression_tree}
 use Rattle.cc_ast.specs.Tree.{AtElement}
-use Rattle.cc_typing.specs.Rules.{array_errors, value_errors, target_errors, called_in, called_in_target}
-use Rattle.cc_typing.specs.Scope.{found, in_scope}
+use Rattle.cc_types.specs.Rules.{array_errors, value_errors, target_errors, called_in, called_in_target}
+use Rattle.cc_types.specs.Scope.{found, in_scope}
 use Rattle.cc_typing.proofs.Parts.{two}
 use Rattle.cc_typing.proofs.expressions.target.Goals as goal
 

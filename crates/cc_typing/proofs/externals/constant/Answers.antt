@@ -3,10 +3,10 @@ use Rattle.std.proofs.Common.{◌≡◌, ◌∙◌, [], ap, sym}
 use Rattle.std.specs.Prelude.{not, is_some}
 use Rattle.cc_ast.specs.Erase.{constant_tree, expression_tree}
 use Rattle.cc_typing.specs.internal.Findings.{after}
-use Rattle.cc_typing.specs.Rules.{broken_if, value_errors, called_in}
-use Rattle.cc_typing.specs.Scope.{in_scope}
-use Rattle.cc_typing.specs.Types.{constant_word}
-use Rattle.cc_typing.specs.declared.rule.Rule.TheVariants.{WrongKind}
+use Rattle.cc_types.specs.Rules.{broken_if, value_errors, called_in}
+use Rattle.cc_types.specs.Scope.{in_scope}
+use Rattle.cc_types.specs.Types.{constant_word}
+use Rattle.cc_types.specs.declared.rule.Rule.TheVariants.{WrongKind}
 use Rattle.cc_typing.proofs.Parts.{after_noted}
 use Rattle.cc_typing.proofs.FileScopes.{not_not}
 use Rattle.cc_typing.proofs.externals.constant.Goals as goal

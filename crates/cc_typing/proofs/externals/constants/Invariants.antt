@@ -1,8 +1,8 @@
 use Rattle.std.proofs.Common.{◌≡◌, drop}
 use Rattle.cc_ast.specs.Erase.{constant_trees}
 use Rattle.cc_typing.specs.internal.Findings.{after}
-use Rattle.cc_typing.specs.Rules.{constants_errors, called_in_constants}
-use Rattle.cc_typing.specs.Scope.{in_scope}
+use Rattle.cc_types.specs.Rules.{constants_errors, called_in_constants}
+use Rattle.cc_types.specs.Scope.{in_scope}
 use Rattle.cc_typing.proofs.externals.constants.Given as goal
 
 -- what is found so far, and then in the values that are left, is what is found in all

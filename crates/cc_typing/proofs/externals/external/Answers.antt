@@ -1,10 +1,10 @@
 -- Each kind of external declaration in turn.
 use Rattle.std.proofs.Common.{◌≡◌, ◌∙◌, ◌∷◌, [], false, ap}
 use Rattle.cc_ast.specs.Erase.{signature_tree, statements_of, object_trees, external_tree}
-use Rattle.cc_typing.specs.Bindings.{file_level, file_of}
+use Rattle.cc_types.specs.Bindings.{file_level, file_of}
 use Rattle.cc_typing.specs.internal.Findings.{Found, after, with_before}
-use Rattle.cc_typing.specs.Rules.{objects_errors, statements_errors, called_in_objects, called_in_statements}
-use Rattle.cc_typing.specs.Scope.{has_name, with_objects}
+use Rattle.cc_types.specs.Rules.{objects_errors, statements_errors, called_in_objects, called_in_statements}
+use Rattle.cc_types.specs.Scope.{has_name, with_objects}
 use Rattle.cc_typing.proofs.FileScopes.{declaration-scope, declaration-found, definition-scope, definition-found, objects-scope, objects-found}
 use Rattle.cc_typing.proofs.externals.external.Goals as goal
 

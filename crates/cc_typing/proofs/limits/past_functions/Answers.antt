@@ -1,11 +1,11 @@
 -- Declaration by declaration.
 use Rattle.std.proofs.Common.{◌+◌, ◌∙◌, ap, drop}
 use Rattle.cc_ast.specs.Erase.{external_tree, external_trees}
-use Rattle.cc_typing.specs.internal.Counts.{defines}
-use Rattle.cc_typing.specs.Limits.{function_names}
-use Rattle.cc_typing.proofs.Counting.{count-next}
-use Rattle.cc_typing.proofs.Definitions.{function_names-next}
-use Rattle.cc_typing.proofs.SameTypes.{drop-item}
+use Rattle.cc_types.specs.internal.Externals.{defines}
+use Rattle.cc_types.specs.Limits.{function_names}
+use Rattle.cc_types.proofs.Counting.{count-next}
+use Rattle.cc_types.proofs.Definitions.{function_names-next}
+use Rattle.cc_types.proofs.SameTypes.{drop-item}
 use Rattle.cc_typing.proofs.limits.past_functions.Goals as goal
 
 pub loop-external-preserved : goal.loop-external-preserved

@@ -1,7 +1,7 @@
 use Rattle.std.proofs.Common.{◌≡◌, drop, None}
 use Rattle.cc_ast.specs.Erase.{external_trees}
-use Rattle.cc_typing.specs.internal.Counts.{count_after}
-use Rattle.cc_typing.specs.Limits.{function_names}
+use Rattle.cc_types.specs.Counts.{count_after}
+use Rattle.cc_types.specs.Limits.{function_names}
 use Rattle.cc_typing.proofs.limits.past_functions.Given as goal
 
 abbrev pub invariant-loop-external : goal.invariant-loop-external

@@ -1,11 +1,12 @@
 -- Declaration by declaration.
 use Rattle.std.proofs.Common.{◌+◌, ◌∙◌, ap, sym, drop}
 use Rattle.cc_ast.specs.Erase.{external_tree, external_trees}
-use Rattle.cc_typing.specs.internal.Counts.{word_count, words_after, objects_in}
-use Rattle.cc_typing.specs.Limits.{objects}
-use Rattle.cc_typing.proofs.Counting.{words_words}
-use Rattle.cc_typing.proofs.Definitions.{objects-next}
-use Rattle.cc_typing.proofs.SameTypes.{drop-item}
+use Rattle.cc_typing.specs.internal.Counts.{word_count, words_after}
+use Rattle.cc_types.specs.internal.Externals.{objects_in}
+use Rattle.cc_types.specs.Limits.{objects}
+use Rattle.cc_typing.proofs.Excesses.{words_words}
+use Rattle.cc_types.proofs.Definitions.{objects-next}
+use Rattle.cc_types.proofs.SameTypes.{drop-item}
 use Rattle.cc_typing.proofs.limits.past_words.Goals as goal
 
 pub loop-external-preserved : goal.loop-external-preserved

@@ -1,7 +1,7 @@
 use Rattle.std.proofs.Common.{◌≡◌, drop, None}
 use Rattle.cc_ast.specs.Erase.{external_trees}
 use Rattle.cc_typing.specs.internal.Counts.{word_count, words_after}
-use Rattle.cc_typing.specs.Limits.{objects}
+use Rattle.cc_types.specs.Limits.{objects}
 use Rattle.cc_typing.proofs.limits.past_words.Given as goal
 
 abbrev pub invariant-loop-external : goal.invariant-loop-external

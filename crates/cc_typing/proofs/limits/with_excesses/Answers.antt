@@ -3,8 +3,8 @@ use Rattle.std.proofs.Common.{◌≡◌, ◌∙◌, ◌++◌, ap}
 use Rattle.cc_ast.specs.Erase.{external_trees}
 use Rattle.cc_typing.specs.internal.Counts.{excess_of}
 use Rattle.cc_typing.specs.internal.Findings.{noted}
-use Rattle.cc_typing.specs.Limits.{most_functions, past, function_names, objects, word_excesses, externals_excesses}
-use Rattle.cc_typing.proofs.Counting.{excess-is, words-are}
+use Rattle.cc_types.specs.Limits.{most_functions, past, function_names, objects, word_excesses, externals_excesses}
+use Rattle.cc_typing.proofs.Excesses.{excess-is, words-are}
 use Rattle.cc_typing.proofs.Parts.{noted-append}
 use Rattle.cc_typing.proofs.limits.with_excesses.Goals as goal
 

@@ -1,11 +1,12 @@
 -- The parameters, and then the locals.
 use Rattle.std.proofs.Common.{◌≡◌, ◌∙◌, None, ap, sym}
 use Rattle.cc_ast.specs.Erase.{signature_tree, statements_of, external_tree}
-use Rattle.cc_typing.specs.internal.Counts.{count_after, excess_of}
+use Rattle.cc_types.specs.Counts.{count_after}
+use Rattle.cc_typing.specs.internal.Counts.{excess_of}
 use Rattle.cc_typing.specs.internal.Findings.{noted}
-use Rattle.cc_typing.specs.Limits.{most_locals, past, locals, parameter_excesses, external_excesses}
-use Rattle.cc_typing.specs.declared.limits.Count.{Count}
-use Rattle.cc_typing.proofs.Counting.{excess-is}
+use Rattle.cc_types.specs.Limits.{most_locals, past, locals, parameter_excesses, external_excesses}
+use Rattle.cc_types.specs.declared.limits.Count.{Count}
+use Rattle.cc_typing.proofs.Excesses.{excess-is}
 use Rattle.cc_typing.proofs.Parts.{noted-append}
 use Rattle.cc_typing.proofs.limits.with_external.Goals as goal
 

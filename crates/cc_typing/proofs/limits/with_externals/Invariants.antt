@@ -1,7 +1,7 @@
 use Rattle.std.proofs.Common.{◌≡◌, drop}
 use Rattle.cc_ast.specs.Erase.{external_trees}
 use Rattle.cc_typing.specs.internal.Findings.{noted}
-use Rattle.cc_typing.specs.Limits.{externals_excesses}
+use Rattle.cc_types.specs.Limits.{externals_excesses}
 use Rattle.cc_typing.proofs.limits.with_externals.Given as goal
 
 abbrev pub invariant-loop-external : goal.invariant-loop-external

@@ -3,11 +3,12 @@ use Rattle.std.proofs.Common.{◌≡◌, ◌∙◌, refl, ap, sym, subst}
 use Rattle.cc_ast.specs.Erase.{expression_tree, optional_tree, optional_action, beginning_tree, statement_tree, statements_of}
 use Rattle.cc_ast.specs.Tree.{If, IfElse, While, DoWhile, For}
 use Rattle.cc_typing.specs.internal.Findings.{after, around_of}
-use Rattle.cc_typing.specs.Scope.{Visible, in_scope, opened}
-use Rattle.cc_typing.specs.Rules.{value_errors, statement_errors, statements_errors, called_in, called_in_statement, called_in_statements}
-use Rattle.cc_typing.proofs.SameTypes.{drop-item}
-use Rattle.cc_typing.proofs.Trees.{statement_tree-block, statement_tree-if, statement_tree-if_else, statement_tree-while, statement_tree-do_while, statement_tree-for}
-use Rattle.cc_typing.proofs.Walks.{on_ok, scope_behind_outer, scope_behind_beginning_outer, closes, closed-is, Walking, Walking-next, if-found, if_else-found, while-found, do_while-found, for-found}
+use Rattle.cc_types.specs.Scope.{Visible, in_scope, opened}
+use Rattle.cc_types.specs.Rules.{value_errors, statement_errors, statements_errors, called_in, called_in_statement, called_in_statements}
+use Rattle.cc_types.proofs.SameTypes.{drop-item}
+use Rattle.cc_types.proofs.Trees.{statement_tree-block, statement_tree-if, statement_tree-if_else, statement_tree-while, statement_tree-do_while, statement_tree-for}
+use Rattle.cc_types.proofs.Success.{on_ok}
+use Rattle.cc_typing.proofs.Walks.{scope_behind_outer, scope_behind_beginning_outer, closes, closed-is, Walking, Walking-next, if-found, if_else-found, while-found, do_while-found, for-found}
 use Rattle.cc_typing.proofs.statements.+statements.Goals as goal
 
 pub all_statements-loop-tree-preserved : goal.all_statements-loop-tree-preserved

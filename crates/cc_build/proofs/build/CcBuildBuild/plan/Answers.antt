@@ -2,7 +2,7 @@ use Rattle.std.proofs.Common.{◌≡◌, ℕ, ◌∙◌, length, Ok, sym, ap, su
 use Rattle.std.specs.Arc.{arc_value}
 use Rattle.cc_ast.specs.Source.{source}
 use Rattle.cc_ast.specs.declared.unit.Unit.{Unit as Parsed}
-use Rattle.cc_typing.specs.Typed.{defined_names}
+use Rattle.cc_types.specs.Typed.{defined_names}
 use Rattle.cc_core.specs.declared.fault.BuildFault.{BuildFault}
 use Rattle.cc_core.specs.Fault.{RefusesPlan}
 use Rattle.cc_build.specs.Plan.{IsPlan}

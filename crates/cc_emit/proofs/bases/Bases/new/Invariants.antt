@@ -1,6 +1,6 @@
 use Rattle.std.proofs.Common.{drop, []}
 use Rattle.cc_ast.specs.Erase.{external_trees}
-use Rattle.cc_typing.specs.Limits.{objects}
+use Rattle.cc_types.specs.Limits.{objects}
 use Rattle.cc_rv32.specs.Machine.{globals_from}
 use Rattle.cc_emit.proofs.Addresses.{Listing}
 use Rattle.cc_emit.proofs.bases.Bases.new.Given as goal

@@ -6,13 +6,13 @@ use Rattle.cc_ast.specs.Erase.{name_tree, expression_tree}
 use Rattle.cc_ast.specs.internal.Arguments.{expressions_of}
 use Rattle.cc_ast.specs.Tree as tree
 use Rattle.cc_meaning.specs.internal.Emitted.{short_cut, operated}
-use Rattle.cc_typing.specs.Operators.{working_type}
+use Rattle.cc_types.specs.Operators.{working_type}
 use Rattle.cc_resolve.specs.Environment.{types_in}
 use Rattle.cc_resolve.specs.Operations.{operation}
 use Rattle.cc_meaning.specs.internal.Form.{expression_code}
-use Rattle.cc_typing.specs.Types.{value_type}
+use Rattle.cc_types.specs.Types.{value_type}
 use Rattle.cc_meaning.proofs.WritingExpressions.{call-code, joined-code}
-use Rattle.cc_typing.proofs.Trees.{expression_tree-call}
+use Rattle.cc_types.proofs.Trees.{expression_tree-call}
 use Rattle.cc_meaning.proofs.writer.expressions.+expressions.Goals as goal
 
 pub expression-returns-in_ok-arguments-in-Call-clause-code : goal.expression-returns-in_ok-arguments-in-Call-clause-code

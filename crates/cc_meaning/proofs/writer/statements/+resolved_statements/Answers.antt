@@ -9,9 +9,9 @@ use Rattle.cc_meaning.specs.internal.Writing.{exits_of}
 use Rattle.cc_resolve.specs.Environment.{inner}
 use Rattle.cc_meaning.specs.internal.Form.{statement_code, statements_code}
 use Rattle.cc_meaning.specs.declared.form.Instruction.TheVariants.{Repeat}
-use Rattle.cc_typing.proofs.SameTypes.{drop-item}
-use Rattle.cc_typing.proofs.Trees.{statement_tree-block, statement_tree-while, statement_tree-do_while, statement_tree-for}
-use Rattle.cc_typing.proofs.Walks.{on_ok}
+use Rattle.cc_types.proofs.SameTypes.{drop-item}
+use Rattle.cc_types.proofs.Trees.{statement_tree-block, statement_tree-while, statement_tree-do_while, statement_tree-for}
+use Rattle.cc_types.proofs.Success.{on_ok}
 use Rattle.cc_meaning.proofs.WritingStatements.{behind_all, behind_all-reversed, written_onto, written-is, Writing, Writing-next, statement-is, exits-of-body, turns-are}
 use Rattle.cc_meaning.proofs.writer.statements.+resolved_statements.Goals as goal
 

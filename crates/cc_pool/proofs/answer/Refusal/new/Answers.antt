@@ -2,7 +2,7 @@ use Rattle.std.proofs.Common.{subst}
 use Rattle.cc_ast.specs.Parse.{SpellsText}
 use Rattle.cc_ast.specs.Source.{source}
 use Rattle.cc_ast.specs.declared.unit.Unit as parsed
-use Rattle.cc_typing.specs.Typed.{IsTyped, IsWithinLimits}
+use Rattle.cc_types.specs.Typed.{IsTyped, IsWithinLimits}
 use Rattle.cc_pool.proofs.Refusals.{blames}
 use Rattle.cc_pool.proofs.answer.Refusal.new.Goals as goal
 

@@ -2,7 +2,7 @@ use Rattle.std.proofs.Common.{rules, arith, ◌≡◌, ◌<◌, ◌++◌, ◌∷
 use Rattle.std.specs.Arc.{arc_value}
 use Rattle.cc_ast.specs.Source.{source}
 use Rattle.cc_ast.specs.declared.unit.Unit.{Unit}
-use Rattle.cc_typing.specs.Typed.{IsWithinLimits, defined_names}
+use Rattle.cc_types.specs.Typed.{IsWithinLimits, defined_names}
 use Rattle.cc_pool.specs.declared.item.Item.TheVariants.{Piece}
 use Rattle.cc_pool.specs.Shared.{piece_of, pieces_of}
 use Rattle.cc_link.proofs.Few.{few_functions}

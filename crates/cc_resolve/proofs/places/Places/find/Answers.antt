@@ -1,7 +1,7 @@
 -- The table has at the name's number where it stands first.
 use Rattle.std.proofs.Common.{◌∙◌, ap, nat_eq}
 use Rattle.indexmap.specs.IndexMap.{get}
-use Rattle.cc_typing.specs.Numberings.{at_number}
+use Rattle.cc_types.specs.Numberings.{at_number}
 use Rattle.cc_resolve.specs.Numberings.{first_of}
 use Rattle.cc_resolve.proofs.places.Places.find.Goals as goal
 

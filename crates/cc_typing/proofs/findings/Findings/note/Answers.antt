@@ -1,7 +1,7 @@
 -- One error more.
 use Rattle.std.proofs.Common.{[], ◌∙◌, Some, ap}
 use Rattle.cc_typing.specs.internal.Findings.{Found, after}
-use Rattle.cc_typing.specs.Rules.{broken}
+use Rattle.cc_types.specs.Rules.{broken}
 use Rattle.cc_typing.proofs.Parts.{noted_one}
 use Rattle.cc_typing.proofs.findings.Findings.note.Goals as goal
 

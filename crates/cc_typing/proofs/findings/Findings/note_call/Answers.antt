@@ -2,7 +2,7 @@
 use Rattle.std.proofs.Common.{◌≡◌, true, false, [], ◌∷◌, ◌∙◌, Some, sym, ap}
 use Rattle.cc_ast.specs.Erase.{name_tree}
 use Rattle.cc_typing.specs.internal.Findings.{Found, after}
-use Rattle.cc_typing.specs.Scope.{has_name}
+use Rattle.cc_types.specs.Scope.{has_name}
 use Rattle.cc_typing.proofs.Parts.{called_undefined, called_defined}
 use Rattle.cc_typing.proofs.findings.Findings.note_call.Goals as goal
 

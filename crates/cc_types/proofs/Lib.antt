@@ -1,0 +1,10 @@
+pub mod KeyOrder
+pub mod NameNumbers
+pub mod Tables
+pub mod Numbers
+pub mod SameTypes
+pub mod Success
+pub mod Trees
+pub mod FileScopes
+pub mod Counting
+pub mod Definitions

@@ -1,0 +1,3 @@
+-- What only private contracts and proofs speak of.
+pub mod Scopes
+pub mod Externals

@@ -1,0 +1,151 @@
+// The values of constant expressions (C99 6.6).
+
+ghost use Rattle.std.specs.Prelude.{◌≡◌, [], map, option_map};
+ghost use Rattle.cc_ast.specs.Erase.{expression_tree, constant_tree};
+ghost use Rattle.cc_types.specs.Operators.{unary_word, binary_word};
+ghost use Rattle.cc_types.specs.Types.{value_type, constant_value, is_constant, constant_word, array_length};
+
+use super::operators::{binary_type, common_type, unary_type, working_type};
+use cc_ast::{BinaryOperator, ConstantExpression, Expression, Scalar, UnaryOperator};
+
+/// The type of an expression without names.
+pub fn constant_type(tree: &Expression) -> Scalar
+    ensures { result ≡ value_type [] (expression_tree tree.now) }
+{
+    match tree {
+        Expression::Number(scalar, _) | Expression::Cast(scalar, _) => *scalar,
+        Expression::Name(_) | Expression::Element(_, _) | Expression::Call(_, _) => Scalar::Int,
+        Expression::Parenthesised(inner) => constant_type(inner),
+        Expression::Unary(operator, operand) => unary_type(*operator, constant_type(operand)),
+        Expression::Binary(operator, left, right) => {
+            binary_type(*operator, constant_type(left), constant_type(right))
+        }
+        Expression::Conditional(_, held, other) => {
+            common_type(constant_type(held), constant_type(other))
+        }
+    }
+}
+
+fn unary_word(operator: UnaryOperator, word: u32) -> u32
+    ensures { result ≡ unary_word operator word }
+{
+    match operator {
+        UnaryOperator::Plus => word,
+        UnaryOperator::Minus => cc_words::sub(0, word),
+        UnaryOperator::Complement => !word,
+        UnaryOperator::Not => cc_words::eq(word, 0),
+    }
+}
+
+/// What a binary operator gives in the type in which it works, and nothing where it goes wrong.
+pub fn binary_word(operator: BinaryOperator, working: Scalar, a: u32, b: u32) -> Option<u32>
+    ensures { result ≡ binary_word operator working a b }
+{
+    let signed = working == Scalar::Int;
+    match operator {
+        BinaryOperator::Multiply => Some(cc_words::mul(a, b)),
+        BinaryOperator::Divide if signed => cc_words::div_s(a, b),
+        BinaryOperator::Divide => cc_words::div_u(a, b),
+        BinaryOperator::Remainder if signed => cc_words::rem_s(a, b),
+        BinaryOperator::Remainder => cc_words::rem_u(a, b),
+        BinaryOperator::Add => Some(cc_words::add(a, b)),
+        BinaryOperator::Subtract => Some(cc_words::sub(a, b)),
+        BinaryOperator::ShiftLeft => cc_words::shl(a, b),
+        BinaryOperator::ShiftRight if signed => cc_words::shr_s(a, b),
+        BinaryOperator::ShiftRight => cc_words::shr_u(a, b),
+        BinaryOperator::Less if signed => Some(cc_words::lt_s(a, b)),
+        BinaryOperator::Less => Some(cc_words::lt_u(a, b)),
+        BinaryOperator::Greater if signed => Some(cc_words::lt_s(b, a)),
+        BinaryOperator::Greater => Some(cc_words::lt_u(b, a)),
+        BinaryOperator::LessOrEqual if signed => Some(cc_words::le_s(a, b)),
+        BinaryOperator::LessOrEqual => Some(cc_words::le_u(a, b)),
+        BinaryOperator::GreaterOrEqual if signed => Some(cc_words::le_s(b, a)),
+        BinaryOperator::GreaterOrEqual => Some(cc_words::le_u(b, a)),
+        BinaryOperator::Equal => Some(cc_words::eq(a, b)),
+        BinaryOperator::NotEqual => Some(cc_words::ne(a, b)),
+        BinaryOperator::And => Some(a & b),
+        BinaryOperator::Xor => Some(a ^ b),
+        BinaryOperator::Or => Some(a | b),
+        BinaryOperator::LogicalAnd => Some(u32::from(a != 0 && b != 0)),
+        BinaryOperator::LogicalOr => Some(u32::from(a != 0 || b != 0)),
+    }
+}
+
+/// The word of an expression without names and calls, where it does not go wrong.
+pub fn constant_value(tree: &Expression) -> Option<u32>
+    ensures { result ≡ constant_value (expression_tree tree.now) }
+{
+    match tree {
+        Expression::Number(_, word) => Some(*word),
+        Expression::Name(_) | Expression::Element(_, _) | Expression::Call(_, _) => None,
+        Expression::Parenthesised(inner) | Expression::Cast(_, inner) => constant_value(inner),
+        Expression::Unary(operator, operand) => {
+            let word = constant_value(operand)?;
+            Some(unary_word(*operator, word))
+        }
+        Expression::Binary(operator, left, right) => {
+            let first = constant_value(left)?;
+            match operator {
+                BinaryOperator::LogicalAnd if first == 0 => return Some(0),
+                BinaryOperator::LogicalOr if first != 0 => return Some(1),
+                _ => {}
+            }
+            let second = constant_value(right)?;
+            let working = working_type(*operator, constant_type(left), constant_type(right));
+            binary_word(*operator, working, first, second)
+        }
+        Expression::Conditional(condition, held, other) => {
+            let word = constant_value(condition)?;
+            if word != 0 {
+                constant_value(held)
+            } else {
+                constant_value(other)
+            }
+        }
+    }
+}
+
+/// Whether an expression has no name and no call.
+pub fn is_constant(tree: &Expression) -> bool
+    ensures { result ≡ is_constant (expression_tree tree.now) }
+{
+    match tree {
+        Expression::Number(_, _) => true,
+        Expression::Name(_) | Expression::Element(_, _) | Expression::Call(_, _) => false,
+        Expression::Parenthesised(inner)
+        | Expression::Cast(_, inner)
+        | Expression::Unary(_, inner) => is_constant(inner),
+        Expression::Binary(_, left, right) => is_constant(left) && is_constant(right),
+        Expression::Conditional(condition, held, other) => {
+            is_constant(condition) && is_constant(held) && is_constant(other)
+        }
+    }
+}
+
+/// The word of a constant expression, where it is one.
+pub fn constant_word(constant: &ConstantExpression) -> Option<u32>
+    ensures { result ≡ constant_word (constant_tree constant.now) }
+{
+    if is_constant(&constant.expression) {
+        constant_value(&constant.expression)
+    } else {
+        None
+    }
+}
+
+/// How many elements an array has, where that is known.
+pub fn array_length(
+    length: &Option<ConstantExpression>,
+    values: &[ConstantExpression],
+) -> Option<usize>
+    ensures { result ≡ array_length (option_map constant_tree length.now) (map constant_tree values.now) }
+{
+    let Some(constant) = length else {
+        return Some(values.len());
+    };
+    let word = constant_word(constant)?;
+    if constant_type(&constant.expression) == Scalar::Int && cc_words::lt_s(word, 0) != 0 {
+        return Some(0);
+    }
+    Some(word as usize)
+}

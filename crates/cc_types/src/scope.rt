@@ -1,0 +1,141 @@
+// What is in scope, scope by scope.
+
+ghost use Rattle.std.specs.Prelude.{◌≡◌, ◌≤◌, [], length, drop, IfOk, OnOk, option_map};
+ghost use Rattle.cc_types.specs.Scope.{opened, declared, in_scope, is_declared, found, with_declared, first_file_scope};
+ghost use Rattle.cc_types.specs.Entities.{entity_of, optional_entity};
+ghost use Rattle.cc_types.specs.Bindings.{closed, file_level, number_of};
+ghost use Rattle.cc_types.specs.internal.Scopes.{from};
+
+use super::bindings::{Bindings, Newest};
+use super::entity::Entity;
+use std::alloc::{AllocError, Global};
+use std::marker::Model;
+
+/// The names of file scope, and those of the open blocks.
+#[derive(Drop)]
+pub struct Scope<'a> {
+    bindings: Bindings<'a>,
+    // How many of the bindings, the newest ones, belong to the innermost scope; file scope counts as none.
+    inner: usize,
+}
+
+impl<'a> Model for Scope<'a> {
+    ghost use Rattle.std.specs.Prelude.{◌≤◌, length};
+    ghost use Rattle.cc_types.specs.Scope.{Visible};
+    ghost use Rattle.cc_types.specs.Bindings.{scope_of};
+
+    ghost Value = { Visible };
+
+    ghost view = { λ s. scope_of s.bindings s.inner };
+
+    ghost invariant = { λ s. s.inner ≤ length s.bindings };
+}
+
+pub const WRITE_WORD: &[u8] = b"write_word";
+
+pub const READ_WORD: &[u8] = b"read_word";
+
+fn push_builtins(bindings: &mut Bindings<'_>) -> Result<(), AllocError>
+    requires { bindings.old ≡ [] }
+    ensures { OnOk result (bindings.new ≡ first_file_scope.bindings) }
+{
+    bindings.push(READ_WORD, Entity::ReadWord)?;
+    bindings.push(WRITE_WORD, Entity::WriteWord)?;
+    Ok(())
+}
+
+// Whether there is a binding, and its number is one from `first` on.
+fn is_from(binding: Option<Newest<'_>>, first: usize) -> bool
+    ensures { result ≡ from first (number_of binding.entry) }
+{
+    match binding {
+        Some(newest) => newest.number >= first,
+        None => false,
+    }
+}
+
+impl<'a> Scope<'a> {
+    /// File scope at the start of a text: the builtins.
+    pub fn new(alloc: Global) -> Result<Scope<'a>, AllocError>
+        ensures { IfOk result (λ s. s ≡ file_level first_file_scope.bindings) }
+    {
+        let mut bindings = Bindings::new(alloc);
+        match push_builtins(&mut bindings) {
+            Ok(()) => Ok(Scope { bindings, inner: 0 }),
+            Err(error) => {
+                drop(bindings);
+                Err(error)
+            }
+        }
+    }
+
+    /// Begins an inner scope, and answers how many names the one around it had declared, for the `close` that ends it.
+    pub fn open(&mut self) -> usize
+        ensures scope { self.new ≡ opened self.old }
+        ensures around { result ≡ length self.old.inner }
+    {
+        let around = self.inner;
+        self.inner = 0;
+        around
+    }
+
+    /// Ends a scope, whose names go, inside one that had declared this many.
+    pub fn close(&mut self, around: usize)
+        requires { around ≤ length self.old.outer }
+        ensures { self.new ≡ closed around self.old }
+    {
+        while self.inner > 0 {
+            self.bindings.pop();
+            self.inner -= 1;
+        }
+        self.inner = around;
+    }
+
+    /// Declares a name in the innermost scope, and answers whether that had declared it already.
+    pub fn declare(&mut self, name: &'a [u8], entity: Entity<'a>) -> Result<bool, AllocError>
+        ensures scope { OnOk result (self.new ≡ declared name.now (entity_of entity.entry) self.old) }
+        ensures again { IfOk result (λ b. b ≡ is_declared self.old.inner name.now) }
+    {
+        let first = self.bindings.len() - self.inner;
+        let hidden = self.bindings.push(name, entity)?;
+        self.inner += 1;
+        Ok(is_from(hidden, first))
+    }
+
+    /// Takes the newest name of the innermost scope back, where it has one.
+    pub fn undeclare(&mut self)
+        ensures { self.new ≡ record self.old { inner = drop 1 self.old.inner } }
+    {
+        if self.inner > 0 {
+            self.bindings.pop();
+            self.inner -= 1;
+        }
+    }
+
+    /// Declares a name in file scope, where it is new; else what stands there stays. Answers whether it had declared it already.
+    pub fn declare_in_file(
+        &mut self,
+        name: &'a [u8],
+        entity: Entity<'a>,
+    ) -> Result<bool, AllocError>
+        requires { self.old.inner ≡ [] }
+        ensures again { IfOk result (λ b. b ≡ is_declared self.old.outer name.now) }
+        ensures scope { OnOk result (self.new ≡ file_level (with_declared name.now (entity_of entity.entry) (record { bindings = self.old.outer; defined = [] })).bindings) }
+    {
+        if self.bindings.push(name, entity)?.is_some() {
+            self.bindings.pop();
+            return Ok(true);
+        }
+        Ok(false)
+    }
+
+    /// What a name stands for.
+    pub fn find(&self, name: &[u8]) -> Option<Entity<'a>>
+        ensures { optional_entity result ≡ found (in_scope self.now) name.now }
+    {
+        match self.bindings.find(name) {
+            Some(newest) => Some(newest.entity),
+            None => None,
+        }
+    }
+}
