@@ -99,6 +99,13 @@ def reading_order(crate):
         return re.findall(r"^pub mod (\w+)", file.read(), re.M)
 
 
+def handed_on(crate):
+    """Returns the pages of crates below that a crate hands on, by the name that they have there, each with its own module."""
+    with open(f"{TOP}/crates/{crate}/specs/Lib.antt", encoding="utf-8") as file:
+        lines = re.findall(r"^pub use (Rattle\.[\w.]+?)(?: as (\w+))?$", file.read(), re.M)
+    return {short or module.rpartition(".")[2]: module for module, short in lines}
+
+
 class Repository:
     def __init__(self):
         with open(f"{TOP}/crates.txt", encoding="utf-8") as file:
@@ -106,10 +113,13 @@ class Repository:
         self.crates = [it.partition(":")[0].split()[0] for it in lines if ":" in it]
         self.crates = [it for it in self.crates if os.path.isdir(f"{TOP}/crates/{it}/specs")]
         self.pages = {crate: pages_of(crate) for crate in self.crates}
+        self.handed_on = {crate: handed_on(crate) for crate in self.crates}
 
     def page(self, module):
-        """Returns the page of a module's whole name, if it is one of this repository."""
+        """Returns the page of a module's whole name, if it is one of this repository: its own, or one that a crate hands on."""
         found = re.match(r"Rattle\.(\w+)\.specs\.(.+)", module)
+        while found and found[2] in self.handed_on.get(found[1], {}):
+            found = re.match(r"Rattle\.(\w+)\.specs\.(.+)", self.handed_on[found[1]][found[2]])
         return self.pages.get(found[1], {}).get(found[2]) if found else None
 
     def named(self, text, names, page=None):

@@ -12,3 +12,9 @@ pub mod Parse
 pub mod Source
 -- no promise rests on these
 pub mod internal
+-- Pages of crates below that clauses here cite, handed on.
+pub use Rattle.cc_tokens.specs.Place
+pub use Rattle.cc_tokens.specs.Tokens
+pub use Rattle.cc_tokens.specs.declared.fault
+pub use Rattle.cc_tokens.specs.declared.place
+pub use Rattle.cc_tokens.specs.declared.scalar

@@ -16,3 +16,8 @@ pub mod Answers
 pub mod Runs
 -- what only proofs and private contracts use
 pub mod internal
+-- Pages of crates below that clauses here cite, handed on.
+pub use Rattle.cc_journal.specs.Format
+pub use Rattle.cc_rv32.specs.contracts.image as image_contract
+pub use Rattle.cc_unit.specs.contracts.unit as unit_contract
+pub use Rattle.cc_unit.specs.declared.unit

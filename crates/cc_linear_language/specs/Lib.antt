@@ -2,3 +2,6 @@
 pub mod Linear
 -- what a pair keeps
 pub mod Pair
+-- Pages of crates below that clauses here cite, handed on.
+pub use Rattle.cc_semantics.specs.Meaning
+pub use Rattle.cc_semantics.specs.Numbered

@@ -24,3 +24,5 @@ pub mod Fault
 pub mod Compile
 -- no promise rests on these
 pub mod internal
+-- Pages of crates below that clauses here cite, handed on.
+pub use Rattle.cc_semantics.specs.Meaning

@@ -1,7 +1,7 @@
 -- What contracts see of a book, the value of a service's lock, and what its type keeps.
 use Rattle.std.specs.Prelude.{◌≡◌, ℕ, ◌≤◌, Bool, false, IsTrue, List, [], ◌∷◌, length, Some, slice_get, refl}
 use Rattle.std.specs.Coded.{Coded, code_by, coded×, coded_list}
-use Rattle.cc_link.specs.Agree.{Agree}
+use Rattle.cc_history.specs.Agree.{Agree}
 use Rattle.cc_library.specs.declared.command.Command as made
 use Rattle.cc_library.specs.declared.command.Command.TheVariants as change
 use Rattle.cc_library.specs.Apply.{Units, after}

@@ -1,6 +1,6 @@
 -- Objects, parameters and external declarations, one after the other: what is done and what is left make the whole.
 use Rattle.std.proofs.Common.{◌≡◌, ℕ, suc, ◌+◌, ◌-◌, ◌<◌, ◌≤◌, List, [], ◌∷◌, ◌++◌, length, map, replicate, Some, None, refl, sym, ap, ◌∙◌, append_assoc, arith}
-use Rattle.cc_tokens.specs.declared.scalar.Scalar.{Scalar}
+use Rattle.cc_ast.specs.scalar.Scalar.{Scalar}
 use Rattle.cc_ast.specs.Tree.{Name, Parameter, Object, External, Declaration, Definition, Objects}
 use Rattle.cc_types.specs.Bindings.{closed, file_level, file_of}
 use Rattle.cc_types.specs.internal.Externals.{defined_in, objects_in}

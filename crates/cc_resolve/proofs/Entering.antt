@@ -1,6 +1,6 @@
 -- The functions that a unit defines, one by one, until the one of a number.
 use Rattle.std.proofs.Common.{◌≡◌, ℕ, suc, ◌<◌, List, [], ◌∷◌, length, Some, slice_get, Result, Ok, Err, OnOk, refl, sym, ap, ◌∙◌, subst, arith}
-use Rattle.cc_tokens.specs.declared.scalar.Scalar.{Scalar}
+use Rattle.cc_ast.specs.scalar.Scalar.{Scalar}
 use Rattle.cc_ast.specs.Erase.{external_trees}
 use Rattle.cc_ast.specs.declared.ast.External as declared
 use Rattle.cc_ast.specs.Tree.{Stmts, Signature, Object, External, Declaration, Definition, Objects}

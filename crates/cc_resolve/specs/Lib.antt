@@ -7,3 +7,15 @@ pub mod Operations
 -- how the code keeps numbers of names
 pub mod Numberings
 pub mod internal
+-- Pages of crates below that clauses here cite, handed on.
+pub use Rattle.cc_ast.specs.Tree
+pub use Rattle.cc_ast.specs.declared.ast
+pub use Rattle.cc_ast.specs.scalar
+pub use Rattle.cc_types.specs.Limits
+pub use Rattle.cc_types.specs.Names
+pub use Rattle.cc_types.specs.Operators
+pub use Rattle.cc_types.specs.Rules
+pub use Rattle.cc_types.specs.Scope
+pub use Rattle.cc_types.specs.Typed
+pub use Rattle.cc_types.specs.Types
+pub use Rattle.cc_types.specs.declared.rule

@@ -10,3 +10,7 @@ pub mod Code
 pub mod Pair
 -- What the proofs speak of.
 pub mod internal
+-- Pages of crates below that clauses here cite, handed on.
+pub use Rattle.cc_semantics.specs.Meaning
+pub use Rattle.cc_semantics.specs.Numbered
+pub use Rattle.cc_semantics.specs.Resolved

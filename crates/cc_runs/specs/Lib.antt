@@ -16,3 +16,6 @@ pub mod Cuts
 pub mod Laws
 -- What the proofs of passes speak of: simulations of one language by the next.
 pub mod internal
+-- Pages of crates below that clauses here cite, handed on.
+pub use Rattle.cc_words.specs.Widths
+pub use Rattle.cc_words.specs.declared.operators

@@ -6,8 +6,8 @@ use Rattle.cc_types.specs.Limits.{too_many, most_parameters, parameter_excesses,
 use Rattle.cc_types.specs.Typed.{IsWithinLimits}
 use Rattle.cc_types.specs.Scope.{FileScope, file_scope_behind, first_file_scope}
 use Rattle.cc_types.specs.declared.rule.RuleError.{RuleError}
-use Rattle.cc_semantics.specs.Meaning.{Function, functions_from, text_of}
-use Rattle.cc_semantics.specs.Numbered.{IsMeaningOf, arity_in}
+use Rattle.cc_linear_language.specs.Meaning.{Function, functions_from, text_of}
+use Rattle.cc_linear_language.specs.Numbered.{IsMeaningOf, arity_in}
 use Rattle.cc_runs.specs.Meaning.{Meaning}
 
 prefix_none : (xs ys : List RuleError) → xs ++ ys ≡ [] → xs ≡ []

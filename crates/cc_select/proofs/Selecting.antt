@@ -3,7 +3,7 @@
 use Rattle.std.proofs.Common.{ℕ, ◌≤◌, List, length}
 use Rattle.cc_ast.specs.Tree.{External}
 use Rattle.cc_types.specs.Typed.{IsWithinLimits}
-use Rattle.cc_semantics.specs.Meaning.{functions}
+use Rattle.cc_linear_language.specs.Meaning.{functions}
 use Rattle.cc_runs.specs.Meaning.{Meaning}
 use Rattle.cc_runs.specs.Tracks.{TracksForAll}
 use Rattle.cc_runs.proofs.Simulating.{coarser}

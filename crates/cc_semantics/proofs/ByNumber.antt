@@ -1,7 +1,7 @@
 -- The meaning of a typed unit by number has what the passes ask of a meaning.
 use Rattle.std.proofs.Common.{◌≡◌, ℕ, ◌+◌, ◌-◌, ◌≤◌, List, [], ◌∷◌, length, refl, sym, ap, ◌∙◌, subst, arith}
-use Rattle.cc_ast.specs.Tree.{External}
-use Rattle.cc_types.specs.Typed.{IsTyped}
+use Rattle.cc_resolve.specs.Tree.{External}
+use Rattle.cc_resolve.specs.Typed.{IsTyped}
 use Rattle.cc_runs.specs.Behavior.{IsPrefixOf}
 use Rattle.cc_runs.specs.World.{Answer, Effect, Gives, Unfinished, Failed}
 use Rattle.cc_runs.specs.Meaning.{Meaning, Later, written_by}

@@ -2,8 +2,8 @@
 -- more steps it only goes on.
 use Rattle.std.proofs.Common.{◌≡◌, ℕ, zero, suc, ◌+◌, ◌<◌, Bool, true, false, if◌then◌else◌, List, [], ◌∷◌, ◌++◌, length, nat_lt, Option, Some, None, slice_get, codes, refl, sym, ap, ◌∙◌, subst, arith, append-nil, length-append}
 use Rattle.std.proofs.lemmas.List.{nil_from_length}
-use Rattle.cc_ast.specs.Tree.{External}
-use Rattle.cc_types.specs.Names.{same_name}
+use Rattle.cc_resolve.specs.Tree.{External}
+use Rattle.cc_resolve.specs.Names.{same_name}
 use Rattle.cc_resolve.specs.Layout.{names_before, layout_of, callee}
 use Rattle.cc_resolve.specs.declared.layout.Callee.TheVariants.{WriteWord, ReadWord, Defined}
 use Rattle.cc_semantics.specs.declared.cause.Cause.{Cause}

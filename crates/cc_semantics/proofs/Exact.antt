@@ -1,6 +1,6 @@
 -- An answer takes just the steps that it spends, and with more steps a run only goes on.
 use Rattle.std.proofs.Common.{◌≡◌, ℕ, suc, ◌+◌, ◌-◌, ◌≤◌, List, [], slice_get, codes, refl, ap, ◌∙◌, arith}
-use Rattle.cc_ast.specs.Tree.{External}
+use Rattle.cc_resolve.specs.Tree.{External}
 use Rattle.cc_semantics.specs.Meaning.{Run, Gives, Going, Wrong, functions, calls, run_optional, initial_globals, outcome_of}
 use Rattle.cc_semantics.specs.Function.{Shared, Answer, Answers, Unfinished, Failed, effect_of, state_within, name_of_function, call_function, body_of_function, SpendsExactly, GoesOn, RunsGoOn}
 use Rattle.cc_semantics.proofs.Lasting.{written, Lasts, Under}

@@ -1,8 +1,8 @@
 -- Locals as numbered variables, and globals as one list of words.
 use Rattle.std.proofs.Common.{◌≡◌, ℕ, zero, suc, ◌+◌, ◌<◌, ◌≤◌, Bool, true, false, if◌then◌else◌, List, [], ◌∷◌, ◌++◌, length, map, reverse, Some, None, slice_get, slice_set, refl, sym, ap, ◌∙◌, subst, arith, append_assoc, length-append}
 use Rattle.std.proofs.lemmas.List.{reverse-append, length-map, length-reverse}
-use Rattle.cc_words.specs.Widths.{kept}
-use Rattle.cc_types.specs.Names.{same_name}
+use Rattle.cc_runs.specs.Widths.{kept}
+use Rattle.cc_resolve.specs.Names.{same_name}
 use Rattle.cc_resolve.specs.declared.layout.Extent.{Extent}
 use Rattle.cc_resolve.specs.Layout.{LaidObject, extent_of}
 use Rattle.cc_resolve.specs.Environment.{number_in}

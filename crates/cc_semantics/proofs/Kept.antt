@@ -1,16 +1,16 @@
 -- After a call the objects have the names and the sizes that they had.
 use Rattle.std.proofs.Common.{◌≡◌, ℕ, zero, suc, ◌+◌, Bool, true, false, if◌then◌else◌, List, [], ◌∷◌, length, nat_lt, Option, Some, None, is_some, slice_get, slice_set, codes, refl, ap, ◌∙◌}
-use Rattle.cc_words.specs.Widths.{kept}
-use Rattle.cc_tokens.specs.declared.scalar.Scalar.{Scalar}
-use Rattle.cc_tokens.specs.declared.scalar.Scalar.TheVariants.{Int}
-use Rattle.cc_ast.specs.declared.ast.BinaryOperator.{BinaryOperator}
-use Rattle.cc_ast.specs.Tree as tree
-use Rattle.cc_ast.specs.Tree.{Expr, Exprs, none, more, Number, Variable, Element, Call, Parenthesised, Unary, Cast, Binary, Conditional, Target, AtVariable, AtElement, Action, Assign, Step, Evaluate, Declarator, Beginning, Declares, Performs, Stmt, Stmts, end, next, Block, Perform, Return, Break, Continue, If, IfElse, While, DoWhile, For, External}
-use Rattle.cc_types.specs.Names.{same_name}
-use Rattle.cc_types.specs.Operators.{working_type, unary_word, binary_word, decided, applied_operator, step_operator}
-use Rattle.cc_types.specs.Scope as scope
-use Rattle.cc_types.specs.Scope.{Binding, Visible, in_scope, opened, declared, scope_behind, scope_behind_beginning}
-use Rattle.cc_types.specs.Types.{value_type, target_type}
+use Rattle.cc_runs.specs.Widths.{kept}
+use Rattle.cc_resolve.specs.scalar.Scalar.{Scalar}
+use Rattle.cc_resolve.specs.scalar.Scalar.TheVariants.{Int}
+use Rattle.cc_resolve.specs.ast.BinaryOperator.{BinaryOperator}
+use Rattle.cc_resolve.specs.Tree as tree
+use Rattle.cc_resolve.specs.Tree.{Expr, Exprs, none, more, Number, Variable, Element, Call, Parenthesised, Unary, Cast, Binary, Conditional, Target, AtVariable, AtElement, Action, Assign, Step, Evaluate, Declarator, Beginning, Declares, Performs, Stmt, Stmts, end, next, Block, Perform, Return, Break, Continue, If, IfElse, While, DoWhile, For, External}
+use Rattle.cc_resolve.specs.Names.{same_name}
+use Rattle.cc_resolve.specs.Operators.{working_type, unary_word, binary_word, decided, applied_operator, step_operator}
+use Rattle.cc_resolve.specs.Scope as scope
+use Rattle.cc_resolve.specs.Scope.{Binding, Visible, in_scope, opened, declared, scope_behind, scope_behind_beginning}
+use Rattle.cc_resolve.specs.Types.{value_type, target_type}
 use Rattle.cc_semantics.specs.declared.cause.Cause.TheVariants.{Index, Depth}
 use Rattle.cc_semantics.specs.Meaning.{Global, State, Run, Gives, Going, Wrong, Flow, Falls, Breaks, Continues, Returns, then_do, choose, Calls, words_of, with_local_word, with_element, local_word, stored, read_element, given, unless_decided, evaluate, evaluate_all, evaluate_or, Destination, ToVariable, ToElement, destination, old_value, write, new_value, perform, perform_optional, spend_of, behind_flow, behind_body, begin_body, turns, with_local, declare, start, left_scope, in_block, execute, execute_all, Function, functions, function_named, bound, result_of, run_optional, read_input, most_open, calls}
 use Rattle.cc_semantics.specs.Function.{Shared, effect_of, state_within, name_of_function}

@@ -3,11 +3,11 @@ use Rattle.std.proofs.Common.{◌≡◌, ℕ, suc, ◌+◌, ◌<◌, Bool, true,
 use Rattle.std.proofs.lemmas.List.{length-map}
 use Rattle.std.proofs.lemmas.Option.{slice_get-map}
 use Rattle.std.specs.Cmp.Lexicographic.{same_text}
-use Rattle.cc_ast.specs.Tree.{Name, Object, External, Declaration, Definition, Objects}
-use Rattle.cc_types.specs.Names.{same_name}
-use Rattle.cc_types.specs.Scope.{FileScope, has_name, first_file_scope, file_scope_behind}
-use Rattle.cc_types.specs.Types.{object_elements, object_width}
-use Rattle.cc_types.specs.Limits.{function_names, objects, object_name}
+use Rattle.cc_resolve.specs.Tree.{Name, Object, External, Declaration, Definition, Objects}
+use Rattle.cc_resolve.specs.Names.{same_name}
+use Rattle.cc_resolve.specs.Scope.{FileScope, has_name, first_file_scope, file_scope_behind}
+use Rattle.cc_resolve.specs.Types.{object_elements, object_width}
+use Rattle.cc_resolve.specs.Limits.{function_names, objects, object_name}
 use Rattle.cc_resolve.specs.Layout.{LaidObject, laid_from, extent_of, object_number, names_before, layout_of}
 use Rattle.cc_semantics.specs.Meaning.{Global, Function, functions_from, functions, function_named, initial_global}
 use Rattle.cc_semantics.specs.Function.{name_of_function}

@@ -1,8 +1,8 @@
 -- What holds of every call and of the body of every function, whether the unit is typed or not: what a pass cites of the meaning.
 use Rattle.std.specs.Prelude.{◌≡◌, ℕ, ◌+◌, ◌<◌, List, [], ◌++◌, length, map, Some, slice_get, codes}
-use Rattle.cc_words.specs.declared.operators.Width.{Width}
-use Rattle.cc_ast.specs.Tree.{External, Source}
-use Rattle.cc_types.specs.Typed.{IsTyped}
+use Rattle.cc_runs.specs.operators.Width.{Width}
+use Rattle.cc_resolve.specs.Tree.{External, Source}
+use Rattle.cc_resolve.specs.Typed.{IsTyped}
 use Rattle.cc_resolve.specs.Layout.{LaidObject, names_before, layout_of, callee}
 use Rattle.cc_resolve.specs.declared.layout.Callee.{Callee}
 use Rattle.cc_resolve.specs.declared.layout.Callee.TheVariants.{WriteWord, ReadWord, Defined}

@@ -1,8 +1,8 @@
 -- The meaning of one function, as every later pass cites it: what a call of it does, its body after the step of the call,
 -- and what holds of both in each typed unit.
 use Rattle.std.specs.Prelude.{◌≡◌, ℕ, suc, ◌+◌, ◌-◌, ◌<◌, ◌≤◌, List, [], length, map, unwrap_or, slice_get}
-use Rattle.cc_ast.specs.Tree.{External, Source}
-use Rattle.cc_types.specs.Typed.{IsTyped}
+use Rattle.cc_resolve.specs.Tree.{External, Source}
+use Rattle.cc_resolve.specs.Typed.{IsTyped}
 use Rattle.cc_runs.specs.Behavior.{IsPrefixOf}
 use Rattle.cc_semantics.specs.Outcome as outcome
 use Rattle.cc_semantics.specs.Outcome.{Stop, Outcome}

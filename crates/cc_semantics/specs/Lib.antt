@@ -11,3 +11,5 @@ pub mod Calls
 -- the same by number, as the passes speak of it
 pub mod Numbered
 pub mod rows
+-- Pages of crates below that clauses here cite, handed on.
+pub use Rattle.cc_resolve.specs.Layout

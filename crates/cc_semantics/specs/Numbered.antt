@@ -1,7 +1,7 @@
 -- The meaning of a unit by number, as the passes of the compiler speak of it: functions and objects by their numbers, and no causes.
 use Rattle.std.specs.Prelude.{◌≡◌, ℕ, List, [], ◌∷◌, length, map, unwrap_or, slice_get}
-use Rattle.cc_ast.specs.Tree.{External, Source}
-use Rattle.cc_types.specs.Typed.{IsTyped}
+use Rattle.cc_resolve.specs.Tree.{External, Source}
+use Rattle.cc_resolve.specs.Typed.{IsTyped}
 use Rattle.cc_runs.specs.Behavior as runs
 use Rattle.cc_runs.specs.World.{Object, Size, size_of, World, Effect, Gives, Unfinished, Failed}
 use Rattle.cc_runs.specs.Meaning.{Meaning}

@@ -2,12 +2,12 @@
 -- word, a name that is indexed is an object, and a call is one of a builtin or of a function of the unit, with as many arguments as
 -- it has parameters.
 use Rattle.std.specs.Prelude.{◌≡◌, ℕ, ◌<◌, List, [], ◌∷◌, length, map, Option, Some, None, slice_get}
-use Rattle.cc_words.specs.declared.operators.Width.TheVariants.{Word}
-use Rattle.cc_tokens.specs.declared.scalar.Scalar.{Scalar}
-use Rattle.cc_ast.specs.Tree as tree
-use Rattle.cc_ast.specs.Tree.{Expr, Exprs, none, more, Number, Variable, Element, Parenthesised, Unary, Cast, Binary, Conditional, Target, AtVariable, AtElement, Action, Assign, Step, Evaluate, Declarator, Beginning, Declares, Performs, Stmt, Stmts, end, next, Block, Perform, Return, Break, Continue, If, IfElse, While, DoWhile, For, Parameter, Signature, External, Definition}
-use Rattle.cc_types.specs.Rules.{count_of}
-use Rattle.cc_types.specs.Typed.{IsTyped, definitions}
+use Rattle.cc_runs.specs.operators.Width.TheVariants.{Word}
+use Rattle.cc_resolve.specs.scalar.Scalar.{Scalar}
+use Rattle.cc_resolve.specs.Tree as tree
+use Rattle.cc_resolve.specs.Tree.{Expr, Exprs, none, more, Number, Variable, Element, Parenthesised, Unary, Cast, Binary, Conditional, Target, AtVariable, AtElement, Action, Assign, Step, Evaluate, Declarator, Beginning, Declares, Performs, Stmt, Stmts, end, next, Block, Perform, Return, Break, Continue, If, IfElse, While, DoWhile, For, Parameter, Signature, External, Definition}
+use Rattle.cc_resolve.specs.Rules.{count_of}
+use Rattle.cc_resolve.specs.Typed.{IsTyped, definitions}
 use Rattle.cc_resolve.specs.Layout.{object_number, extent_of, layout_of, callee}
 use Rattle.cc_resolve.specs.declared.layout.Extent.{Extent}
 use Rattle.cc_resolve.specs.declared.layout.Callee.{Callee}

@@ -1,7 +1,7 @@
 -- Why a text is not compiled by the workers.
 use Rattle.std.specs.Prelude.{◌≡◌, ◌⊎◌, ℕ, List, length}
 use Rattle.cc_ast.specs.Tree.{External}
-use Rattle.cc_semantics.specs.Meaning.{functions}
+use Rattle.cc_link.specs.Meaning.{functions}
 use Rattle.cc_link.specs.Compile.{IsTooLarge}
 use Rattle.cc_link.specs.Text.{IsProgramText, IsTextRefusal}
 use Rattle.cc_pool.specs.Fault.{IsJobRefusal}

@@ -11,3 +11,9 @@ pub mod Compiling
 pub mod Serving
 -- what serves private contracts
 pub mod internal
+-- Pages of crates below that clauses here cite, handed on.
+pub use Rattle.cc_recorded.specs.Book
+pub use Rattle.cc_recorded.specs.Fault as FaultOfRecorded
+pub use Rattle.cc_recorded.specs.Promise
+pub use Rattle.cc_recorded.specs.Since
+pub use Rattle.cc_recorded.specs.declared.fault

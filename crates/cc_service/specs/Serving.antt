@@ -1,7 +1,7 @@
 -- What a call of a service answers, as its client sees it. The value of the lock at that moment is no client's to name: what becomes of
 -- it is said of the book's calls.
 use Rattle.std.specs.Prelude.{◌≡◌, ◌≢◌, ◌⊎◌, ℕ, ◌-◌, Bool, IsTrue, List, length, Option, Some, slice_get, Result, Ok, Err}
-use Rattle.cc_unit.specs.declared.unit.StoredUnit.{StoredUnit}
+use Rattle.cc_library.specs.unit.StoredUnit.{StoredUnit}
 use Rattle.cc_link.specs.Agree.{Agree}
 use Rattle.cc_library.specs.Name.{is_name}
 use Rattle.cc_library.specs.Answers.{OpenFaults}

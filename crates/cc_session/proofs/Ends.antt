@@ -7,19 +7,19 @@ use Rattle.cc_library.specs.Apply.{Units}
 use Rattle.cc_library.specs.Recovered.{Recovers}
 use Rattle.cc_library.specs.declared.fault.LibraryFault.{LibraryFault}
 use Rattle.cc_library.specs.declared.fault.LibraryFault.TheVariants as library
-use Rattle.cc_journal.specs.Format.{HasHeader}
+use Rattle.cc_library.specs.Format.{HasHeader}
 use Rattle.cc_history.specs.declared.entry.Entry.{Entry}
 use Rattle.cc_history.specs.declared.standing.StandingFault.{StandingFault}
 use Rattle.cc_history.specs.declared.standing.StandingFault.TheVariants as standing
 use Rattle.cc_history.specs.Closing.{AreOwn, IsClosed, IsNotWhole}
 use Rattle.cc_history.specs.History.{Holder}
-use Rattle.cc_recorded.specs.Book.{BookView}
-use Rattle.cc_recorded.specs.Fault.{book_fault_number, fault_of}
+use Rattle.cc_service.specs.Book.{BookView}
+use Rattle.cc_service.specs.FaultOfRecorded.{book_fault_number, fault_of}
 use Rattle.cc_service.specs.Fault.{fault_number}
-use Rattle.cc_recorded.specs.Promise.{IsGivenUp, IsSound}
-use Rattle.cc_recorded.specs.Since.{IsPast}
+use Rattle.cc_service.specs.Promise.{IsGivenUp, IsSound}
+use Rattle.cc_service.specs.Since.{IsPast}
 use Rattle.cc_service.specs.Serving.{IsNotEnded, IsNotOpened}
-use Rattle.cc_recorded.specs.declared.fault.BookFault.{BookFault}
+use Rattle.cc_service.specs.fault.BookFault.{BookFault}
 use Rattle.cc_service.specs.declared.fault.ServiceFault.{ServiceFault}
 use Rattle.cc_service.specs.declared.fault.ServiceFault.TheVariants as service
 use Rattle.cc_session.specs.Session.{EndsSince, IsEnded, IsLeft, IsUnopened, ServiceEnds, told_after}

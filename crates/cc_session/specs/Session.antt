@@ -6,9 +6,9 @@ use Rattle.cc_library.specs.Recovered.{Recovers}
 use Rattle.cc_history.specs.declared.entry.Entry.{Entry}
 use Rattle.cc_history.specs.Closing.{AreOwn, IsClosed, IsNotWhole}
 use Rattle.cc_history.specs.History.{Holder}
-use Rattle.cc_recorded.specs.Book.{BookView}
+use Rattle.cc_service.specs.Book.{BookView}
 use Rattle.cc_service.specs.Fault.{fault_number}
-use Rattle.cc_recorded.specs.Promise.{IsSound}
+use Rattle.cc_service.specs.Promise.{IsSound}
 use Rattle.cc_service.specs.Serving.{IsNotOpened}
 use Rattle.cc_service.specs.declared.fault.ServiceFault.{ServiceFault}
 use Rattle.cc_script.specs.Fault as faults

@@ -5,7 +5,7 @@ ghost use Rattle.cc_disk.specs.Images.{OnlyReads};
 ghost use Rattle.cc_library.specs.Answers.{OpenFaults};
 ghost use Rattle.cc_library.specs.Apply.{Units};
 ghost use Rattle.cc_library.specs.Recovered.{Recovers};
-ghost use Rattle.cc_recorded.specs.Since.{IsPast};
+ghost use Rattle.cc_service.specs.Since.{IsPast};
 ghost use Rattle.cc_service.specs.Client.{holders};
 ghost use Rattle.cc_session.specs.Session.{EndsSince, HaveCalled, IsEnded, SessionEnds, told_after};
 ghost use Rattle.cc_session.specs.internal.Steps.{EndsFor};

@@ -8,7 +8,7 @@ ghost use Rattle.cc_library.specs.Apply.{Units};
 ghost use Rattle.cc_library.specs.Recovered.{Recovers};
 ghost use Rattle.cc_service.specs.Client.{holders};
 ghost use Rattle.cc_service.specs.Fault.{fault_number};
-ghost use Rattle.cc_recorded.specs.Since.{IsPast};
+ghost use Rattle.cc_service.specs.Since.{IsPast};
 ghost use Rattle.cc_service.specs.declared.fault.ServiceFault.TheVariants.{TooManyClients};
 ghost use Rattle.cc_session.specs.Session.{EndsSince, HasEnded};
 ghost use Rattle.cc_session.specs.declared.end.SessionEnd.TheVariants.{Fault};

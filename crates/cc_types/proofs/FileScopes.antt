@@ -1,6 +1,6 @@
 -- Parameters leave what is around them, and what objects add to file scope is the same whatever is defined.
 use Rattle.std.proofs.Common.{◌≡◌, List, [], ◌∷◌, Option, Some, None, refl, ap, ◌∙◌}
-use Rattle.cc_tokens.specs.declared.scalar.Scalar.{Scalar}
+use Rattle.cc_ast.specs.scalar.Scalar.{Scalar}
 use Rattle.cc_ast.specs.Tree as tree
 use Rattle.cc_ast.specs.Tree.{Parameter, Object, Single, Array, Bytes}
 use Rattle.cc_types.specs.Scope.{Visible, FileScope, with_object, with_objects, parameter_declared, parameters_declared}

@@ -1,7 +1,7 @@
 -- Two functions' parameters, one by one.
 use Rattle.std.proofs.Common.{◌≡◌, ◌≢◌, ℕ, suc, ◌+◌, ◌<◌, Bool, true, false, ◌&&◌, List, [], ◌∷◌, length, drop, get_or, drop-cons, refl, sym, ap, ◌∙◌, arith}
 use Rattle.cc_ast.specs.Erase.{parameter_trees}
-use Rattle.cc_tokens.specs.declared.scalar.Scalar.{Scalar}
+use Rattle.cc_ast.specs.scalar.Scalar.{Scalar}
 use Rattle.cc_ast.specs.declared.ast.Parameter.{Parameter}
 use Rattle.cc_types.specs.internal.Scopes.{scalars}
 use Rattle.cc_types.specs.Scope.{same_scalar, same_scalars}

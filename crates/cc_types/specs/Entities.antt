@@ -1,7 +1,7 @@
 -- What the code keeps of names, as the definitions see it.
 use Rattle.std.specs.Prelude.{ℕ, List, [], ◌∷◌, map, Option, Some, None}
 use Rattle.std.specs.Borrow.{Bor}
-use Rattle.cc_tokens.specs.declared.scalar.Scalar.TheVariants.{Int}
+use Rattle.cc_ast.specs.scalar.Scalar.TheVariants.{Int}
 use Rattle.cc_ast.specs.Erase.{signature_tree}
 use Rattle.cc_types.specs.Scope as scope
 use Rattle.cc_types.specs.Scope.{Visible, function_entity}

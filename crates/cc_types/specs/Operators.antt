@@ -3,8 +3,8 @@
 -- same functions.
 use Rattle.std.specs.Prelude.{ℕ, ◌==◌, ◌&&◌, ◌||◌, Bool, not, if◌then◌else◌, Option, Some, None}
 use Rattle.cc_words.specs.Words.{truth_value, add, sub, mul, neg, complement, is_zero, eq, ne, lt_s, le_s, lt_u, le_u, div_s, rem_s, div_u, rem_u, shl, shr_s, shr_u, and, or, xor}
-use Rattle.cc_tokens.specs.declared.scalar.Scalar.{Scalar}
-use Rattle.cc_tokens.specs.declared.scalar.Scalar.TheVariants.{Int, Unsigned}
+use Rattle.cc_ast.specs.scalar.Scalar.{Scalar}
+use Rattle.cc_ast.specs.scalar.Scalar.TheVariants.{Int, Unsigned}
 use Rattle.cc_ast.specs.declared.ast.UnaryOperator.{UnaryOperator}
 use Rattle.cc_ast.specs.declared.ast.UnaryOperator.TheVariants.{Plus, Minus, Complement, Not}
 use Rattle.cc_ast.specs.declared.ast.BinaryOperator.{BinaryOperator}

@@ -4,8 +4,8 @@ use Rattle.cc_words.specs.Words.{lt_s}
 use Rattle.cc_words.specs.Widths.{words_of}
 use Rattle.cc_words.specs.declared.operators.Width.{Width}
 use Rattle.cc_words.specs.declared.operators.Width.TheVariants.{Byte, Word}
-use Rattle.cc_tokens.specs.declared.scalar.Scalar.{Scalar}
-use Rattle.cc_tokens.specs.declared.scalar.Scalar.TheVariants.{Int, Unsigned}
+use Rattle.cc_ast.specs.scalar.Scalar.{Scalar}
+use Rattle.cc_ast.specs.scalar.Scalar.TheVariants.{Int, Unsigned}
 use Rattle.cc_ast.specs.Tree as tree
 use Rattle.cc_ast.specs.Tree.{Name, Expr, Exprs, none, more, Number, Element, Call, Parenthesised, Unary, Cast, Binary, Conditional, Target, AtVariable, AtElement, ConstantExpr, Object, Single, Array, Bytes}
 use Rattle.cc_types.specs.Operators.{common_type, working_type, binary_type, unary_type, unary_word, binary_word, decided, is_true}

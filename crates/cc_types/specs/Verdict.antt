@@ -1,6 +1,6 @@
 -- What `parse` and then `check` come to for a text.
 use Rattle.std.specs.Prelude.{◌≡◌, ℕ, List, Some, None, Ok, Err}
-use Rattle.cc_tokens.specs.declared.fault.SyntaxFault.{SyntaxFault}
+use Rattle.cc_ast.specs.fault.SyntaxFault.{SyntaxFault}
 use Rattle.cc_ast.specs.Tree.{External, Source}
 use Rattle.cc_ast.specs.Parse.{IsParseAnswer}
 use Rattle.cc_types.specs.declared.fault.TypeFault.{TypeFault}

@@ -1,7 +1,7 @@
 -- The walk over file scope.
 use Rattle.std.proofs.Common.{◌≡◌, ℕ, Bool, true, false, List, [], ◌∷◌, ◌++◌, length, Option, Some, None, refl, sym, ap, ◌∙◌}
 use Rattle.std.specs.Prelude.{not, is_some}
-use Rattle.cc_tokens.specs.declared.scalar.Scalar.{Scalar}
+use Rattle.cc_ast.specs.scalar.Scalar.{Scalar}
 use Rattle.cc_ast.specs.Tree as tree
 use Rattle.cc_ast.specs.Tree.{Parameter, Signature, Object, Single, Array, Bytes, External, Declaration, Definition, Objects, Stmts, ConstantExpr}
 use Rattle.cc_types.specs.Bindings.{closed, file_level, file_of, file_with}

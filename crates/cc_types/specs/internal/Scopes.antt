@@ -1,6 +1,6 @@
 -- What the code asks of what is in scope.
 use Rattle.std.specs.Prelude.{ℕ, Bool, false, List, map, Option, Some, None, nat_le}
-use Rattle.cc_tokens.specs.declared.scalar.Scalar.{Scalar}
+use Rattle.cc_ast.specs.scalar.Scalar.{Scalar}
 use Rattle.cc_ast.specs.Tree.{Parameter}
 
 -- a number from k on

@@ -1,6 +1,6 @@
 -- What the code has found so far.
 use Rattle.std.specs.Prelude.{ℕ, ◌==◌, ◌&&◌, ◌||◌, ◌++◌, Bool, true, false, List, [], ◌∷◌, Option, Some, None, if◌then◌else◌, nat_lt}
-use Rattle.cc_tokens.specs.declared.scalar.Scalar.{Scalar}
+use Rattle.cc_ast.specs.scalar.Scalar.{Scalar}
 use Rattle.cc_ast.specs.Tree.{Name, Expr, Declarator}
 use Rattle.cc_types.specs.Fault.{rule_number}
 use Rattle.cc_typing.specs.internal.Functions.{Functions}

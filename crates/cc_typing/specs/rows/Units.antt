@@ -2,7 +2,7 @@
 use Rattle.std.specs.Prelude.{◌≡◌, refl, ℕ, zero, suc, replicate, ◌+◌, ◌/◌, ◌%◌, true, false, List, [], ◌∷◌, ◌++◌, Some, None, codes}
 use Rattle.cc_ast.specs.Tree as tree
 use Rattle.cc_ast.specs.Tree.{Name, Stmt, External}
-use Rattle.cc_tokens.specs.declared.scalar.Scalar.TheVariants.{Int, Unsigned}
+use Rattle.cc_ast.specs.scalar.Scalar.TheVariants.{Int, Unsigned}
 use Rattle.cc_ast.specs.declared.ast.UnaryOperator.TheVariants.{Minus, Not}
 use Rattle.cc_ast.specs.declared.ast.BinaryOperator.TheVariants.{Divide, Add, Less}
 use Rattle.cc_ast.specs.declared.ast.AssignmentOperator.TheVariants as assignment

@@ -3,8 +3,8 @@ use Rattle.std.proofs.Common.{◌≡◌, ◌⊎◌, inl, inr, length, List, Resu
 use Rattle.std.specs.Arc.{arc_value}
 use Rattle.cc_ast.specs.Source.{source}
 use Rattle.cc_ast.specs.Tree.{Source}
-use Rattle.cc_semantics.specs.Meaning.{functions}
-use Rattle.cc_unit.specs.declared.unit.StoredUnit.{StoredUnit}
+use Rattle.cc_link.specs.Meaning.{functions}
+use Rattle.cc_library.specs.unit.StoredUnit.{StoredUnit}
 use Rattle.cc_emit.specs.Piece.{Piece}
 use Rattle.cc_link.specs.Linked.{linked}
 use Rattle.cc_link.specs.Pieces.{AreFrom}

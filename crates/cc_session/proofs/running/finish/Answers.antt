@@ -2,7 +2,7 @@
 use Rattle.std.proofs.Common.{◌≡◌, ℕ, Vec, Global, sym, subst}
 use Rattle.std.specs.Prelude.{◌⊎◌}
 use Rattle.cc_service.specs.Client.{ClientView, holders}
-use Rattle.cc_recorded.specs.Promise.{IsGivenUp}
+use Rattle.cc_service.specs.Promise.{IsGivenUp}
 use Rattle.cc_session.specs.Session.{IsEnded}
 use Rattle.cc_session.specs.declared.end.SessionEnd.{SessionEnd}
 use Rattle.cc_session.proofs.Ends.{given_up_by, kept_by, refusal_number}
