@@ -4,7 +4,7 @@
 //! line, `words` has what is told of a fault by its number, `commands` what is told of the commands of a script. `teller` has the two
 //! streams of a script's answers, and writes each answer to them; `person` is to whom the rest is told, or that nobody is.
 //!
-//! It knows neither tasks nor services, so both front ends stand on it: `cc_program` and `cc_session`. Hands out these, and the
+//! It knows neither tasks nor services, so both front ends stand on it: `cc_tasks` and `cc_session`. Hands out these, and the
 //! definitions that their contracts name (`specs/`).
 #![tactic(auto)]
 

@@ -7,21 +7,21 @@ use Rattle.cc_resolve.specs.Layout.{Layout, LaidObject, layout_of, callee}
 use Rattle.cc_resolve.specs.Environment.{Environment, parameter_names}
 use Rattle.cc_resolve.specs.declared.layout.Callee.{Callee}
 use Rattle.cc_resolve.specs.declared.layout.Callee.TheVariants.{WriteWord, ReadWord, Defined}
-use Rattle.cc_semantics.specs.Meaning as meaning
-use Rattle.cc_semantics.specs.Meaning.{Global, State, Run, Gives, Flow, Falls, Breaks, Continues, Returns, then_do, execute_all, Function, functions, calls, bound, result_of, run_optional, initial_globals, text_of}
-use Rattle.cc_semantics.specs.Function.{Shared, effect_of, state_within, call_function}
-use Rattle.cc_semantics.specs.Resolved as resolved
-use Rattle.cc_semantics.specs.Resolved.{arities, IsResolved}
-use Rattle.cc_semantics.specs.Calls.{Size, size, sizes, laid_size, laid_sizes, shared_of, called, CallsAreEffects, CallsKeepObjects, FunctionsAreNumbered, ObjectsAreNumbered, ObjectsAreSized}
-use Rattle.cc_semantics.specs.Numbered as by_number
-use Rattle.cc_semantics.specs.Numbered.{objects_of, world_of, named, shared_in, numbered, call_in, body_in, arity_in, IsMeaningOf, CallsAreNumbered}
+use Rattle.cc_c_laws.specs.Meaning as meaning
+use Rattle.cc_c_laws.specs.Meaning.{Global, State, Run, Gives, Flow, Falls, Breaks, Continues, Returns, then_do, execute_all, Function, functions, calls, bound, result_of, run_optional, initial_globals, text_of}
+use Rattle.cc_c_laws.specs.Function.{Shared, effect_of, state_within, call_function}
+use Rattle.cc_c_laws.specs.Resolved as resolved
+use Rattle.cc_c_laws.specs.Resolved.{arities, IsResolved}
+use Rattle.cc_c_laws.specs.Calls.{Size, size, sizes, laid_size, laid_sizes, shared_of, called, CallsAreEffects, CallsKeepObjects, FunctionsAreNumbered, ObjectsAreNumbered, ObjectsAreSized}
+use Rattle.cc_c_laws.specs.Numbered as by_number
+use Rattle.cc_c_laws.specs.Numbered.{objects_of, world_of, named, shared_in, numbered, call_in, body_in, arity_in, IsMeaningOf, CallsAreNumbered}
 use Rattle.cc_types.specs.Typed.{IsTyped}
-use Rattle.cc_runs.specs.Behavior.{Ended}
-use Rattle.cc_runs.specs.World as world
-use Rattle.cc_runs.specs.World.{World, Question, Answer, Effect}
-use Rattle.cc_runs.specs.Run.{tried, Returns as Ret, run, act}
-use Rattle.cc_runs.specs.Meaning.{Meaning, most_open, IsCall, call_effect}
-use Rattle.cc_runs.specs.Tracks.{Keeping}
+use Rattle.cc_simulation.specs.Behavior.{Ended}
+use Rattle.cc_simulation.specs.World as world
+use Rattle.cc_simulation.specs.World.{World, Question, Answer, Effect}
+use Rattle.cc_simulation.specs.Run.{tried, Returns as Ret, run, act}
+use Rattle.cc_simulation.specs.Meaning.{Meaning, most_open, IsCall, call_effect}
+use Rattle.cc_simulation.specs.Tracks.{Keeping}
 use Rattle.cc_cminor.specs.Cminor.{Ends, Config, config, cminor_move, cminor_output, first_variables}
 use Rattle.cc_cminor.specs.Pair.{KeepsUp}
 use Rattle.cc_cminor.specs.internal.Lowering.{body_code}

@@ -11,8 +11,8 @@ use Rattle.cc_words.specs.declared.operators.Unary.TheVariants as one
 use Rattle.cc_words.specs.declared.operators.Binary as binary
 use Rattle.cc_words.specs.declared.operators.Binary.TheVariants as two
 use Rattle.cc_words.proofs.Laws.{le_s-lt_s, le_u-lt_u, lt_s_cases, lt_u_cases}
-use Rattle.cc_runs.specs.World.{World}
-use Rattle.cc_runs.specs.Run.{Goes, tried}
+use Rattle.cc_simulation.specs.World.{World}
+use Rattle.cc_simulation.specs.Run.{Goes, tried}
 use Rattle.cc_cminor.specs.Cminor.{Expression, Constant, Local, Unary, Binary, Load, then_value, value, Statement, If, Continuation, config, chosen, moves}
 use Rattle.cc_cminor.specs.internal.Lowering.{is_nothing, is_constant, compared, is_opposite, condition, is_reversed, branch}
 

@@ -2,12 +2,12 @@
 -- source follows it.
 use Rattle.std.proofs.Common.{◌≡◌, ℕ, zero, suc, List, [], ◌∷◌, ◌++◌, Option, Some, None, option_map, refl, sym, ap, subst}
 use Rattle.cc_ast.specs.Tree.{External}
-use Rattle.cc_runs.specs.Behavior.{IsPrefixOf}
-use Rattle.cc_runs.specs.World.{World, Question, Answer, element, stored}
-use Rattle.cc_runs.specs.Run.{Move, Goes, Calls, Returns, Fails, tried}
-use Rattle.cc_runs.specs.Cuts.{IsLayer}
-use Rattle.cc_runs.proofs.Behaving.{begins_refl}
-use Rattle.cc_runs.proofs.Following.{tracks_follow}
+use Rattle.cc_simulation.specs.Behavior.{IsPrefixOf}
+use Rattle.cc_simulation.specs.World.{World, Question, Answer, element, stored}
+use Rattle.cc_simulation.specs.Run.{Move, Goes, Calls, Returns, Fails, tried}
+use Rattle.cc_simulation.specs.Cuts.{IsLayer}
+use Rattle.cc_simulation.proofs.Behaving.{begins_refl}
+use Rattle.cc_simulation.proofs.Following.{tracks_follow}
 use Rattle.cc_cminor.specs.Cminor.{Statement, Skip, Set, Store, Call, Read, Write, Sequence, If, Loop, Block, Exit, Return, Continuation, Ends, Then, Again, Leaving, Config, config, value, values, put_result, moves, cminor_move, cminor_output}
 use Rattle.cc_cminor.specs.Pair.{KeepsUp, FollowsFunction}
 

@@ -1,13 +1,13 @@
 -- Paths of a Cminor run, and what the code at a configuration owes a part of the source's run.
 use Rattle.std.proofs.Common.{◌≡◌, ℕ, suc, ◌+◌, ◌-◌, ◌≤◌, List, [], ◌∷◌, refl, ap, ◌∙◌, arith, add_assoc}
-use Rattle.cc_semantics.specs.Meaning as meaning
-use Rattle.cc_semantics.specs.Meaning.{State, Run, Gives, then_do}
-use Rattle.cc_semantics.specs.Numbered.{objects_of}
-use Rattle.cc_runs.specs.Behavior.{Going, Outcome}
-use Rattle.cc_runs.specs.World as world
-use Rattle.cc_runs.specs.World.{Question, Answer, Effect}
-use Rattle.cc_runs.specs.Run as layer
-use Rattle.cc_runs.specs.Run.{Move, Goes, Calls, run, work, act, work_act, work_resumed}
+use Rattle.cc_c_laws.specs.Meaning as meaning
+use Rattle.cc_c_laws.specs.Meaning.{State, Run, Gives, then_do}
+use Rattle.cc_c_laws.specs.Numbered.{objects_of}
+use Rattle.cc_simulation.specs.Behavior.{Going, Outcome}
+use Rattle.cc_simulation.specs.World as world
+use Rattle.cc_simulation.specs.World.{Question, Answer, Effect}
+use Rattle.cc_simulation.specs.Run as layer
+use Rattle.cc_simulation.specs.Run.{Move, Goes, Calls, run, work, act, work_act, work_resumed}
 use Rattle.cc_cminor.specs.Cminor.{Statement, Skip, Sequence, Exit, Continuation, Then, Config, config, cminor_move, cminor_output}
 use Rattle.cc_cminor.specs.Code.{in_sequence}
 

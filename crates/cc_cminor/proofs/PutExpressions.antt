@@ -13,15 +13,15 @@ use Rattle.cc_resolve.specs.Layout.{Layout, callee}
 use Rattle.cc_resolve.specs.Environment.{Environment, types_in}
 use Rattle.cc_resolve.specs.declared.layout.Callee.{Callee}
 use Rattle.cc_resolve.specs.declared.layout.Callee.TheVariants.{WriteWord, ReadWord, Defined}
-use Rattle.cc_semantics.specs.Meaning as meaning
-use Rattle.cc_semantics.specs.Meaning.{State, Run, Gives, then_do, choose, given, unless_decided, read_element, read_input, evaluate, evaluate_all, variable_word}
-use Rattle.cc_semantics.specs.Function as by_name
-use Rattle.cc_semantics.specs.Calls.{sizes, laid_sizes, shared_of, after_call, KeepsObjects}
-use Rattle.cc_semantics.specs.Numbered.{world_of, numbered}
-use Rattle.cc_runs.specs.World as world
-use Rattle.cc_runs.specs.World.{World, Question, Answer, Effect, first_or_zero, rest_of}
-use Rattle.cc_runs.specs.Run as layer
-use Rattle.cc_runs.specs.Run.{Move, Goes, Calls, tried, run, work, act, work_act, work_resumed}
+use Rattle.cc_c_laws.specs.Meaning as meaning
+use Rattle.cc_c_laws.specs.Meaning.{State, Run, Gives, then_do, choose, given, unless_decided, read_element, read_input, evaluate, evaluate_all, variable_word}
+use Rattle.cc_c_laws.specs.Function as by_name
+use Rattle.cc_c_laws.specs.Calls.{sizes, laid_sizes, shared_of, after_call, KeepsObjects}
+use Rattle.cc_c_laws.specs.Numbered.{world_of, numbered}
+use Rattle.cc_simulation.specs.World as world
+use Rattle.cc_simulation.specs.World.{World, Question, Answer, Effect, first_or_zero, rest_of}
+use Rattle.cc_simulation.specs.Run as layer
+use Rattle.cc_simulation.specs.Run.{Move, Goes, Calls, tried, run, work, act, work_act, work_resumed}
 use Rattle.cc_cminor.specs.Cminor.{Expression, Constant, Local, Load, then_value, value, values, put, Statement, Skip, Set, Call, Read, Write, Sequence, Continuation, Then, Config, config, cminor_move}
 use Rattle.cc_cminor.specs.Code.{in_sequence}
 use Rattle.cc_cminor.specs.internal.Lowering.{branch, free, object_of, width_of, variable_of, unary_of, truth_of, binary_of, Kind, Conjunction, Disjunction, Strict, kind, is_strict, is_plain, are_plain, plain, all_plain, used, called_on, count, locals_from, last_value, invoked, connected, put_expr, put_all}

@@ -1,12 +1,12 @@
 -- Cminor: numbered word variables, expressions without effect, and structured statements. Its syntax as data, and what one move does;
--- the run of a function is then that of every intermediate language (`Rattle.cc_runs.specs.Run`).
+-- the run of a function is then that of every intermediate language (`Rattle.cc_simulation.specs.Run`).
 use Rattle.std.specs.Prelude.{ℕ, zero, suc, ◌==◌, List, [], ◌∷◌, Option, Some, None, if◌then◌else◌, get_or}
 use Rattle.cc_words.specs.declared.operators.Unary as one
 use Rattle.cc_words.specs.declared.operators.Binary as two
 use Rattle.cc_words.specs.declared.operators.Width.{Width}
 use Rattle.cc_words.specs.Operators.{apply_unary, apply_binary}
-use Rattle.cc_runs.specs.World.{World, element, stored, next_word, after_read, after_write}
-use Rattle.cc_runs.specs.Run.{Move, Goes, Calls, Returns, Fails, tried}
+use Rattle.cc_simulation.specs.World.{World, element, stored, next_word, after_read, after_write}
+use Rattle.cc_simulation.specs.Run.{Move, Goes, Calls, Returns, Fails, tried}
 
 -- ---- syntax
 

@@ -4,14 +4,14 @@ use Rattle.cc_ast.specs.Tree.{External}
 use Rattle.cc_ast.specs.Source.{source}
 use Rattle.cc_ast.specs.declared.unit.Unit as parsed
 use Rattle.cc_types.specs.Typed.{IsTyped}
-use Rattle.cc_semantics.specs.Meaning.{functions}
-use Rattle.cc_semantics.specs.Resolved.{arities}
-use Rattle.cc_semantics.specs.Numbered.{IsMeaningOf}
-use Rattle.cc_runs.specs.Behavior.{Follows}
-use Rattle.cc_runs.specs.World.{World}
-use Rattle.cc_runs.specs.Run.{run}
-use Rattle.cc_runs.specs.Meaning.{Meaning, most_open, IsCall, call_effect, answered}
-use Rattle.cc_runs.specs.Tracks.{Tracks}
+use Rattle.cc_c_laws.specs.Meaning.{functions}
+use Rattle.cc_c_laws.specs.Resolved.{arities}
+use Rattle.cc_c_laws.specs.Numbered.{IsMeaningOf}
+use Rattle.cc_simulation.specs.Behavior.{Follows}
+use Rattle.cc_simulation.specs.World.{World}
+use Rattle.cc_simulation.specs.Run.{run}
+use Rattle.cc_simulation.specs.Meaning.{Meaning, most_open, IsCall, call_effect, answered}
+use Rattle.cc_simulation.specs.Tracks.{Tracks}
 use Rattle.cc_cminor.specs.Cminor.{Expression, Statement, Skip, Set, Store, Call, Read, Write, Sequence, If, Loop, Block, Exit, Return, cminor_move, cminor_output, cminor_start}
 use Rattle.cc_cminor.specs.declared.code.Statement as code
 use Rattle.cc_cminor.specs.Code.{statement_of}

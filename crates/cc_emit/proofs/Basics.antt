@@ -4,9 +4,9 @@ use Rattle.std.specs.Prelude.{◌==◌, if◌then◌else◌, ◌&&◌, not, slic
 use Rattle.std.proofs.lemmas.Bool.Decides.{eqb_tells, nat_tests}
 use Rattle.cc_rv32.specs.Machine as machine
 use Rattle.cc_rv32.specs.Machine.{is_accessible, stack_from, stack_to, with_register, with_word}
-use Rattle.cc_runs.specs.Behavior.{AreWords}
-use Rattle.cc_runs.specs.World.{first_or_zero, rest_of}
-use Rattle.cc_runs.specs.Unknown.{survives}
+use Rattle.cc_simulation.specs.Behavior.{AreWords}
+use Rattle.cc_simulation.specs.World.{first_or_zero, rest_of}
+use Rattle.cc_simulation.specs.Unknown.{survives}
 use Rattle.cc_ltl.specs.declared.location.Location.TheVariants.{Register, Slot}
 use Rattle.cc_ltl.specs.Ltl.{Locations, put}
 use Rattle.cc_emit.specs.Contract.{IsKept}

@@ -5,9 +5,9 @@ use Rattle.cc_words.specs.Words.{add, lt_u}
 use Rattle.cc_words.specs.Operators.{apply_unary, apply_binary}
 use Rattle.cc_words.specs.declared.operators.Unary as unary
 use Rattle.cc_words.specs.declared.operators.Binary as binary
-use Rattle.cc_runs.specs.Behavior.{AreWords}
-use Rattle.cc_runs.specs.World.{first_or_zero, World, element, next_word, after_read, after_write, with_element}
-use Rattle.cc_runs.specs.Run.{Fails, Goes, tried}
+use Rattle.cc_simulation.specs.Behavior.{AreWords}
+use Rattle.cc_simulation.specs.World.{first_or_zero, World, element, next_word, after_read, after_write, with_element}
+use Rattle.cc_simulation.specs.Run.{Fails, Goes, tried}
 use Rattle.cc_ltl.specs.declared.location.Location.TheVariants.{Register, Slot}
 use Rattle.cc_ltl.specs.declared.operation.Move.{Move}
 use Rattle.cc_ltl.specs.declared.operation.Move.TheVariants.{Between, Reload, Spill}

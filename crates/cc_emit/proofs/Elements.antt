@@ -7,7 +7,7 @@ use Rattle.cc_words.specs.declared.operators.Width.{Width}
 use Rattle.cc_words.specs.declared.operators.Width.TheVariants.{Word}
 use Rattle.cc_words.specs.Widths.{bytes, kept, same_width, words_of}
 use Rattle.cc_rv32.specs.Machine.{State, globals_to, loaded, stored}
-use Rattle.cc_runs.specs.World.{Object, Size, World, element, object_of, object_with, object_words, size_of, with_element}
+use Rattle.cc_simulation.specs.World.{Object, Size, World, element, object_of, object_with, object_words, size_of, with_element}
 use Rattle.cc_emit.specs.Contract.{Shares, element_at, element_place, load_of, size_words, store_of, words_in}
 use Rattle.cc_emit.proofs.Basics.{got}
 use Rattle.cc_emit.proofs.Bytes.{same_tells, lies, elements_apart, loaded_same, loaded_other, loaded_alike}

@@ -4,12 +4,12 @@ use Rattle.std.proofs.Common.{◌≡◌, ℕ, zero, suc, ◌+◌, ◌-◌, ◌*�
 use Rattle.std.specs.Prelude.{if◌then◌else◌, nat_le}
 use Rattle.std.proofs.Math.Nat.{mul-suc, mul-le-mul_left, mul-add, add-mul, mul_assoc}
 use Rattle.std.proofs.lemmas.List.{length-append}
-use Rattle.cc_runs.specs.Behavior.{AreWords, Ended, Going, Outcome, Stop, Wrong}
-use Rattle.cc_runs.specs.World.{Answer, Effect, Failed, Gives, Size, Unfinished, World}
-use Rattle.cc_runs.specs.Run.{Fails, Move, act, resumed, run, work, work_act, work_resumed}
-use Rattle.cc_runs.specs.Meaning.{Later as Lasts, Meaning, call_effect}
-use Rattle.cc_runs.specs.Tracks.{Keeps, TracksForAll}
-use Rattle.cc_runs.specs.Unknown.{survives}
+use Rattle.cc_simulation.specs.Behavior.{AreWords, Ended, Going, Outcome, Stop, Wrong}
+use Rattle.cc_simulation.specs.World.{Answer, Effect, Failed, Gives, Size, Unfinished, World}
+use Rattle.cc_simulation.specs.Run.{Fails, Move, act, resumed, run, work, work_act, work_resumed}
+use Rattle.cc_simulation.specs.Meaning.{Later as Lasts, Meaning, call_effect}
+use Rattle.cc_simulation.specs.Tracks.{Keeps, TracksForAll}
+use Rattle.cc_simulation.specs.Unknown.{survives}
 use Rattle.cc_ltl.specs.declared.location.Location.{Location}
 use Rattle.cc_ltl.specs.declared.location.Location.TheVariants.{Register, Slot}
 use Rattle.cc_ltl.specs.Ltl.{Locations, put, words_from, after_call, at_entry}

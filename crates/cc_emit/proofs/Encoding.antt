@@ -6,7 +6,7 @@ use Rattle.std.proofs.lemmas.List.{length-append}
 use Rattle.cc_words.specs.Words.{add, neg}
 use Rattle.cc_words.specs.declared.operators.Unary as unary
 use Rattle.cc_words.specs.declared.operators.Unary.TheVariants.{Neg, Complement, IsZero}
-use Rattle.cc_runs.specs.Meaning.{Meaning}
+use Rattle.cc_simulation.specs.Meaning.{Meaning}
 use Rattle.cc_ltl.specs.declared.operation.Move.{Move}
 use Rattle.cc_ltl.specs.declared.operation.Move.TheVariants.{Between, Reload, Spill}
 use Rattle.cc_linear_language.specs.declared.item.Item as linear

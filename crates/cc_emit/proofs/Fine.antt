@@ -1,7 +1,7 @@
 -- What emission asks of a frame and of steps: that a frame saves what is written, and that steps name what there is.
 use Rattle.std.specs.Prelude.{◌≡◌, ℕ, ◌+◌, ◌<◌, ◌≤◌, ◌⊎◌, true, List, [], ◌∷◌, length}
 use Rattle.std.specs.List.{AllByRecursion}
-use Rattle.cc_runs.specs.Meaning.{Meaning}
+use Rattle.cc_simulation.specs.Meaning.{Meaning}
 use Rattle.cc_ltl.specs.declared.operation.Move.{Move}
 use Rattle.cc_ltl.specs.declared.operation.Move.TheVariants.{Between, Reload, Spill}
 use Rattle.cc_ltl.specs.Registers.{IsAllocatable}

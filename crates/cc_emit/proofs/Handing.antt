@@ -4,7 +4,7 @@ use Rattle.std.specs.List.{AllByRecursion}
 use Rattle.cc_ast.specs.Tree.{External}
 use Rattle.cc_ast.specs.Source.{source}
 use Rattle.cc_ast.specs.declared.unit.Unit as parsed
-use Rattle.cc_semantics.specs.Numbered.{objects_in}
+use Rattle.cc_c_laws.specs.Numbered.{objects_in}
 use Rattle.cc_ltl.specs.Ltl.{Ltl}
 use Rattle.cc_linear_language.specs.Pair as linear
 use Rattle.cc_select.specs.declared.step.Step.{Step}

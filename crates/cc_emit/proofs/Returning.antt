@@ -3,9 +3,9 @@ use Rattle.std.proofs.Common.{◌≡◌, ℕ, zero, suc, ◌+◌, ◌-◌, ◌*�
 use Rattle.std.specs.Prelude.{if◌then◌else◌, nat_le, ◌==◌, ◌&&◌, not}
 use Rattle.std.proofs.lemmas.Bool.Decides.{nat_tests}
 use Rattle.cc_words.specs.Words.{add}
-use Rattle.cc_runs.specs.Behavior.{AreWords}
-use Rattle.cc_runs.specs.World.{Answer, Size, World, object_words}
-use Rattle.cc_runs.specs.Unknown.{survives}
+use Rattle.cc_simulation.specs.Behavior.{AreWords}
+use Rattle.cc_simulation.specs.World.{Answer, Size, World, object_words}
+use Rattle.cc_simulation.specs.Unknown.{survives}
 use Rattle.cc_ltl.specs.declared.location.Location.TheVariants.{Register, Slot}
 use Rattle.cc_ltl.specs.Registers.{IsAllocatable}
 use Rattle.cc_ltl.specs.Ltl.{Locations, put, words_from}

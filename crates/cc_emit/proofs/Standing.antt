@@ -6,8 +6,8 @@ use Rattle.cc_rv32.specs.declared.instr.Instr.{Instr}
 use Rattle.cc_rv32.specs.declared.instr.Instr.TheVariants.{Jal}
 use Rattle.cc_rv32.specs.Machine.{Continues, State, Traps, Turn, execute, executed, stack_from, stack_to, with_register}
 use Rattle.cc_words.specs.declared.operators.Width.TheVariants.{Word}
-use Rattle.cc_runs.specs.World.{Object, Size, World, object_of, size_in, size_of}
-use Rattle.cc_runs.specs.Meaning.{Meaning}
+use Rattle.cc_simulation.specs.World.{Object, Size, World, object_of, size_in, size_of}
+use Rattle.cc_simulation.specs.Meaning.{Meaning}
 use Rattle.cc_linear_language.specs.declared.item.Item.TheVariants.{Label}
 use Rattle.cc_select.specs.declared.step.Step.{Step}
 use Rattle.cc_select.specs.declared.step.Step.TheVariants.{One}

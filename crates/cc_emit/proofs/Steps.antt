@@ -7,8 +7,8 @@ use Rattle.cc_words.specs.Operators.{apply_binary}
 use Rattle.cc_words.specs.declared.operators.Binary as binary
 use Rattle.cc_words.specs.declared.operators.Width.{Width}
 use Rattle.cc_words.specs.Widths.{kept}
-use Rattle.cc_runs.specs.World.{World, element, with_element}
-use Rattle.cc_runs.specs.Run.{Goes, tried}
+use Rattle.cc_simulation.specs.World.{World, element, with_element}
+use Rattle.cc_simulation.specs.Run.{Goes, tried}
 use Rattle.cc_ltl.specs.declared.location.Location.TheVariants.{Register}
 use Rattle.cc_ltl.specs.Registers.{IsAllocatable}
 use Rattle.cc_ltl.specs.Ltl.{Locations, put}

@@ -5,8 +5,8 @@ use Rattle.cc_rv32.specs.Machine as machine
 use Rattle.cc_words.specs.declared.operators.Width.{Width}
 use Rattle.cc_words.specs.Widths.{kept}
 use Rattle.cc_rv32.specs.Machine.{State, stack_from, stored, with_register, with_word}
-use Rattle.cc_runs.specs.Behavior.{AreWords}
-use Rattle.cc_runs.specs.World.{rest_of, World, with_element, after_read, after_write}
+use Rattle.cc_simulation.specs.Behavior.{AreWords}
+use Rattle.cc_simulation.specs.World.{rest_of, World, with_element, after_read, after_write}
 use Rattle.cc_ltl.specs.declared.location.Location.TheVariants.{Register, Slot}
 use Rattle.cc_ltl.specs.Registers.{IsAllocatable}
 use Rattle.cc_ltl.specs.Ltl.{Locations, put}

@@ -13,9 +13,9 @@ use Rattle.cc_words.specs.declared.operators.Width.TheVariants.{Byte, Word}
 use Rattle.cc_words.specs.Widths.{bytes, words_of}
 use Rattle.cc_rv32.specs.Machine.{State, Continues, executed, loaded, globals_from, globals_to, stack_from, stack_to}
 use Rattle.cc_rv32.specs.Table.{IsEncodable}
-use Rattle.cc_runs.specs.Behavior.{AreWords}
-use Rattle.cc_runs.specs.World.{Size, World, Answer, Effect, Gives, Unfinished, Failed, size_of, size_in, object_words}
-use Rattle.cc_runs.specs.Meaning.{Meaning, IsCall}
+use Rattle.cc_simulation.specs.Behavior.{AreWords}
+use Rattle.cc_simulation.specs.World.{Size, World, Answer, Effect, Gives, Unfinished, Failed, size_of, size_in, object_words}
+use Rattle.cc_simulation.specs.Meaning.{Meaning, IsCall}
 
 -- what stands at each address
 abbrev pub Code : Type 0

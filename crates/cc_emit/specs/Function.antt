@@ -1,6 +1,6 @@
 -- The code of a whole function: the steps that are selected for its items, each with how much of its address is known, in their frame.
 use Rattle.std.specs.Prelude.{ℕ, Bool, List}
-use Rattle.cc_semantics.specs.Numbered.{objects_in}
+use Rattle.cc_c_laws.specs.Numbered.{objects_in}
 use Rattle.cc_linear_language.specs.Pair as above
 use Rattle.cc_select.specs.declared.step.Step.{Step}
 use Rattle.cc_select.specs.Selection.{selected}

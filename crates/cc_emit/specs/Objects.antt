@@ -1,7 +1,7 @@
 -- Where objects lie: from the first address of the globals on, each at the first multiple of 4 behind the one before it.
 use Rattle.std.specs.Prelude.{◌≡◌, ℕ, zero, suc, ◌+◌, ◌*◌, List, [], ◌∷◌}
 use Rattle.cc_rv32.specs.Machine.{globals_from}
-use Rattle.cc_runs.specs.World.{Size}
+use Rattle.cc_simulation.specs.World.{Size}
 use Rattle.cc_emit.specs.Contract.{Layout, size_words}
 
 -- the words of the objects before one of that number

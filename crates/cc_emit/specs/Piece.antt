@@ -4,9 +4,9 @@ use Rattle.cc_ast.specs.Tree.{External}
 use Rattle.cc_ast.specs.Source.{source}
 use Rattle.cc_ast.specs.declared.unit.Unit as parsed
 use Rattle.cc_types.specs.Typed.{IsTyped}
-use Rattle.cc_semantics.specs.Meaning.{functions}
-use Rattle.cc_semantics.specs.Numbered.{IsMeaningOf}
-use Rattle.cc_runs.specs.Meaning.{Meaning}
+use Rattle.cc_c_laws.specs.Meaning.{functions}
+use Rattle.cc_c_laws.specs.Numbered.{IsMeaningOf}
+use Rattle.cc_simulation.specs.Meaning.{Meaning}
 use Rattle.cc_ltl.specs.Ltl.{Ltl, IsLtl}
 use Rattle.cc_linear_language.specs.Pair.{most_blocks, LtlKeepsUp}
 use Rattle.cc_emit.specs.declared.item.Item.{Item}

@@ -2,7 +2,7 @@
 
 ghost use Rattle.std.specs.Prelude.{◌≡◌, ◌<◌, ◌≤◌, length};
 ghost use Rattle.std.specs.Arc.{arc_value};
-ghost use Rattle.cc_semantics.specs.Meaning.{functions};
+ghost use Rattle.cc_c_laws.specs.Meaning.{functions};
 ghost use Rattle.cc_ltl.specs.Ltl.{IsLtl};
 ghost use Rattle.cc_linear_language.specs.Pair.{most_blocks, LtlKeepsUp};
 ghost use Rattle.cc_emit.specs.Piece.{Piece as Shown, tree_of, IsPieceOfUnit};

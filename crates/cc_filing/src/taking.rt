@@ -7,7 +7,7 @@ use crate::filing::disk_of;
 use cc_answers::{Telling, explain_words};
 use cc_command_line::Wanted;
 use cc_library::LibraryFault;
-use cc_program::{Fault, PartFault, take_out};
+use cc_tasks::{Fault, PartFault, take_out};
 use std::alloc::{AllocError, Global};
 use std::io::{self, BufWriter, Print, Write};
 

@@ -3,14 +3,14 @@
 use Rattle.std.proofs.Common.{◌≡◌, ℕ, suc, ◌+◌, ◌<◌, ◌≤◌, List, [], ◌∷◌, length, refl, sym, ap, ◌∙◌, subst, ◌⊎◌, inl, inr, arith}
 use Rattle.std.specs.Prelude.{Bool, true, false, cond, ◌==◌, Option, Some, None}
 use Rattle.cc_words.specs.Operators.{apply_unary, apply_binary}
-use Rattle.cc_runs.specs.World.{World, Question, Answer, element, stored, next_word, after_read, after_write}
-use Rattle.cc_runs.specs.Unknown.{unknown_word, left_after_call, left_after_word}
-use Rattle.cc_runs.specs.Run.{Move as Moving, Goes, Calls, Returns, Fails, tried}
-use Rattle.cc_runs.specs.Meaning.{Meaning}
-use Rattle.cc_runs.specs.Tracks.{TracksForAll}
-use Rattle.cc_runs.specs.internal.Simulation as one
-use Rattle.cc_runs.specs.internal.Simulation.{Advances, Asks, Ending, Simulation}
-use Rattle.cc_runs.proofs.Simulating.{way_then, coarser, tracks_on_for_all}
+use Rattle.cc_simulation.specs.World.{World, Question, Answer, element, stored, next_word, after_read, after_write}
+use Rattle.cc_simulation.specs.Unknown.{unknown_word, left_after_call, left_after_word}
+use Rattle.cc_simulation.specs.Run.{Move as Moving, Goes, Calls, Returns, Fails, tried}
+use Rattle.cc_simulation.specs.Meaning.{Meaning}
+use Rattle.cc_simulation.specs.Tracks.{TracksForAll}
+use Rattle.cc_simulation.specs.internal.Simulation as one
+use Rattle.cc_simulation.specs.internal.Simulation.{Advances, Asks, Ending, Simulation}
+use Rattle.cc_simulation.proofs.Simulating.{way_then, coarser, tracks_on_for_all}
 use Rattle.cc_ltl.specs.declared.location.Location.TheVariants.{Register}
 use Rattle.cc_ltl.specs.declared.operation.Move.{Move}
 use Rattle.cc_ltl.specs.declared.operation.Operation.{Operation}

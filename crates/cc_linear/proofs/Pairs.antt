@@ -23,7 +23,7 @@ use Rattle.cc_linear.proofs.Laid.{linear_tracks}
 use Rattle.cc_linear.specs.internal.Idle.{kept}
 use Rattle.cc_linear.proofs.Ordering.{laid_out}
 use Rattle.cc_linear.proofs.WithoutLabels.{below_itself, labels_kept, distinct_only, only_has, still_fit, kept_tracks}
-use Rattle.cc_runs.proofs.Simulating.{coarser}
+use Rattle.cc_simulation.proofs.Simulating.{coarser}
 
 -- ---- the labels of the list are those of the order
 

@@ -11,12 +11,12 @@ use Rattle.std.specs.Ordering.{nat_cmp}
 use Rattle.std.specs.Result.{is_ok}
 use Rattle.std.specs.Prelude.{Result, Ok, Err}
 use Rattle.cc_words.specs.Operators.{apply_binary}
-use Rattle.cc_runs.specs.World.{World, Question, Answer, element, stored}
-use Rattle.cc_runs.specs.Run.{Move as Moving, Goes, Calls, Returns, Fails, tried}
-use Rattle.cc_runs.specs.Meaning.{Meaning}
-use Rattle.cc_runs.specs.Tracks.{TracksForAll}
-use Rattle.cc_runs.specs.internal.Simulation.{Alike, Advances, Asks, Ending, Simulation}
-use Rattle.cc_runs.proofs.Simulating.{coarser, tracks_on_for_all}
+use Rattle.cc_simulation.specs.World.{World, Question, Answer, element, stored}
+use Rattle.cc_simulation.specs.Run.{Move as Moving, Goes, Calls, Returns, Fails, tried}
+use Rattle.cc_simulation.specs.Meaning.{Meaning}
+use Rattle.cc_simulation.specs.Tracks.{TracksForAll}
+use Rattle.cc_simulation.specs.internal.Simulation.{Alike, Advances, Asks, Ending, Simulation}
+use Rattle.cc_simulation.proofs.Simulating.{coarser, tracks_on_for_all}
 use Rattle.cc_ltl.specs.declared.location.Location.TheVariants.{Register}
 use Rattle.cc_ltl.specs.Ltl.{Locations}
 use Rattle.cc_linear_language.specs.declared.item.Item.{Item}

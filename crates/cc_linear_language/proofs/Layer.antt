@@ -4,11 +4,11 @@ use Rattle.std.specs.Prelude.{option_map}
 use Rattle.std.proofs.lemmas.List.{append-nil}
 use Rattle.std.proofs.lemmas.Option.{none-some, same_Some}
 use Rattle.cc_ast.specs.Tree.{External}
-use Rattle.cc_runs.specs.Behavior.{IsPrefixOf}
-use Rattle.cc_runs.specs.World.{World, Question, Answer, element, stored}
-use Rattle.cc_runs.specs.Run.{Move as Moving, Goes, Calls, tried}
-use Rattle.cc_runs.specs.Cuts.{IsLayer}
-use Rattle.cc_runs.proofs.Following.{all_follow}
+use Rattle.cc_simulation.specs.Behavior.{IsPrefixOf}
+use Rattle.cc_simulation.specs.World.{World, Question, Answer, element, stored}
+use Rattle.cc_simulation.specs.Run.{Move as Moving, Goes, Calls, tried}
+use Rattle.cc_simulation.specs.Cuts.{IsLayer}
+use Rattle.cc_simulation.proofs.Following.{all_follow}
 use Rattle.cc_words.specs.Operators.{apply_binary}
 use Rattle.cc_ltl.specs.declared.location.Location.TheVariants.{Register}
 use Rattle.cc_ltl.specs.Ltl.{Locations}

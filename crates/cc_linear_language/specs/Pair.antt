@@ -4,13 +4,13 @@ use Rattle.cc_ast.specs.Tree.{External}
 use Rattle.cc_ast.specs.Source.{source}
 use Rattle.cc_ast.specs.declared.unit.Unit as parsed
 use Rattle.cc_types.specs.Typed.{IsTyped}
-use Rattle.cc_semantics.specs.Meaning.{functions}
-use Rattle.cc_semantics.specs.Numbered.{IsMeaningOf}
-use Rattle.cc_runs.specs.Behavior.{FollowsForAll}
-use Rattle.cc_runs.specs.World.{World}
-use Rattle.cc_runs.specs.Run.{run}
-use Rattle.cc_runs.specs.Meaning.{Meaning, most_open, IsCall, call_effect, answered}
-use Rattle.cc_runs.specs.Tracks.{TracksForAll}
+use Rattle.cc_c_laws.specs.Meaning.{functions}
+use Rattle.cc_c_laws.specs.Numbered.{IsMeaningOf}
+use Rattle.cc_simulation.specs.Behavior.{FollowsForAll}
+use Rattle.cc_simulation.specs.World.{World}
+use Rattle.cc_simulation.specs.Run.{run}
+use Rattle.cc_simulation.specs.Meaning.{Meaning, most_open, IsCall, call_effect, answered}
+use Rattle.cc_simulation.specs.Tracks.{TracksForAll}
 use Rattle.cc_ltl.specs.Ltl.{Ltl, IsLtl, ltl_move, ltl_output, ltl_start}
 use Rattle.cc_linear_language.specs.declared.item.Item.{Item}
 use Rattle.cc_linear_language.specs.Linear.{IsLinear, linear_move, linear_output, linear_start}

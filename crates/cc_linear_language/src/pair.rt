@@ -2,7 +2,7 @@
 
 ghost use Rattle.std.specs.Prelude.{◌≡◌, ◌<◌, ◌≤◌, length};
 ghost use Rattle.std.specs.Arc.{arc_value};
-ghost use Rattle.cc_semantics.specs.Meaning.{functions};
+ghost use Rattle.cc_c_laws.specs.Meaning.{functions};
 ghost use Rattle.cc_types.specs.Typed.{IsTyped};
 ghost use Rattle.cc_linear_language.specs.Linear.{IsLinear};
 ghost use Rattle.cc_ltl.specs.Ltl.{IsLtl};

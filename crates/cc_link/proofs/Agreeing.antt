@@ -4,12 +4,12 @@ use Rattle.cc_ast.specs.Tree.{External}
 use Rattle.cc_types.specs.Typed.{IsTyped, IsWithinLimits}
 use Rattle.cc_types.specs.Limits.{objects}
 use Rattle.cc_types.specs.Verdict.{source_with}
-use Rattle.cc_semantics.specs.Meaning.{functions, initial_globals}
-use Rattle.cc_semantics.specs.Calls.{HasMain, main_of, first_shared, TypedUnitsHaveMain, ObjectsAreSized}
-use Rattle.cc_semantics.specs.Numbered.{IsMeaningOf, objects_of, world_of, outcome_by_number, TypedUnitsHaveMeanings, ProgramsAreNumbered}
-use Rattle.cc_runs.specs.Behavior.{Outcome, AreWords, Follows}
-use Rattle.cc_runs.specs.Meaning.{Meaning}
-use Rattle.cc_runs.specs.World.{Size}
+use Rattle.cc_c_laws.specs.Meaning.{functions, initial_globals}
+use Rattle.cc_c_laws.specs.Calls.{HasMain, main_of, first_shared, TypedUnitsHaveMain, ObjectsAreSized}
+use Rattle.cc_c_laws.specs.Numbered.{IsMeaningOf, objects_of, world_of, outcome_by_number, TypedUnitsHaveMeanings, ProgramsAreNumbered}
+use Rattle.cc_simulation.specs.Behavior.{Outcome, AreWords, Follows}
+use Rattle.cc_simulation.specs.Meaning.{Meaning}
+use Rattle.cc_simulation.specs.World.{Size}
 use Rattle.cc_emit.specs.declared.item.Item.{Item}
 use Rattle.cc_emit.specs.Piece.{AreOf}
 use Rattle.cc_link.specs.Agree.{image_behavior, program_behavior}

@@ -2,8 +2,8 @@
 use Rattle.std.proofs.Common.{◌≡◌, ℕ, zero, suc, ◌+◌, ◌*◌, ◌<◌, ◌≤◌, List, length, refl, sym, ap, ◌∙◌, subst, arith}
 use Rattle.std.proofs.Math.Nat.{one-le-mul, mul-le-mul_right}
 use Rattle.cc_rv32.specs.Machine.{State}
-use Rattle.cc_runs.specs.World.{Size, World, Effect, Gives, Unfinished, Failed}
-use Rattle.cc_runs.specs.Meaning.{Meaning}
+use Rattle.cc_simulation.specs.World.{Size, World, Effect, Gives, Unfinished, Failed}
+use Rattle.cc_simulation.specs.Meaning.{Meaning}
 use Rattle.cc_emit.specs.declared.item.Item.{Item}
 use Rattle.cc_emit.specs.Contract.{Code, Layout, Placed, Meets, CallsMeet, IsPlace, PieceMeets}
 

@@ -24,7 +24,7 @@ use Rattle.cc_types.specs.Limits.{objects}
 use Rattle.cc_link.specs.internal.Packing.{AreBytes}
 use Rattle.cc_link.proofs.Laying.{AreKept}
 use Rattle.cc_link.proofs.Sizes.{AllKept}
-use Rattle.cc_runs.specs.Behavior.{AreWords}
+use Rattle.cc_simulation.specs.Behavior.{AreWords}
 
 -- ---- the numbers of a text
 

@@ -2,9 +2,9 @@
 use Rattle.std.proofs.Common.{◌≡◌, ℕ, suc, ◌+◌, ◌-◌, ◌*◌, ◌<◌, ◌≤◌, refl, sym, ap, ◌∙◌, subst, ◌⊎◌, inl, inr, arith}
 use Rattle.std.proofs.Math.Nat.{mul-le-mul_left}
 use Rattle.std.proofs.lemmas.Bool.{cases_lt}
-use Rattle.cc_runs.specs.Behavior.{Stop, Going, Ended, Wrong, Outcome, IsPrefixOf, IsRight, EndsAlike, Shows, Follows}
-use Rattle.cc_runs.specs.Cuts.{StaysBy}
-use Rattle.cc_runs.proofs.Behaving.{begins_refl, shows_same}
+use Rattle.cc_simulation.specs.Behavior.{Stop, Going, Ended, Wrong, Outcome, IsPrefixOf, IsRight, EndsAlike, Shows, Follows}
+use Rattle.cc_simulation.specs.Cuts.{StaysBy}
+use Rattle.cc_simulation.proofs.Behaving.{begins_refl, shows_same}
 
 -- the second goes on from the first
 pub record GoesOn {R : Type 0} (x y : Outcome R) : Type 0 where

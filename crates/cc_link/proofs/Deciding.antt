@@ -13,10 +13,10 @@ use Rattle.cc_ast.specs.Parse.{SpellsText}
 use Rattle.cc_types.specs.Scope.{FileScope, first_file_scope, file_scope_behind}
 use Rattle.cc_types.specs.Limits.{function_names}
 use Rattle.cc_types.specs.Typed.{IsTyped, IsWithinLimits, defined_names}
-use Rattle.cc_semantics.specs.Meaning.{functions, functions_from}
-use Rattle.cc_semantics.specs.Calls.{ObjectsAreSized}
-use Rattle.cc_semantics.specs.Numbered.{TypedUnitsHaveMeanings}
-use Rattle.cc_runs.specs.World.{Size}
+use Rattle.cc_c_laws.specs.Meaning.{functions, functions_from}
+use Rattle.cc_c_laws.specs.Calls.{ObjectsAreSized}
+use Rattle.cc_c_laws.specs.Numbered.{TypedUnitsHaveMeanings}
+use Rattle.cc_simulation.specs.World.{Size}
 use Rattle.cc_emit.specs.declared.item.Item.{Item}
 use Rattle.cc_emit.specs.declared.item.Item.TheVariants.{Plain, Call, Go}
 use Rattle.cc_emit.specs.Contract.{AreFit}

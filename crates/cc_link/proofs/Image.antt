@@ -5,12 +5,12 @@ use Rattle.std.proofs.Math.Nat.{mul-suc}
 use Rattle.cc_rv32.specs.declared.image.Image.{Image}
 use Rattle.cc_rv32.specs.declared.outcome.MachineOutcome.TheVariants.{Going as Runs}
 use Rattle.cc_rv32.specs.Machine.{State, Turn, Continues, Exits, Traps, turned, machine_run, seen, executed, jumps, with_register, first_or_zero, rest_of, start_state, start_memory, instruction_at, stack_to}
-use Rattle.cc_runs.specs.Behavior.{Going, Ended, Outcome, AreWords, Follows}
-use Rattle.cc_runs.specs.World.{Object, size_of as object_size, World, Answer, Effect, Gives, Unfinished, Failed, IsWorld}
-use Rattle.cc_runs.specs.Meaning.{Meaning}
+use Rattle.cc_simulation.specs.Behavior.{Going, Ended, Outcome, AreWords, Follows}
+use Rattle.cc_simulation.specs.World.{Object, size_of as object_size, World, Answer, Effect, Gives, Unfinished, Failed, IsWorld}
+use Rattle.cc_simulation.specs.Meaning.{Meaning}
 use Rattle.cc_emit.specs.declared.item.Item.{Item}
 use Rattle.cc_emit.specs.Contract.{Layout, Path, Placed, Enters, ComesBack, Meets, IsPiece}
-use Rattle.cc_semantics.specs.Numbered.{outcome_by_number}
+use Rattle.cc_c_laws.specs.Numbered.{outcome_by_number}
 use Rattle.cc_link.specs.Agree.{shown, image_behavior}
 use Rattle.cc_link.specs.Link.{size_of, head, place_of, linked_code, encoded}
 use Rattle.cc_link.proofs.Counting.{Matched, follows}

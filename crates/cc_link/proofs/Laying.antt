@@ -9,8 +9,8 @@ use Rattle.cc_words.specs.declared.operators.Width.{Width}
 use Rattle.cc_words.specs.declared.operators.Width.TheVariants.{Byte, Word}
 use Rattle.cc_words.specs.Widths.{words_of}
 use Rattle.cc_rv32.specs.Machine.{start_memory, globals_from}
-use Rattle.cc_runs.specs.Behavior.{AreWords}
-use Rattle.cc_runs.specs.World.{Object, Size, size_in, size_of}
+use Rattle.cc_simulation.specs.Behavior.{AreWords}
+use Rattle.cc_simulation.specs.World.{Object, Size, size_in, size_of}
 use Rattle.cc_emit.specs.Contract.{Layout, element_at, size_words, words_in}
 use Rattle.cc_emit.specs.Objects.{words_before, object_address, IsInOrder}
 use Rattle.cc_link.specs.Packed.{packed_bytes, packed}

@@ -7,10 +7,10 @@ use Rattle.cc_rv32.specs.declared.outcome.MachineOutcome.{MachineOutcome}
 use Rattle.cc_rv32.specs.declared.outcome.MachineOutcome.TheVariants.{Going as Runs, Exited, Trapped}
 use Rattle.cc_rv32.specs.Machine.{State, Turn, Continues, Exits, Traps, Run, turned, run_on, machine_run, seen, execute, executed, machine_step, instruction_at, branches, jumps, is_accessible, load_bytes, store_bytes, loaded, stored, is_taken, with_register, first_or_zero, rest_of}
 use Rattle.cc_words.specs.Words.{add}
-use Rattle.cc_runs.specs.Behavior.{IsPrefixOf}
+use Rattle.cc_simulation.specs.Behavior.{IsPrefixOf}
 use Rattle.cc_emit.specs.Contract.{Path}
 use Rattle.cc_link.specs.Agree.{shown}
-use Rattle.cc_runs.proofs.Behaving.{begins_refl, begins_on}
+use Rattle.cc_simulation.proofs.Behaving.{begins_refl, begins_on}
 use Rattle.cc_link.proofs.Counting.{GoesOn}
 
 abbrev pub going : State → Run

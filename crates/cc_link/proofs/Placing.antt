@@ -9,8 +9,8 @@ use Rattle.cc_rv32.specs.declared.instr.Instr.{Instr}
 use Rattle.cc_rv32.specs.Machine.{State, code_from, instruction_at}
 use Rattle.cc_rv32.specs.Table.{IsEncodable, encoding_of, instruction_of}
 use Rattle.cc_rv32.proofs.RoundTrip.{decoded}
-use Rattle.cc_runs.specs.World.{World}
-use Rattle.cc_runs.specs.Meaning.{Meaning}
+use Rattle.cc_simulation.specs.World.{World}
+use Rattle.cc_simulation.specs.Meaning.{Meaning}
 use Rattle.cc_emit.specs.declared.item.Item.{Item}
 use Rattle.cc_emit.specs.declared.item.Item.TheVariants.{Plain, Call, Go}
 use Rattle.cc_emit.specs.Contract.{Layout, filled, Placed, IsPlace, PieceMeets, Enters, Meets, IsFit, AreFit, IsPiece}

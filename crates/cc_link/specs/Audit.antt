@@ -2,7 +2,7 @@
 use Rattle.std.specs.Prelude.{◌≡◌, ℕ, List, length, Option, Some, None}
 use Rattle.cc_ast.specs.Tree.{External}
 use Rattle.cc_ast.specs.Parse.{SpellsText}
-use Rattle.cc_semantics.specs.Meaning.{functions}
+use Rattle.cc_c_laws.specs.Meaning.{functions}
 use Rattle.cc_rv32.specs.declared.image.Image.{Image}
 use Rattle.cc_link.specs.Agree.{Agree}
 use Rattle.cc_link.specs.Certificate.{SpellsAll, EachKeepsUp}

@@ -7,7 +7,7 @@ use Rattle.cc_ast.specs.Grammar.{Measured, SpellsExternal}
 use Rattle.cc_types.specs.Limits.{function_names}
 use Rattle.cc_types.specs.Typed.{definitions}
 use Rattle.cc_types.specs.Verdict.{source_with}
-use Rattle.cc_semantics.specs.Meaning.{functions}
+use Rattle.cc_c_laws.specs.Meaning.{functions}
 use Rattle.cc_emit.specs.Piece as emit
 use Rattle.cc_link.specs.Fault.{link_fault_number}
 use Rattle.cc_link.specs.Linked.{linked}

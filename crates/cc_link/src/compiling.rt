@@ -4,7 +4,7 @@ ghost use Rattle.std.specs.Prelude.{◌≡◌, ◌<◌, ℕ, List, length, All, 
 ghost use Rattle.std.specs.Arc.{arc_value};
 ghost use Rattle.cc_ast.specs.Source.{source};
 ghost use Rattle.cc_ast.specs.Tree.{External};
-ghost use Rattle.cc_semantics.specs.Meaning.{functions};
+ghost use Rattle.cc_c_laws.specs.Meaning.{functions};
 ghost use Rattle.cc_link.specs.Agree.{Agree};
 ghost use Rattle.cc_link.specs.Compile.{IsPieceRefusal, IsBuildRefusal, HasPiece};
 ghost use Rattle.cc_link.specs.Made.{IsCompiled};

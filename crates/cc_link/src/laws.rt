@@ -2,11 +2,11 @@
 
 ghost use Rattle.cc_tokens.specs.Tokens.{TokensAreOne};
 ghost use Rattle.cc_ast.specs.Limits.{TreesAreOne};
-ghost use Rattle.cc_semantics.specs.Calls.{ObjectsAreSized, TypedUnitsHaveMain};
-ghost use Rattle.cc_semantics.specs.Numbered.{ProgramsAreNumbered, TypedUnitsHaveMeanings};
+ghost use Rattle.cc_c_laws.specs.Calls.{ObjectsAreSized, TypedUnitsHaveMain};
+ghost use Rattle.cc_c_laws.specs.Numbered.{ProgramsAreNumbered, TypedUnitsHaveMeanings};
 ghost use Rattle.cc_link.specs.Laws.{LinkedUnitsAgree, MadeUnitsAreCertified};
 
-use cc_semantics::{names_have_numbers, programs_call_main, units_have_meanings};
+use cc_c_laws::{names_have_numbers, programs_call_main, units_have_meanings};
 use cc_syntax::trees_are_determined;
 use cc_tokens::tokens_are_determined;
 

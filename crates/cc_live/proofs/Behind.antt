@@ -5,7 +5,7 @@ use Rattle.std.proofs.lemmas.Bool.{or_cases, or_left, or_right}
 use Rattle.cc_rtl_language.specs.Rtl.{Node, successors}
 use Rattle.cc_rtl_language.specs.Live as rtl
 use Rattle.cc_rtl_language.specs.Live.{Sets, in_some, live_behind, is_dead, pure_result}
-use Rattle.cc_rows.specs.Rows.{holds}
+use Rattle.cc_bits.specs.Rows.{holds}
 use Rattle.cc_live.specs.Liveness.{LieWithin}
 use Rattle.cc_live.specs.internal.Facts.{is_unread}
 

@@ -10,7 +10,7 @@ use Rattle.cc_rtl_language.specs.Live.{Sets, in_some, live_behind, Carries, AreL
 use Rattle.cc_rtl_language.specs.Positions.{position_of}
 use Rattle.cc_rtl_language.proofs.Nops.{Which, turned, these, node_turned, turned_from, successors_turned, same_turned}
 use Rattle.cc_rtl_language.proofs.Places.{placed}
-use Rattle.cc_rows.specs.Rows.{holds}
+use Rattle.cc_bits.specs.Rows.{holds}
 use Rattle.cc_live.specs.Rows.{rows_at}
 use Rattle.cc_live.specs.Liveness.{LieWithin, AreLeastLive, CarriesStrongly, AreStronglyLive, AreLeastStronglyLive, without_dead, IsWithoutFaint, NothingIsDead}
 use Rattle.cc_live.specs.internal.Dead.{dead_labels}

@@ -2,7 +2,7 @@
 use Rattle.std.proofs.Common.{◌≡◌, ◌∙◌, ℕ, ◌*◌, ◌<◌, ◌≤◌, List, length, sym, ◌||◌, IsTrue, IsFalse, arith}
 use Rattle.std.proofs.lemmas.Bool.{or_left, or_right}
 use Rattle.cc_flow.specs.Lattice.{Equivalent}
-use Rattle.cc_rows.specs.Rows.{holds}
+use Rattle.cc_bits.specs.Rows.{holds}
 use Rattle.cc_live.specs.internal.Facts.{Below, either}
 use Rattle.cc_live.specs.internal.Holding.{holds-either}
 use Rattle.cc_live.specs.internal.Laws.{laws, same_rows}

@@ -9,7 +9,7 @@ use Rattle.cc_rtl_language.specs.Live.{reads}
 use Rattle.cc_rtl_language.specs.Positions.{position_of, graph_of}
 use Rattle.cc_rtl_language.proofs.Places.{position_is}
 use Rattle.cc_flow.specs.Lattice.{Equivalent}
-use Rattle.cc_rows.specs.Rows.{holds}
+use Rattle.cc_bits.specs.Rows.{holds}
 use Rattle.cc_live.specs.internal.Facts.{Below, nothing, live_before, carries}
 use Rattle.cc_live.specs.internal.Laws.{laws}
 

@@ -9,11 +9,11 @@ use Rattle.cc_rtl_language.specs.Rtl.{Rtl, Labelled, Node, IsRtl, node_at, succe
 use Rattle.cc_rtl_language.specs.Live.{Sets, in_some, live_behind, AreLive}
 use Rattle.cc_rtl_language.specs.Positions.{position_of, graph_of}
 use Rattle.cc_rtl_language.proofs.Places.{placed, past, node_of_position}
-use Rattle.cc_rows.specs.Rows.{holds}
+use Rattle.cc_bits.specs.Rows.{holds}
 use Rattle.cc_live.specs.Rows.{rows_at}
 use Rattle.cc_live.specs.Liveness.{LieWithin, AreStronglyLive}
 use Rattle.cc_live.specs.internal.Facts.{Below, nothing, either, with_all, those, live_before, carries, AreLiveAs, AreLeastAs}
-use Rattle.cc_rows.specs.internal.Holding.{holds-nothing}
+use Rattle.cc_bits.specs.internal.Holding.{holds-nothing}
 use Rattle.cc_live.specs.internal.Holding.{holds-either, in_those, those_in, with_all_first, list_in, live_before_cases, read_live_before, behind_live_before}
 use Rattle.cc_live.proofs.Behind.{in_one, one_in, read_less, read_same}
 use Rattle.cc_live.proofs.Nodes.{nobody, carries_at, row_at, label_at, label_of_position, all_reads, read_among}

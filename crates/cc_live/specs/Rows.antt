@@ -3,7 +3,7 @@ use Rattle.std.specs.Prelude.{ℕ, List, [], get_or}
 use Rattle.cc_rtl_language.specs.Rtl.{Labelled}
 use Rattle.cc_rtl_language.specs.Positions.{position_of}
 use Rattle.cc_rtl_language.specs.Live.{Sets}
-use Rattle.cc_rows.specs.Rows.{holds}
+use Rattle.cc_bits.specs.Rows.{holds}
 
 -- rows beside the nodes of a function, as a set for each label; none is live at a label without a node
 abbrev pub rows_at : List Labelled → (rows : List (List ℕ)) → Sets

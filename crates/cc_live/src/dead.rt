@@ -4,7 +4,7 @@ ghost use Rattle.std.specs.Prelude.{◌≡◌, [], get_or, length, All, IsSome, 
 ghost use Rattle.cc_rtl_language.specs.Rtl.{node_at, successors};
 ghost use Rattle.cc_rtl_language.specs.Code.{node_of};
 ghost use Rattle.cc_rtl_language.specs.Live.{AreLive, is_dead as is_dead_by};
-ghost use Rattle.cc_rows.specs.Rows.{holds};
+ghost use Rattle.cc_bits.specs.Rows.{holds};
 ghost use Rattle.cc_live.specs.Rows.{rows_at};
 ghost use Rattle.cc_live.specs.Liveness.{AreLeastLive, AreStronglyLive, without_dead, IsWithoutFaint, NothingIsDead};
 ghost use Rattle.cc_live.specs.internal.Dead.{dead_labels as dead_labels_of};

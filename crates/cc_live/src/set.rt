@@ -2,13 +2,13 @@
 
 ghost use Rattle.std.specs.Prelude.{◌≡◌, ℕ, ◌==◌, ◌||◌, ◌&&◌, not, IfOk, IfErr};
 ghost use Rattle.cc_flow.specs.Lattice.{Equivalent};
-ghost use Rattle.cc_rows.specs.Rows.{holds};
+ghost use Rattle.cc_bits.specs.Rows.{holds};
 ghost use Rattle.cc_live.specs.internal.Facts.{Below, nothing, either};
 ghost use Rattle.cc_live.specs.internal.Room.{room as room_of, height as height_of, bounded as room_bounded};
 ghost use Rattle.cc_live.specs.internal.Laws.{laws};
 
 use cc_flow::Facts;
-use cc_rows::BitRow;
+use cc_bits::BitRow;
 use std::alloc::{AllocError, Global};
 use std::marker::Model;
 

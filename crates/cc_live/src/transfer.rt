@@ -3,7 +3,7 @@
 ghost use Rattle.std.specs.Prelude.{◌≡◌, ℕ, ◌||◌, ◌&&◌, ◌↔◌, not, length, IsTrue, IfOk};
 ghost use Rattle.cc_rtl_language.specs.Code.{node_of};
 ghost use Rattle.cc_rtl_language.specs.Live.{reads, result as result_of, pure_result as pure_result_of, among};
-ghost use Rattle.cc_rows.specs.Rows.{holds};
+ghost use Rattle.cc_bits.specs.Rows.{holds};
 ghost use Rattle.cc_live.specs.Rows.{rows_at};
 ghost use Rattle.cc_live.specs.internal.Facts.{live_before as made_live_before, is_unread, is_result, carries, AreLeastAs};
 ghost use Rattle.cc_live.specs.internal.Laws.{carries_up};

@@ -2,9 +2,9 @@
 use Rattle.std.specs.Prelude.{◌≡◌, ℕ, zero, suc, ◌-◌, ◌<◌, ◌≤◌, ◌^◌, Bool, true, false, if◌then◌else◌, ◌==◌, nat_le, List, [], ◌∷◌, length, get_or, Option, Some, None}
 use Rattle.std.specs.List.{AllByRecursion}
 use Rattle.cc_words.specs.Operators.{apply_unary, apply_binary}
-use Rattle.cc_runs.specs.World.{World, Answer, element, stored, next_word, after_read, after_write}
-use Rattle.cc_runs.specs.Unknown.{unknown_register, unknown_slot, register_after_call, unknown_word, left_after_entry, left_after_call, left_after_word}
-use Rattle.cc_runs.specs.Run.{Move as Moving, Goes, Calls, Returns, tried}
+use Rattle.cc_simulation.specs.World.{World, Answer, element, stored, next_word, after_read, after_write}
+use Rattle.cc_simulation.specs.Unknown.{unknown_register, unknown_slot, register_after_call, unknown_word, left_after_entry, left_after_call, left_after_word}
+use Rattle.cc_simulation.specs.Run.{Move as Moving, Goes, Calls, Returns, tried}
 use Rattle.cc_ltl.specs.Registers.{IsAllocatable, most_slots}
 use Rattle.cc_ltl.specs.declared.location.Location.{Location}
 use Rattle.cc_ltl.specs.declared.location.Location.TheVariants.{Register, Slot}

@@ -1,7 +1,7 @@
 //! Laws of the definitions, each the contract of a function that does nothing.
 
 ghost use Rattle.std.specs.Prelude.{◌≡◌, List, ℕ};
-ghost use Rattle.cc_runs.specs.Cuts.{IsLayer};
+ghost use Rattle.cc_simulation.specs.Cuts.{IsLayer};
 ghost use Rattle.cc_ltl.specs.Ltl.{Ltl as Function, ltl_move, ltl_output};
 ghost use Rattle.cc_ltl.specs.Bytes.{Spells};
 

@@ -2,7 +2,7 @@
 //
 // `form` has the instructions that a typed unit becomes, and `writer` writes them, on `emitter`; `operation` has what
 // operations give on words, `interpreter` runs a form over one stack, `run` runs a typed unit; `outcome` has how a run comes out,
-// `fault` the refusal 40. The crate hands out `interpret` and these types, and what `cc_semantics` hands out: the meaning of C
+// `fault` the refusal 40. The crate hands out `interpret` and these types, and what `cc_c_laws` hands out: the meaning of C
 // stands in that crate's `specs/Meaning.antt`, and `interpret` is proved to give it.
 #![tactic(auto)]
 
@@ -16,7 +16,7 @@ mod outcome;
 mod run;
 mod writer;
 
-pub use cc_semantics::{
+pub use cc_c_laws::{
     Cause, calls_are_effects, calls_go_on, calls_keep_objects, functions_are_resolved,
     functions_have_meaning, names_have_numbers, programs_call_main, runs_go_on,
     units_have_meanings,

@@ -1,7 +1,7 @@
 -- Pieces give the unit of a command: what the type of a compiled unit keeps, as the core's run asks for it.
 use Rattle.cc_core.specs.Rules.{HasBuilt}
-use Rattle.cc_build.specs.Built.{MadeUnitsAreBuilt}
-use Rattle.cc_build.specs.Compiling.{compiling, Keeps}
+use Rattle.cc_headline.specs.Built.{MadeUnitsAreBuilt}
+use Rattle.cc_headline.specs.Compiling.{compiling, Keeps}
 use Rattle.cc_history.specs.declared.command.Command.{Command}
 use Rattle.cc_history.specs.declared.command.Command.TheVariants.{Add, Replace, Withdraw}
 use Rattle.cc_history.specs.Calls.{HasMade, HasSource, change_of}

@@ -16,7 +16,7 @@ use Rattle.cc_history.specs.declared.entry.Entry.{Entry}
 use Rattle.cc_history.specs.History.{EachAgrees, HaveAgreed, Replays, units_after}
 use Rattle.cc_history.specs.History.{changes}
 use Rattle.cc_recorded.specs.Book.{AllAgreed, BookView, HasAgreedUnit, chronicle_of}
-use Rattle.cc_build.specs.Compiling.{is_right}
+use Rattle.cc_headline.specs.Compiling.{is_right}
 use Rattle.cc_recorded.specs.Promise.{HoldsPrefix, SurvivesCrash}
 use Rattle.cc_recorded.specs.Since.{HoldsFrom}
 use Rattle.cc_recorded.specs.Tie.{IsTied}

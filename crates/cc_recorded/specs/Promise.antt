@@ -6,7 +6,7 @@ use Rattle.cc_library.specs.Recovered.{Recovers}
 use Rattle.cc_core.specs.declared.command.Numbered.{Numbered}
 use Rattle.cc_core.specs.Run.{EachUnit, IsRightOr, Survives}
 use Rattle.cc_core.specs.Step.{commands}
-use Rattle.cc_build.specs.Compiling.{compiling, Keeps, is_right}
+use Rattle.cc_headline.specs.Compiling.{compiling, Keeps, is_right}
 use Rattle.cc_history.specs.Closing.{AreOwn, IsClosed, IsNotWhole}
 use Rattle.cc_history.specs.History.{EachAgrees, Holder, IsLegal, changes, units_after}
 use Rattle.cc_recorded.specs.Book.{AllAgreed, BookView, RecoversTo}

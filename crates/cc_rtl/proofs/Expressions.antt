@@ -2,10 +2,10 @@
 use Rattle.std.proofs.Common.{◌≡◌, ℕ, suc, ◌+◌, ◌<◌, ◌≤◌, List, [], ◌∷◌, map, cond, refl, sym, ap, ◌∙◌, subst, inl, inr, arith, Bool, true, false, ◌==◌, Option, Some, None}
 use Rattle.std.proofs.lemmas.Bool.Decides.{nat_tests}
 use Rattle.cc_words.specs.Operators.{apply_unary, apply_binary}
-use Rattle.cc_runs.specs.World.{World, element}
-use Rattle.cc_runs.specs.Run.{Goes, tried}
-use Rattle.cc_runs.specs.internal.Simulation as ways
-use Rattle.cc_runs.proofs.Simulating as simulating
+use Rattle.cc_simulation.specs.World.{World, element}
+use Rattle.cc_simulation.specs.Run.{Goes, tried}
+use Rattle.cc_simulation.specs.internal.Simulation as ways
+use Rattle.cc_simulation.proofs.Simulating as simulating
 use Rattle.cc_cminor.specs.Cminor.{Expression, Constant, Local, Unary, Binary, Load, then_value, value, values}
 use Rattle.cc_rtl_language.specs.Rtl as rtl
 use Rattle.cc_rtl_language.specs.Rtl.{Registers, Configuration, at, put, node_move, rtl_output}

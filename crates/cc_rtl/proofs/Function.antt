@@ -1,9 +1,9 @@
 -- The whole function: the code that is generated keeps up with Cminor's, has so many nodes, and each node leads to nodes but not to the
 -- entry.
 use Rattle.std.proofs.Common.{◌≡◌, ℕ, zero, suc, ◌+◌, ◌-◌, ◌<◌, [], ◌∷◌, length, ◌∙◌, subst, arith, length-append, Some, None}
-use Rattle.cc_runs.specs.Meaning.{Meaning}
-use Rattle.cc_runs.specs.Tracks.{Tracks}
-use Rattle.cc_runs.proofs.Simulating.{coarser}
+use Rattle.cc_simulation.specs.Meaning.{Meaning}
+use Rattle.cc_simulation.specs.Tracks.{Tracks}
+use Rattle.cc_simulation.proofs.Simulating.{coarser}
 use Rattle.cc_cminor.specs.Cminor.{Statement, cminor_move, cminor_output, cminor_start}
 use Rattle.cc_rtl_language.specs.Rtl as rtl
 use Rattle.cc_rtl_language.specs.Rtl.{rtl_move, rtl_output, rtl_start}

@@ -1,7 +1,7 @@
 -- A simulation from what is owed at each configuration, by cases on the old language's move: no case of another kind is to be refused.
 use Rattle.std.proofs.Common.{◌≡◌, ℕ, ◌<◌, ◌≤◌, List, refl, subst, ◌⊎◌, Option, Some, None}
-use Rattle.cc_runs.specs.Run.{Move, Goes, Calls, Returns, Fails, tried}
-use Rattle.cc_runs.specs.internal.Simulation.{Advances, Asks, Ending, Simulation}
+use Rattle.cc_simulation.specs.Run.{Move, Goes, Calls, Returns, Fails, tried}
+use Rattle.cc_simulation.specs.internal.Simulation.{Advances, Asks, Ending, Simulation}
 
 module _ {C D : Type 0} (old : C → Move C) (old_output : C → List ℕ) (new : D → Move D) (new_output : D → List ℕ) where
   -- what the new owes where the old does this move

@@ -1,12 +1,12 @@
 -- From a function's entry: what Cminor's run keeps of the source's meaning, RTL's run keeps at a slower rate.
 use Rattle.std.proofs.Common.{◌≡◌, ℕ, suc, ◌*◌, ◌≤◌, List, [], refl, sym, ap, ◌∙◌, subst, arith, get_or}
 use Rattle.std.proofs.Math.Nat.{mul-le-mul_left}
-use Rattle.cc_runs.specs.Behavior.{Outcome}
-use Rattle.cc_runs.specs.World.{World, Answer, Effect, Gives, Unfinished, Failed}
-use Rattle.cc_runs.specs.Run.{Move, Goes, run, work, act, work_act, tried}
-use Rattle.cc_runs.specs.Meaning.{Meaning, call_effect}
-use Rattle.cc_runs.specs.Tracks.{Keeps, Tracks}
-use Rattle.cc_runs.proofs.Simulating.{tracks_on, coarser}
+use Rattle.cc_simulation.specs.Behavior.{Outcome}
+use Rattle.cc_simulation.specs.World.{World, Answer, Effect, Gives, Unfinished, Failed}
+use Rattle.cc_simulation.specs.Run.{Move, Goes, run, work, act, work_act, tried}
+use Rattle.cc_simulation.specs.Meaning.{Meaning, call_effect}
+use Rattle.cc_simulation.specs.Tracks.{Keeps, Tracks}
+use Rattle.cc_simulation.proofs.Simulating.{tracks_on, coarser}
 use Rattle.cc_cminor.specs.Cminor.{Statement, cminor_move, cminor_output, cminor_start}
 use Rattle.cc_rtl_language.specs.Rtl.{at, node_move, rtl_output}
 use Rattle.cc_rtl_language.specs.internal.Moves.{Graph, graph_move}

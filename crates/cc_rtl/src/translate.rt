@@ -1,7 +1,7 @@
 // From Cminor to RTL.
 
 ghost use Rattle.std.specs.Prelude.{◌≡◌, ◌≤◌, ◌<◌, length, Some, slice_get, IfOk, IfErr};
-ghost use Rattle.cc_semantics.specs.Resolved.{arities};
+ghost use Rattle.cc_c_laws.specs.Resolved.{arities};
 ghost use Rattle.cc_cminor.specs.Pair.{tree_of as cminor_tree, code_of};
 ghost use Rattle.cc_cminor.specs.Size.{statement_size};
 ghost use Rattle.cc_rtl_language.specs.Rtl.{most_nodes};
@@ -14,7 +14,7 @@ use crate::size::fits;
 use crate::variables::with_statement;
 use cc_cminor::CminorPair;
 use cc_rtl_language::{Rtl, RtlPair};
-use cc_semantics::functions_are_resolved;
+use cc_c_laws::functions_are_resolved;
 use cc_types::TypedUnit;
 use std::alloc::Global;
 

@@ -5,10 +5,10 @@ use Rattle.std.specs.Prelude.{Option, Some, None}
 use Rattle.std.proofs.lemmas.Bool.Decides.{Decides-eqb}
 use Rattle.cc_words.specs.Operators.{apply_unary, apply_binary}
 use Rattle.cc_ast.specs.Tree.{External}
-use Rattle.cc_runs.specs.World.{World, Question, Answer, element, stored, next_word, after_read, after_write}
-use Rattle.cc_runs.specs.Run.{Move as Moving, Goes, Calls, Returns, Fails, tried}
-use Rattle.cc_runs.specs.internal.Simulation.{Advances, Asks, Ending, Simulation}
-use Rattle.cc_runs.proofs.Simulating.{coarser, tracks_on}
+use Rattle.cc_simulation.specs.World.{World, Question, Answer, element, stored, next_word, after_read, after_write}
+use Rattle.cc_simulation.specs.Run.{Move as Moving, Goes, Calls, Returns, Fails, tried}
+use Rattle.cc_simulation.specs.internal.Simulation.{Advances, Asks, Ending, Simulation}
+use Rattle.cc_simulation.proofs.Simulating.{coarser, tracks_on}
 use Rattle.cc_rtl_language.specs.Rtl.{Rtl, Node, Nop, Const, Move, Unary, Binary, Load, Store, Call, Read, Write, Branch, Return, Registers, Configuration, at, put, answered, branched, node_at, node_move, rtl_move, rtl_output, rtl_start, successors}
 use Rattle.cc_rtl_language.specs.Live.{Sets, in_some, result, Carries, is_dead, is_nop, as_nop, with_nops, MayBecomeNops, MayGo, among, without}
 use Rattle.cc_rtl_language.specs.Pair.{Pair, tree_of, IsCallOf, KeepsUp, IsPair}

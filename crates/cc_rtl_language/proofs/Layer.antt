@@ -1,12 +1,12 @@
 -- RTL is a layer: outputs grow, a call hands over the output so far and goes on from the answer's. So what keeps up follows.
 use Rattle.std.proofs.Common.{◌≡◌, ℕ, List, [], ◌∷◌, Option, Some, None, option_map, refl, subst}
 use Rattle.cc_words.specs.Operators.{apply_binary}
-use Rattle.cc_runs.specs.Behavior.{IsPrefixOf}
-use Rattle.cc_runs.specs.World.{World, Answer, element}
-use Rattle.cc_runs.specs.Run.{Move, Goes, Calls, Returns, Fails, tried}
-use Rattle.cc_runs.specs.Cuts.{IsLayer}
-use Rattle.cc_runs.proofs.Behaving.{begins_refl}
-use Rattle.cc_runs.proofs.Following.{tracks_follow}
+use Rattle.cc_simulation.specs.Behavior.{IsPrefixOf}
+use Rattle.cc_simulation.specs.World.{World, Answer, element}
+use Rattle.cc_simulation.specs.Run.{Move, Goes, Calls, Returns, Fails, tried}
+use Rattle.cc_simulation.specs.Cuts.{IsLayer}
+use Rattle.cc_simulation.proofs.Behaving.{begins_refl}
+use Rattle.cc_simulation.proofs.Following.{tracks_follow}
 use Rattle.cc_ast.specs.Tree.{External}
 use Rattle.cc_rtl_language.specs.Rtl as rtl
 use Rattle.cc_rtl_language.specs.Rtl.{Configuration, Registers, Rtl, node_at, node_move, rtl_output, rtl_start}

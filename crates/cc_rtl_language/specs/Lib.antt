@@ -11,6 +11,6 @@ pub mod Pair
 -- What the proofs speak of.
 pub mod internal
 -- Pages of crates below that clauses here cite, handed on.
-pub use Rattle.cc_semantics.specs.Meaning
-pub use Rattle.cc_semantics.specs.Numbered
-pub use Rattle.cc_semantics.specs.Resolved
+pub use Rattle.cc_c_laws.specs.Meaning
+pub use Rattle.cc_c_laws.specs.Numbered
+pub use Rattle.cc_c_laws.specs.Resolved

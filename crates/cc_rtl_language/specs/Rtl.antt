@@ -1,12 +1,12 @@
 -- RTL: the code of a function as a graph of labelled nodes over pseudo-registers, of which there are as many as are wanted. Its syntax as
--- data, and what one node does; the run of a function is then that of every intermediate language (`Rattle.cc_runs.specs.Run`).
+-- data, and what one node does; the run of a function is then that of every intermediate language (`Rattle.cc_simulation.specs.Run`).
 use Rattle.std.specs.Prelude.{◌≡◌, ◌≢◌, ℕ, ◌<◌, ◌≤◌, ◌==◌, List, [], ◌∷◌, length, map, get_or, Contains, Option, Some, None, IsSome, if◌then◌else◌}
 use Rattle.cc_words.specs.declared.operators.Unary as one
 use Rattle.cc_words.specs.declared.operators.Binary as two
 use Rattle.cc_words.specs.declared.operators.Width.{Width}
 use Rattle.cc_words.specs.Operators.{apply_unary, apply_binary}
-use Rattle.cc_runs.specs.World.{World, Answer, element, stored, next_word, after_read, after_write}
-use Rattle.cc_runs.specs.Run.{Move as Moving, Goes, Calls, Returns, tried}
+use Rattle.cc_simulation.specs.World.{World, Answer, element, stored, next_word, after_read, after_write}
+use Rattle.cc_simulation.specs.Run.{Move as Moving, Goes, Calls, Returns, tried}
 
 -- ---- syntax
 

@@ -1,6 +1,6 @@
 // Laws of the definitions, each the contract of a function that does nothing.
 
-ghost use Rattle.cc_runs.specs.Cuts.{IsLayer};
+ghost use Rattle.cc_simulation.specs.Cuts.{IsLayer};
 ghost use Rattle.cc_rtl_language.specs.Rtl.{Rtl, rtl_move, rtl_output};
 
 /// The nodes of a function are the moves of a layer: outputs only grow, a call hands over the output so far, and goes on from its answer's.

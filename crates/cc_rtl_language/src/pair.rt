@@ -2,7 +2,7 @@
 
 ghost use Rattle.std.specs.Prelude.{◌≡◌, ◌<◌, [], ◌∷◌, length, All, IsSome};
 ghost use Rattle.std.specs.Arc.{arc_value};
-ghost use Rattle.cc_semantics.specs.Meaning.{functions};
+ghost use Rattle.cc_c_laws.specs.Meaning.{functions};
 ghost use Rattle.cc_types.specs.Typed.{IsTyped};
 ghost use Rattle.cc_rtl_language.specs.Rtl.{IsRtl, node_at};
 ghost use Rattle.cc_rtl_language.specs.Live.{without, MayGo};

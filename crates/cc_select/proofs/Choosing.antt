@@ -5,13 +5,13 @@ use Rattle.std.specs.Prelude.{if◌then◌else◌, ◌==◌}
 use Rattle.cc_words.specs.Operators.{apply_unary, apply_binary}
 use Rattle.cc_words.specs.declared.operators.Width.{Width}
 use Rattle.cc_words.specs.declared.operators.Binary as binary
-use Rattle.cc_runs.specs.World.{World, element, stored, next_word, after_read, after_write}
-use Rattle.cc_runs.specs.Run.{Move as Moving, Goes, tried, run, work}
-use Rattle.cc_runs.specs.Unknown.{survives, unknown_word, unknown_register, left_after_call, left_after_word}
-use Rattle.cc_runs.specs.Meaning.{Meaning, call_effect}
-use Rattle.cc_runs.specs.Tracks.{Keeps, TracksForAll}
-use Rattle.cc_runs.specs.internal.Simulation.{Alike, Lockstep}
-use Rattle.cc_runs.proofs.Lockstep.{same_run, same_work}
+use Rattle.cc_simulation.specs.World.{World, element, stored, next_word, after_read, after_write}
+use Rattle.cc_simulation.specs.Run.{Move as Moving, Goes, tried, run, work}
+use Rattle.cc_simulation.specs.Unknown.{survives, unknown_word, unknown_register, left_after_call, left_after_word}
+use Rattle.cc_simulation.specs.Meaning.{Meaning, call_effect}
+use Rattle.cc_simulation.specs.Tracks.{Keeps, TracksForAll}
+use Rattle.cc_simulation.specs.internal.Simulation.{Alike, Lockstep}
+use Rattle.cc_simulation.proofs.Lockstep.{same_run, same_work}
 use Rattle.cc_ltl.specs.declared.location.Location.TheVariants.{Register, Slot}
 use Rattle.cc_ltl.specs.declared.operation.Move.TheVariants.{Between, Reload, Spill}
 use Rattle.cc_ltl.specs.Ltl.{Locations, put, after_call}

@@ -10,11 +10,11 @@ use Rattle.cc_words.specs.declared.operators.Binary as binary
 use Rattle.cc_words.specs.declared.operators.Binary.TheVariants.{Xor, Ne}
 use Rattle.cc_words.specs.Words.{truth_value, is_zero, ne, xor}
 use Rattle.cc_words.specs.Operators.{apply_binary}
-use Rattle.cc_runs.specs.World.{World}
-use Rattle.cc_runs.specs.Run.{Move as Moving, Goes, tried}
-use Rattle.cc_runs.specs.Meaning.{Meaning}
-use Rattle.cc_runs.specs.Tracks.{TracksForAll}
-use Rattle.cc_runs.proofs.Simulating.{coarser}
+use Rattle.cc_simulation.specs.World.{World}
+use Rattle.cc_simulation.specs.Run.{Move as Moving, Goes, tried}
+use Rattle.cc_simulation.specs.Meaning.{Meaning}
+use Rattle.cc_simulation.specs.Tracks.{TracksForAll}
+use Rattle.cc_simulation.proofs.Simulating.{coarser}
 use Rattle.cc_ltl.specs.declared.location.Location.TheVariants.{Register}
 use Rattle.cc_ltl.specs.Registers.{IsAllocatable}
 use Rattle.cc_ltl.specs.Ltl.{Locations, put}

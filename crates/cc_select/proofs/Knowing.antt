@@ -3,7 +3,7 @@ use Rattle.std.proofs.Common.{◌≡◌, ℕ, ◌<◌, List, length, get_or, set
 use Rattle.std.proofs.Math.Path.{fun_ext}
 use Rattle.std.proofs.lemmas.List.{get_or-set_same, get_or-set_other}
 use Rattle.std.proofs.lemmas.Bool.Decides.{eqb_tells}
-use Rattle.cc_runs.specs.Unknown.{survives}
+use Rattle.cc_simulation.specs.Unknown.{survives}
 use Rattle.cc_select.specs.declared.registers.Registers as bits
 use Rattle.cc_select.specs.declared.known.Known as found
 use Rattle.cc_select.specs.Live.{nothing, with, without}

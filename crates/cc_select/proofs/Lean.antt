@@ -2,11 +2,11 @@
 -- stays so; a constant that goes is no move, and the register that it wrote is not live.
 use Rattle.std.proofs.Common.{◌≡◌, ℕ, ◌≤◌, List, [], ◌∷◌, ◌++◌, true, false, Bool, length, refl, sym, ap, ◌∙◌, subst, inr, arith}
 use Rattle.std.specs.Prelude.{if◌then◌else◌, ◌==◌, ◌&&◌, not}
-use Rattle.cc_runs.specs.World.{World}
-use Rattle.cc_runs.specs.Run.{Move as Moving, Goes}
-use Rattle.cc_runs.specs.Meaning.{Meaning}
-use Rattle.cc_runs.specs.Tracks.{TracksForAll}
-use Rattle.cc_runs.proofs.Simulating.{coarser}
+use Rattle.cc_simulation.specs.World.{World}
+use Rattle.cc_simulation.specs.Run.{Move as Moving, Goes}
+use Rattle.cc_simulation.specs.Meaning.{Meaning}
+use Rattle.cc_simulation.specs.Tracks.{TracksForAll}
+use Rattle.cc_simulation.proofs.Simulating.{coarser}
 use Rattle.cc_ltl.specs.declared.location.Location.TheVariants.{Register}
 use Rattle.cc_ltl.specs.Ltl.{Locations, put}
 use Rattle.cc_linear_language.specs.declared.item.Item.TheVariants.{Label, Const}

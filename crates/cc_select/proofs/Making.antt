@@ -3,12 +3,12 @@
 -- may stand behind labels that the run has passed already (`labelled`).
 use Rattle.std.proofs.Common.{◌≡◌, ℕ, ◌<◌, ◌≤◌, ◌⊎◌, List, [], ◌∷◌, ◌++◌, Option, Some, None, true, false, Bool, length, refl, sym, ap, ◌∙◌, subst, inl, inr, arith}
 use Rattle.cc_words.specs.Operators.{apply_binary}
-use Rattle.cc_runs.specs.World.{World, element, stored}
-use Rattle.cc_runs.specs.Run.{Move as Moving, Goes, Calls, Returns, Fails, tried}
-use Rattle.cc_runs.specs.Meaning.{Meaning}
-use Rattle.cc_runs.specs.Tracks.{TracksForAll}
-use Rattle.cc_runs.specs.internal.Simulation.{Advances, Asks, Ending, Simulation, Alike}
-use Rattle.cc_runs.proofs.Simulating.{coarser, tracks_on_for_all}
+use Rattle.cc_simulation.specs.World.{World, element, stored}
+use Rattle.cc_simulation.specs.Run.{Move as Moving, Goes, Calls, Returns, Fails, tried}
+use Rattle.cc_simulation.specs.Meaning.{Meaning}
+use Rattle.cc_simulation.specs.Tracks.{TracksForAll}
+use Rattle.cc_simulation.specs.internal.Simulation.{Advances, Asks, Ending, Simulation, Alike}
+use Rattle.cc_simulation.proofs.Simulating.{coarser, tracks_on_for_all}
 use Rattle.cc_ltl.specs.declared.location.Location.TheVariants.{Register}
 use Rattle.cc_ltl.specs.Ltl.{Locations, put}
 use Rattle.cc_linear_language.specs.declared.item.Item.TheVariants.{Label, Jump, IfNonzero, IfZero, Copy, Const, Unary, Binary, Load, Store, Call, Read, Write, Return}

@@ -3,8 +3,8 @@
 use Rattle.std.proofs.Common.{◌≡◌, ℕ, ◌≤◌, List, [], ◌∷◌, Option, Some, None, true, false, Bool, length, refl, arith}
 use Rattle.std.specs.Prelude.{◌==◌}
 use Rattle.cc_words.specs.Operators.{apply_binary}
-use Rattle.cc_runs.specs.World.{World, Answer, element, stored}
-use Rattle.cc_runs.specs.Run.{Move as Moving, Goes, Calls, Returns, Fails, tried}
+use Rattle.cc_simulation.specs.World.{World, Answer, element, stored}
+use Rattle.cc_simulation.specs.Run.{Move as Moving, Goes, Calls, Returns, Fails, tried}
 use Rattle.cc_ltl.specs.declared.location.Location.TheVariants.{Register}
 use Rattle.cc_ltl.specs.Ltl.{Locations}
 use Rattle.cc_linear_language.specs.declared.item.Item.TheVariants.{Label, Jump, IfNonzero, IfZero, Copy, Const, Unary, Binary, Load, Store, Call, Read, Write, Return}

@@ -4,9 +4,9 @@ use Rattle.std.proofs.Common.{ℕ, ◌≤◌, List, length}
 use Rattle.cc_ast.specs.Tree.{External}
 use Rattle.cc_types.specs.Typed.{IsWithinLimits}
 use Rattle.cc_linear_language.specs.Meaning.{functions}
-use Rattle.cc_runs.specs.Meaning.{Meaning}
-use Rattle.cc_runs.specs.Tracks.{TracksForAll}
-use Rattle.cc_runs.proofs.Simulating.{coarser}
+use Rattle.cc_simulation.specs.Meaning.{Meaning}
+use Rattle.cc_simulation.specs.Tracks.{TracksForAll}
+use Rattle.cc_simulation.proofs.Simulating.{coarser}
 use Rattle.cc_linear_language.specs.declared.item.Item as linear
 use Rattle.cc_linear_language.specs.Linear.{labels, linear_move, linear_output, linear_start}
 use Rattle.cc_linear_language.specs.Pair as above

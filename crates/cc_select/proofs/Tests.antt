@@ -4,8 +4,8 @@ use Rattle.std.proofs.Common.{◌≡◌, ◌≢◌, ℕ, suc, ◌<◌, List, [],
 use Rattle.std.proofs.lemmas.Bool.Decides.{eqb_tells}
 use Rattle.std.specs.Prelude.{if◌then◌else◌, ◌==◌, not, Contains}
 use Rattle.std.specs.List.{AllPairs}
-use Rattle.cc_runs.specs.World.{World}
-use Rattle.cc_runs.specs.Run.{Goes}
+use Rattle.cc_simulation.specs.World.{World}
+use Rattle.cc_simulation.specs.Run.{Goes}
 use Rattle.cc_ltl.specs.declared.location.Location.TheVariants.{Register}
 use Rattle.cc_ltl.specs.Ltl.{Locations}
 use Rattle.cc_linear_language.specs.declared.item.Item.{Item}

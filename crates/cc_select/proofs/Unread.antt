@@ -4,10 +4,10 @@ use Rattle.std.proofs.Common.{◌≡◌, ℕ, zero, suc, ◌+◌, ◌<◌, ◌�
 use Rattle.std.proofs.lemmas.Bool.Decides.{nat_tests}
 use Rattle.std.specs.Prelude.{if◌then◌else◌, ◌==◌, ◌&&◌, ◌||◌, not, nat_le}
 use Rattle.cc_words.specs.Operators.{apply_unary, apply_binary}
-use Rattle.cc_runs.specs.World.{World, element, stored, next_word, after_read, after_write}
-use Rattle.cc_runs.specs.Run.{Move as Moving, Goes, tried}
-use Rattle.cc_runs.specs.Unknown.{survives, unknown_word, unknown_register, left_after_call, left_after_word}
-use Rattle.cc_runs.specs.internal.Simulation.{Alike}
+use Rattle.cc_simulation.specs.World.{World, element, stored, next_word, after_read, after_write}
+use Rattle.cc_simulation.specs.Run.{Move as Moving, Goes, tried}
+use Rattle.cc_simulation.specs.Unknown.{survives, unknown_word, unknown_register, left_after_call, left_after_word}
+use Rattle.cc_simulation.specs.internal.Simulation.{Alike}
 use Rattle.cc_ltl.specs.declared.location.Location.TheVariants.{Register, Slot}
 use Rattle.cc_ltl.specs.declared.operation.Move.TheVariants.{Between, Reload, Spill}
 use Rattle.cc_ltl.specs.Ltl.{Locations, put, words_from, after_call}

@@ -3,7 +3,7 @@
 -- jump. What is known of a register is what the items since the last label say.
 use Rattle.std.specs.Prelude.{ℕ, Bool, true, false, not, if◌then◌else◌, ◌==◌, Option, Some, None, List, [], ◌∷◌}
 use Rattle.cc_words.specs.declared.operators.Binary as binary
-use Rattle.cc_runs.specs.Unknown.{survives}
+use Rattle.cc_simulation.specs.Unknown.{survives}
 use Rattle.cc_ltl.specs.declared.operation.Move.TheVariants.{Between, Reload, Spill}
 use Rattle.cc_linear_language.specs.declared.item.Item as linear
 use Rattle.cc_linear_language.specs.declared.item.Item.TheVariants.{Label, Jump, IfNonzero, IfZero, Copy, Const, Unary, Binary, Load, Store, Call, Read, Write, Return}

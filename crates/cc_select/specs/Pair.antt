@@ -6,8 +6,8 @@ use Rattle.cc_ast.specs.declared.unit.Unit as parsed
 use Rattle.cc_types.specs.Typed.{IsTyped}
 use Rattle.cc_linear_language.specs.Meaning.{functions}
 use Rattle.cc_linear_language.specs.Numbered.{IsMeaningOf}
-use Rattle.cc_runs.specs.Meaning.{Meaning}
-use Rattle.cc_runs.specs.Tracks.{TracksForAll}
+use Rattle.cc_simulation.specs.Meaning.{Meaning}
+use Rattle.cc_simulation.specs.Tracks.{TracksForAll}
 use Rattle.cc_ltl.specs.Ltl.{Ltl, IsLtl}
 use Rattle.cc_linear_language.specs.Pair.{most_blocks, LtlKeepsUp}
 use Rattle.cc_select.specs.declared.step.Step.{Step}

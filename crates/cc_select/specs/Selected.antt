@@ -3,9 +3,9 @@
 use Rattle.std.specs.Prelude.{◌≡◌, ◌≢◌, ℕ, ◌≤◌, ◌==◌, Bool, true, false, if◌then◌else◌, List, [], ◌∷◌, Contains}
 use Rattle.std.specs.List.{AllByRecursion, AllPairs}
 use Rattle.cc_words.specs.Operators.{apply_unary, apply_binary}
-use Rattle.cc_runs.specs.World.{World, Answer, element, stored, next_word, after_read, after_write}
-use Rattle.cc_runs.specs.Unknown.{unknown_word, left_after_entry, left_after_call, left_after_word}
-use Rattle.cc_runs.specs.Run.{Move as Moving, Goes, Calls, Returns, Fails, tried}
+use Rattle.cc_simulation.specs.World.{World, Answer, element, stored, next_word, after_read, after_write}
+use Rattle.cc_simulation.specs.Unknown.{unknown_word, left_after_entry, left_after_call, left_after_word}
+use Rattle.cc_simulation.specs.Run.{Move as Moving, Goes, Calls, Returns, Fails, tried}
 use Rattle.cc_ltl.specs.declared.location.Location.TheVariants.{Register}
 use Rattle.cc_ltl.specs.Registers.{IsAllocatable, most_slots}
 use Rattle.cc_ltl.specs.Ltl.{IsWord, Locations, put, target, source, first_argument, result_location, destroyed_location, words_from, after_call, at_entry}

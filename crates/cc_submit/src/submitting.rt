@@ -8,7 +8,7 @@ ghost use Rattle.cc_submit.specs.internal.Sent.{asks_source, has_source, is_whol
 
 use cc_answers::{Persons, Telling, explain_bad_line, explain_no_command, explain_words, words_of};
 use cc_command_line::Client;
-use cc_program::perform_and_explain;
+use cc_tasks::perform_and_explain;
 use cc_script::{Command, Dialect, ScriptFault, command_of};
 use cc_spool::{Layout, SpoolFault, Submission, fault_lines, source_in, submit};
 use cc_task::Task;

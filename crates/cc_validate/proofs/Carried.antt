@@ -15,7 +15,7 @@ use Rattle.cc_ltl.specs.declared.operation.Move.{Move}
 use Rattle.cc_ltl.specs.declared.operation.Operation.{Operation}
 use Rattle.cc_ltl.specs.declared.operation.Operation.TheVariants.{Nop, Const, Unary, Binary, Load, Store, Call, Read, Write, Branch, Return}
 use Rattle.cc_ltl.specs.declared.block.Block.{Block}
-use Rattle.cc_rows.specs.Rows.{Table, has, column_moved, row_moved}
+use Rattle.cc_bits.specs.Rows.{Table, has, column_moved, row_moved}
 use Rattle.cc_validate.specs.declared.equation.Equation.{Equation}
 use Rattle.cc_validate.specs.declared.fate.Fate.{Fate}
 use Rattle.cc_validate.specs.declared.fate.Fate.TheVariants.{Becomes, Dropped, Contradicted}

@@ -6,7 +6,7 @@ use Rattle.std.proofs.lemmas.List.{get_or-set_same, get_or-set_other, length-set
 use Rattle.std.proofs.lemmas.List.FromFn.{length-range_with_len, get_or-range_with_len}
 use Rattle.cc_ltl.specs.Ltl.{same_location, target, source}
 use Rattle.cc_ltl.specs.declared.operation.Move.{Move}
-use Rattle.cc_rows.specs.Rows.{Table, has}
+use Rattle.cc_bits.specs.Rows.{Table, has}
 use Rattle.cc_validate.specs.declared.equation.Equation.{Equation}
 use Rattle.cc_validate.specs.Equations.{equation, before_move, before_moves}
 use Rattle.cc_validate.specs.internal.Room.{place, IsPlace, most_places}

@@ -3,7 +3,7 @@
 
 ghost use Rattle.std.specs.Prelude.{◌≡◌, ◌≤◌, Some, IfOk};
 ghost use Rattle.cc_flow.specs.Lattice.{Equivalent};
-ghost use Rattle.cc_rows.specs.Rows.{most_width};
+ghost use Rattle.cc_bits.specs.Rows.{most_width};
 ghost use Rattle.cc_rtl_language.specs.Code.{node_of};
 ghost use Rattle.cc_validate.specs.Equations.{Agrees};
 ghost use Rattle.cc_validate.specs.internal.Facts.{Below, through};

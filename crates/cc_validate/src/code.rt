@@ -1,7 +1,7 @@
 //! The nodes and blocks of a function as the solver takes them: side by side, by their positions.
 
 ghost use Rattle.std.specs.Prelude.{◌≡◌, ◌≤◌};
-ghost use Rattle.cc_rows.specs.Rows.{most_width};
+ghost use Rattle.cc_bits.specs.Rows.{most_width};
 ghost use Rattle.cc_validate.specs.internal.Positions.{carries, AreBeside};
 ghost use Rattle.cc_validate.specs.internal.Upward.{carries_up};
 

@@ -5,7 +5,7 @@
 
 ghost use Rattle.std.specs.Prelude.{◌≡◌, ◌+◌, ◌<◌, ◌≤◌, ◌^◌, ◌↔◌, ◌≢◌, ◌==◌, ◌&&◌, ◌∷◌, [], ℕ, Some, Contains, get_or, length, if◌then◌else◌, IfOk, IfErr, IsTrue, IsFalse};
 ghost use Rattle.cc_flow.specs.Lattice.{Equivalent};
-ghost use Rattle.cc_rows.specs.Rows.{has, most_width, most_rows};
+ghost use Rattle.cc_bits.specs.Rows.{has, most_width, most_rows};
 ghost use Rattle.cc_ltl.specs.Ltl.{same_location};
 ghost use Rattle.cc_validate.specs.Equations.{before_moves, equation};
 ghost use Rattle.cc_validate.specs.Solution.{IsAtEntry};
@@ -21,7 +21,7 @@ use crate::equation::Equation;
 use crate::moves::{number, source, target};
 use crate::origins::{PLACES, origins};
 use cc_ltl::Move;
-use cc_rows::BitRows;
+use cc_bits::BitRows;
 use std::alloc::{AllocError, Global};
 use std::marker::Model;
 

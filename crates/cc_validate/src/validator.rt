@@ -1,7 +1,7 @@
 //! The validator.
 
 ghost use Rattle.std.specs.Prelude.{◌≡◌, ◌↔◌, ◌≤◌, length, All, IfOk, IfErr, IfSome, IfNone, IsTrue, IsSome};
-ghost use Rattle.cc_rows.specs.Rows.{most_width};
+ghost use Rattle.cc_bits.specs.Rows.{most_width};
 ghost use Rattle.cc_rtl_language.specs.Rtl.{node_at};
 ghost use Rattle.cc_ltl.specs.Ltl.{IsLtl};
 ghost use Rattle.cc_validate.specs.Solution.{IsAtEntry, HasSolution};

@@ -1,5 +1,5 @@
 // The program `cclib`: reads a C program from standard input, and checks, interprets, runs or lists it, or does a script over a library.
-// How a command line is read is the matter of `cc_command_line`, how a task is done that of `cc_program`, a script that of `cc_session`, the
+// How a command line is read is the matter of `cc_command_line`, how a task is done that of `cc_tasks`, a script that of `cc_session`, the
 // file of a library and what is taken out of one that of `cc_filing`, a server's client that of `cc_submit`. `library` has a session over
 // a file, `serving` a server, `stack` what the stack needs.
 #![tactic(auto)]
@@ -13,7 +13,7 @@ mod stack;
 use cc_answers::Persons;
 use cc_command_line::{NoRequest, Request, Work, read_or_tell, tell_bytes};
 use cc_filing::take_out_of_file;
-use cc_program::{Fault, perform, perform_and_explain, perform_and_explain_stages, perform_stages};
+use cc_tasks::{Fault, perform, perform_and_explain, perform_and_explain_stages, perform_stages};
 use cc_submit::submit_script;
 use cc_task::Task;
 use library::library_session;

@@ -1,6 +1,6 @@
 // What is explained of faults and of runs that go wrong, beside what is answered.
 
-use cc_program::perform_and_explain;
+use cc_tasks::perform_and_explain;
 use cc_task::Task;
 use std::alloc::Global;
 

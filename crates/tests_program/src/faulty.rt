@@ -1,6 +1,6 @@
 // Readers and writers that fail.
 
-use cc_program::{perform, perform_and_explain};
+use cc_tasks::{perform, perform_and_explain};
 use cc_task::Task;
 use std::io::{self, ErrorKind, Read, Write};
 

@@ -1,6 +1,6 @@
 // What a task writes for a text, and texts made of parts.
 
-use cc_program::perform;
+use cc_tasks::perform;
 use cc_task::Task;
 use std::alloc::{AllocError, Global};
 

@@ -1,7 +1,7 @@
 // Small programs, what they write and how they end.
 
 use super::helpers::{checks, interprets, writes};
-use cc_program::perform;
+use cc_tasks::perform;
 use cc_task::Task;
 use std::alloc::{AllocError, Global};
 

@@ -2,7 +2,7 @@
 
 use super::helpers::checks;
 use cc_link::PieceFault;
-use cc_program::Fault;
+use cc_tasks::Fault;
 
 // Texts, and the line that `check` writes for each.
 static TEXTS: [(&str, &str); 30] = [

@@ -1,7 +1,7 @@
 // What is shown of a text's functions, and what is refused. That the stages are those of the compiler is tested in `tests_link`.
 
 use crate::helpers::text_of;
-use cc_program::{perform_and_explain_stages, perform_stages};
+use cc_tasks::{perform_and_explain_stages, perform_stages};
 use std::io::{self, ErrorKind, Read, Write};
 
 /// A program of two functions, and a name that is nearly one of them.

@@ -3,7 +3,7 @@ use Rattle.std.specs.Prelude.{◌≡◌, ℕ, zero, suc, ◌*◌, ◌/◌, ◌%�
 use Rattle.std.specs.Int.RustNames.{bit_or}
 use Rattle.cc_rtl_language.specs.Rtl.{Labelled, Node, node_at}
 use Rattle.cc_rtl_language.specs.Live.{Sets, reads, result, pure_result, live_behind, is_dead}
-use Rattle.cc_rows.specs.Rows.{holds}
+use Rattle.cc_bits.specs.Rows.{holds}
 
 -- the second holds all that the first holds
 abbrev pub Below : List ℕ → List ℕ → Type 0

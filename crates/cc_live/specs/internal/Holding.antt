@@ -9,8 +9,8 @@ use Rattle.std.proofs.lemmas.Bool.{cases_eq, or_cases, or_left, or_right, and_pa
 use Rattle.std.proofs.lemmas.Bool.Decides.{Decides-eqb, nat_tests}
 use Rattle.cc_rtl_language.specs.Rtl.{Node, Nop, Const, Move, Unary, Binary, Load, Store, Call, Read, Write, Branch, Return}
 use Rattle.cc_rtl_language.specs.Live.{reads, result, pure_result, among}
-use Rattle.cc_rows.specs.Rows.{holds}
-use Rattle.cc_rows.specs.internal.Holding.{bits_or, holds-nothing, within_row}
+use Rattle.cc_bits.specs.Rows.{holds}
+use Rattle.cc_bits.specs.internal.Holding.{bits_or, holds-nothing, within_row}
 use Rattle.cc_live.specs.internal.Facts.{Below, either, single, with_all, chosen, those, but_for, is_result, is_unread, live_before}
 
 -- ---- the bits of words

@@ -3,9 +3,9 @@ use Rattle.std.proofs.Common.{◌≡◌, ℕ, zero, suc, List, [], ◌∷◌, sy
 use Rattle.std.proofs.lemmas.Bool.{or_left, or_right}
 use Rattle.cc_flow.specs.Lattice.{IsLattice, Equivalent}
 use Rattle.cc_rtl_language.specs.Rtl.{Labelled}
-use Rattle.cc_rows.specs.Rows.{holds}
+use Rattle.cc_bits.specs.Rows.{holds}
 use Rattle.cc_live.specs.internal.Facts.{Below, nothing, either, carries}
-use Rattle.cc_rows.specs.internal.Holding.{holds-nothing}
+use Rattle.cc_bits.specs.internal.Holding.{holds-nothing}
 use Rattle.cc_live.specs.internal.Holding.{holds-either, live_before_up}
 
 pub laws : IsLattice Below nothing either

@@ -2,9 +2,9 @@
 use Rattle.std.specs.Prelude.{◌≡◌, ℕ, refl, List, [], ◌∷◌, codes}
 use Rattle.std.specs.Fmt.{digits}
 use Rattle.cc_words.specs.declared.operators.Binary.TheVariants.{Sub}
-use Rattle.cc_runs.specs.Behavior.{Outcome, Ended, Wrong}
-use Rattle.cc_runs.specs.World.{World, Question, Answer, Effect, Gives}
-use Rattle.cc_runs.specs.Run.{run}
+use Rattle.cc_simulation.specs.Behavior.{Outcome, Ended, Wrong}
+use Rattle.cc_simulation.specs.World.{World, Question, Answer, Effect, Gives}
+use Rattle.cc_simulation.specs.Run.{run}
 use Rattle.cc_ltl.specs.declared.operation.Move.TheVariants.{Between, Reload, Spill}
 use Rattle.cc_ltl.specs.declared.operation.Operation.TheVariants.{Nop, Binary, Call, Return}
 use Rattle.cc_ltl.specs.Ltl.{Ltl, ltl_move, ltl_output, ltl_start}

@@ -1,6 +1,6 @@
 -- A graph of nodes, however it is kept, and its moves.
 use Rattle.std.specs.Prelude.{ℕ, Option}
-use Rattle.cc_runs.specs.Run.{Move, tried}
+use Rattle.cc_simulation.specs.Run.{Move, tried}
 use Rattle.cc_rtl_language.specs.Rtl as rtl
 
 -- a graph, as the node of each label, and its moves

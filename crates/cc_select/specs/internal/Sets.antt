@@ -1,7 +1,7 @@
 -- What the vectors and bits of the code stand for.
 use Rattle.std.specs.Prelude.{◌≡◌, ℕ, ◌+◌, ◌<◌, List, length, get_or, drop, Bool, not, ◌&&◌, ◌||◌, ◌==◌, nat_lt, if◌then◌else◌, Some, None}
 use Rattle.std.specs.Int.{bit_at}
-use Rattle.cc_runs.specs.Unknown.{survives}
+use Rattle.cc_simulation.specs.Unknown.{survives}
 use Rattle.cc_select.specs.declared.step.Step.{Step}
 use Rattle.cc_select.specs.declared.registers.Registers as bits
 use Rattle.cc_select.specs.declared.live.LiveTable as rows

@@ -6,8 +6,8 @@ use Rattle.std.specs.Int.Count.{count_trailing_zeros}
 use Rattle.cc_words.specs.declared.operators.Width.TheVariants.{Byte, Word}
 use Rattle.cc_words.specs.declared.operators.Unary.TheVariants.{IsZero}
 use Rattle.cc_words.specs.declared.operators.Binary.TheVariants as operators
-use Rattle.cc_runs.specs.World.{World}
-use Rattle.cc_runs.specs.Run.{Goes}
+use Rattle.cc_simulation.specs.World.{World}
+use Rattle.cc_simulation.specs.Run.{Goes}
 use Rattle.cc_ltl.specs.declared.location.Location.TheVariants.{Register}
 use Rattle.cc_ltl.specs.declared.operation.Move.TheVariants.{Between}
 use Rattle.cc_ltl.specs.Ltl.{Locations, put}

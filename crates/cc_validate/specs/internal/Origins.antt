@@ -1,7 +1,7 @@
 -- Where words come from through many moves, as a table of the numbers of locations, and what that makes of the bits of a table.
 use Rattle.std.specs.Prelude.{◌≡◌, ℕ, List, length, get_or, IsTrue}
 use Rattle.cc_ltl.specs.declared.operation.Move.{Move}
-use Rattle.cc_rows.specs.Rows.{Table, has}
+use Rattle.cc_bits.specs.Rows.{Table, has}
 use Rattle.cc_validate.specs.declared.equation.Equation.{Equation}
 use Rattle.cc_validate.specs.Equations.{before_moves}
 use Rattle.cc_validate.specs.internal.Room.{IsPlace, most_places}

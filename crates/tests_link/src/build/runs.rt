@@ -4,7 +4,7 @@ use super::script::Line::{
     WriteBody, WriteGate,
 };
 use super::script::{Line, events, leaves};
-use cc_build::{CcBuild, run};
+use cc_headline::{CcBuild, run};
 use cc_core::state::State;
 use std::alloc::Global;
 use std::test::Fail;

@@ -1,6 +1,6 @@
 // Scripts: events by plain numbers, what they answer, and what they leave.
 
-use cc_build::CcBuild;
+use cc_headline::CcBuild;
 use cc_core::command::{Reply, Request};
 use cc_core::event::Event;
 use cc_core::fault::CoreFault;

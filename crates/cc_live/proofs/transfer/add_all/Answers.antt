@@ -2,7 +2,7 @@
 use Rattle.std.proofs.Common.{◌≡◌, ◌∙◌, ap, sym, refl, ◌||◌, ◌==◌, ◌+◌, ◌<◌, ℕ, List, length, take, get_or, Bool, true, false}
 use Rattle.std.proofs.lemmas.List.{take_more, take_all}
 use Rattle.cc_rtl_language.specs.Live.{among}
-use Rattle.cc_rows.specs.Rows.{holds}
+use Rattle.cc_bits.specs.Rows.{holds}
 use Rattle.cc_live.specs.internal.Holding.{among-push}
 use Rattle.cc_live.proofs.transfer.add_all.Goals as goal
 

@@ -1,7 +1,7 @@
 -- The registers before are in.
 use Rattle.std.proofs.Common.{◌≡◌, ◌||◌, ℕ, take}
 use Rattle.cc_rtl_language.specs.Live.{among}
-use Rattle.cc_rows.specs.Rows.{holds}
+use Rattle.cc_bits.specs.Rows.{holds}
 use Rattle.cc_live.proofs.transfer.add_all.Given as goal
 
 abbrev pub invariant-loop-register : goal.invariant-loop-register

@@ -2,7 +2,7 @@
 use Rattle.std.proofs.Common.{◌≡◌, ◌∙◌, ◌-◌, ◌<◌, ◌∷◌, length, drop, get_or, sym, ap, subst, arith, ℕ}
 use Rattle.std.proofs.lemmas.List.{get_or_read}
 use Rattle.cc_ltl.specs.Ltl.{target, source}
-use Rattle.cc_rows.specs.Rows.{has, column_moved}
+use Rattle.cc_bits.specs.Rows.{has, column_moved}
 use Rattle.cc_validate.specs.Equations.{before_move, before_moves}
 use Rattle.cc_validate.specs.internal.Room.{IsPlace, most_places}
 use Rattle.cc_validate.specs.internal.Table.{number, listed}

@@ -1,6 +1,6 @@
 -- One column more.
 use Rattle.std.proofs.Common.{◌∙◌, ◌+◌, ◌<◌, ◌≡◌, ◌⊎◌, sym, subst, IsTrue}
-use Rattle.cc_rows.specs.Rows.{has, Table}
+use Rattle.cc_bits.specs.Rows.{has, Table}
 use Rattle.cc_validate.specs.internal.Origins.{AreSent}
 use Rattle.cc_validate.proofs.Sending.{column_sent, column_skipped}
 use Rattle.cc_validate.proofs.equations.put_row.Goals as goal

@@ -1,6 +1,6 @@
 -- The bits of the rows before and of the columns before are put in.
 use Rattle.std.proofs.Common.{◌≡◌, ◌<◌, ◌⊎◌, IsTrue}
-use Rattle.cc_rows.specs.Rows.{has}
+use Rattle.cc_bits.specs.Rows.{has}
 use Rattle.cc_validate.specs.internal.Origins.{AreSent}
 use Rattle.cc_validate.proofs.equations.put_row.Given as goal
 

@@ -1,7 +1,7 @@
 -- It holds what either holds, and where it rose, a register more.
 use Rattle.std.proofs.Common.{◌∙◌, ap, subst, ◌||◌, ◌≤◌, List, ℕ, length, IsTrue, IsFalse}
-use Rattle.cc_rows.specs.Rows.{holds}
-use Rattle.cc_rows.specs.internal.Holding.{within_row}
+use Rattle.cc_bits.specs.Rows.{holds}
+use Rattle.cc_bits.specs.internal.Holding.{within_row}
 use Rattle.cc_live.specs.internal.Room.{most_words}
 use Rattle.cc_live.proofs.Joining.{HoldsEither, join_made, room_less}
 use Rattle.cc_live.proofs.set.RegisterSetFacts.join.Goals as goal

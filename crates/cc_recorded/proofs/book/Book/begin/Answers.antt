@@ -1,6 +1,6 @@
 use Rattle.std.proofs.Common.{◌≡◌, List, [], Some, None, refl, sym, ap, subst, ◌∙◌}
 use Rattle.std.specs.Prelude.{slice_get}
-use Rattle.cc_build.specs.Compiling.{compiling, Keeps}
+use Rattle.cc_headline.specs.Compiling.{compiling, Keeps}
 use Rattle.cc_recorded.specs.Book.{BookView}
 use Rattle.cc_recorded.specs.Since.{AreSince, IsSinceOpening}
 use Rattle.cc_recorded.specs.Tie.{IsTied}

@@ -1,5 +1,5 @@
 use Rattle.std.proofs.Common.{IsTrue, List, sym, subst}
-use Rattle.cc_build.specs.Compiling.{compiling, Keeps}
+use Rattle.cc_headline.specs.Compiling.{compiling, Keeps}
 use Rattle.cc_recorded.specs.Book.{BookView}
 use Rattle.cc_recorded.specs.Changed.{IsBookCompacted}
 use Rattle.cc_recorded.specs.Since.{AreSince, BookSince}

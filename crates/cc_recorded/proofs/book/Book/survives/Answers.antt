@@ -1,6 +1,6 @@
 use Rattle.std.proofs.Common.{◌≡◌, ℕ, List, IsTrue, Some, length, subst}
 use Rattle.std.specs.Prelude.{slice_get}
-use Rattle.cc_build.specs.Compiling.{compiling, Keeps, is_right}
+use Rattle.cc_headline.specs.Compiling.{compiling, Keeps, is_right}
 use Rattle.cc_recorded.specs.Book.{BookView}
 use Rattle.cc_recorded.specs.Promise.{IsSound}
 use Rattle.cc_recorded.specs.Since.{BookSince, HoldsFrom}

@@ -1,0 +1,304 @@
+//! Rows of bits of one width, one behind the other: a set of pairs.
+
+ghost use Rattle.std.specs.Prelude.{◌≡◌, ℕ, ◌+◌, ◌*◌, ◌/◌, ◌^◌, ◌<◌, ◌≤◌, ◌==◌, ◌||◌, ◌&&◌, not, false, if◌then◌else◌, IsTrue, IsFalse, IfOk, IfErr};
+ghost use Rattle.cc_bits.specs.Rows.{has, most_width, most_rows, column_moved, row_moved};
+
+use crate::row::BitRow;
+use std::alloc::{AllocError, Global};
+use std::marker::Model;
+
+// How many rows more a copy has room for.
+const ROOM: usize = 4;
+
+/// Rows of bits: the pairs of a row and a column. Contracts see how many words a row has, and all words.
+#[derive(Drop)]
+pub struct BitRows {
+    alloc: Global,
+    // How many words a row has.
+    width: usize,
+    // Past how many rows there is no word.
+    rows: usize,
+    bits: BitRow,
+}
+
+impl Model for BitRows {
+    ghost use Rattle.cc_bits.specs.Rows.{Table, AreRows};
+
+    ghost Value = { Table };
+
+    ghost view = { λ t. record { width = t.width; words = t.bits } };
+
+    ghost invariant = { λ t. AreRows t.width t.rows t.bits };
+}
+
+impl BitRows {
+    /// No row. It takes no memory.
+    pub fn new(alloc: Global) -> BitRows
+        ensures { (r c : ℕ) → has result r c ≡ false }
+    {
+        BitRows {
+            alloc,
+            width: 0,
+            rows: 0,
+            bits: BitRow::new(alloc),
+        }
+    }
+
+    /// Past how many rows there is no bit.
+    pub fn rows(&self) -> usize
+        ensures few { result ≤ most_rows }
+        ensures past { (r c : ℕ) → result ≤ r → has self.now r c ≡ false }
+    {
+        self.rows
+    }
+
+    /// How many columns its rows have room for.
+    pub fn columns(&self) -> usize
+        ensures few { result ≤ 64 * most_width }
+        ensures past { (r c : ℕ) → result ≤ c → has self.now r c ≡ false }
+    {
+        64 * self.width
+    }
+
+    /// Whether a bit is set.
+    pub fn contains(&self, r: usize, c: usize) -> bool
+        requires { r < most_rows }
+        ensures { result ≡ has self.now r c }
+    {
+        c < 64 * self.width && self.bits.contains(64 * (self.width * r) + c)
+    }
+
+    /// Sets a bit. Without memory the bits stay as they were.
+    pub fn insert(&mut self, r: usize, c: usize) -> Result<(), AllocError>
+        requires row { r < most_rows }
+        requires column { c < 64 * most_width }
+        ensures added { IfOk result (λ _. (i j : ℕ) → has self.new i j ≡ ((r == i && c == j) || has self.old i j)) }
+        ensures leaves { IfErr result (λ _. (i j : ℕ) → has self.new i j ≡ has self.old i j) }
+    {
+        if c >= 64 * self.width {
+            let wide = self.widened(c / 64 + 1)?;
+            *self = wide;
+        }
+        self.put(r, c)
+    }
+
+    /// Sets a bit of a column for which the rows have room.
+    fn put(&mut self, r: usize, c: usize) -> Result<(), AllocError>
+        requires row { r < most_rows }
+        requires column { c < 64 * self.old.width }
+        ensures added { IfOk result (λ _. (i j : ℕ) → has self.new i j ≡ ((r == i && c == j) || has self.old i j)) }
+        ensures width { self.new.width ≡ self.old.width }
+        ensures leaves { IfErr result (λ _. self.new ≡ self.old) }
+    {
+        self.bits.insert(64 * (self.width * r) + c)?;
+        self.rows = greater(self.rows, r + 1);
+        Ok(())
+    }
+
+    /// Clears a bit.
+    pub fn remove(&mut self, r: usize, c: usize)
+        requires { r < most_rows }
+        ensures { (i j : ℕ) → has self.new i j ≡ (has self.old i j && not (r == i && c == j)) }
+    {
+        if c < 64 * self.width {
+            self.bits.remove(64 * (self.width * r) + c);
+        }
+    }
+
+    /// The same once more, with rows of this many words at least, and with memory for some rows more.
+    pub fn copy(&self, width: usize) -> Result<BitRows, AllocError>
+        requires { width ≤ most_width }
+        ensures { IfOk result (λ made. (r c : ℕ) → has made r c ≡ has self.now r c) }
+    {
+        if self.width < width {
+            return self.widened(width);
+        }
+        Ok(BitRows {
+            alloc: self.alloc,
+            width: self.width,
+            rows: self.rows,
+            bits: self.bits.copy_with_room(self.alloc, ROOM * self.width)?,
+        })
+    }
+
+    /// The same with wider rows.
+    fn widened(&self, width: usize) -> Result<BitRows, AllocError>
+        requires wider { self.now.width ≤ width }
+        requires most { width ≤ most_width }
+        ensures same { IfOk result (λ made. (r c : ℕ) → has made r c ≡ has self.now r c) }
+        ensures width { IfOk result (λ made. made.width ≡ width) }
+    {
+        let mut made = BitRows {
+            alloc: self.alloc,
+            width,
+            rows: 0,
+            bits: BitRow::with_room(self.alloc, width * self.rows())?,
+        };
+        for r in 0..self.rows() {
+            self.put_row(r, &mut made)?;
+        }
+        Ok(made)
+    }
+
+    /// Sets the bits of one row in rows that are no narrower.
+    fn put_row(&self, r: usize, into: &mut BitRows) -> Result<(), AllocError>
+        requires row { r < most_rows }
+        requires wider { self.now.width ≤ into.old.width }
+        ensures put { IfOk result (λ _. (i j : ℕ) → has into.new i j ≡ (has into.old i j || (r == i && has self.now r j))) }
+        ensures width { into.new.width ≡ into.old.width }
+    {
+        for c in 0..64 * self.width {
+            if self.contains(r, c) {
+                into.put(r, c)?;
+            }
+        }
+        Ok(())
+    }
+
+    /// Moves each row's bit from one column to another. Where memory runs out, some may have moved.
+    pub fn move_column(&mut self, from: usize, to: usize) -> Result<(), AllocError>
+        requires { to < 64 * most_width }
+        ensures { IfOk result (λ _. (r c : ℕ) → has self.new r c ≡ column_moved from to (has self.old) r c) }
+    {
+        if to >= 64 * self.width {
+            let wide = self.widened(to / 64 + 1)?;
+            *self = wide;
+        }
+        self.move_within(from, to)
+    }
+
+    /// The same to a column for which the rows have room.
+    fn move_within(&mut self, from: usize, to: usize) -> Result<(), AllocError>
+        requires { to < 64 * self.old.width }
+        ensures { IfOk result (λ _. (r c : ℕ) → has self.new r c ≡ column_moved from to (has self.old) r c) }
+    {
+        if from >= 64 * self.width {
+            return Ok(());
+        }
+        self.bits.move_column(self.width, from, to)?;
+        Ok(())
+    }
+
+    /// Moves the bits of one row to another. Where memory runs out, some may have moved.
+    pub fn move_row(&mut self, from: usize, to: usize) -> Result<(), AllocError>
+        requires from { from < most_rows }
+        requires to { to < most_rows }
+        ensures { IfOk result (λ _. (r c : ℕ) → has self.new r c ≡ row_moved from to (has self.old) r c) }
+    {
+        for k in 0..self.width {
+            self.move_word(from, to, k)?;
+        }
+        Ok(())
+    }
+
+    /// The same of one word of the row alone.
+    fn move_word(&mut self, from: usize, to: usize, k: usize) -> Result<(), AllocError>
+        requires from { from < most_rows }
+        requires to { to < most_rows }
+        requires word { k < self.old.width }
+        ensures moved { IfOk result (λ _. (r c : ℕ) → has self.new r c ≡ (if k == c / 64 then row_moved from to (has self.old) r c else has self.old r c)) }
+        ensures width { self.new.width ≡ self.old.width }
+    {
+        let word = self.bits.word(self.width * from + k);
+        if word == 0 {
+            return Ok(());
+        }
+        self.bits.clear_word(self.width * from + k);
+        self.bits.put_word(self.width * to + k, word)?;
+        self.rows = greater(self.rows, to + 1);
+        Ok(())
+    }
+
+    /// Whether a row has no bit.
+    pub fn is_row_empty(&self, r: usize) -> bool
+        requires { r < most_rows }
+        ensures empty { IsTrue result → (c : ℕ) → has self.now r c ≡ false }
+        ensures held { IsFalse result → (c : ℕ) × IsTrue (has self.now r c) }
+    {
+        for k in 0..self.width {
+            if self.bits.word(self.width * r + k) != 0 {
+                return false;
+            }
+        }
+        true
+    }
+
+    /// Whether a column has no bit.
+    pub fn is_column_empty(&self, c: usize) -> bool
+        ensures empty { IsTrue result → (r : ℕ) → has self.now r c ≡ false }
+        ensures held { IsFalse result → (r : ℕ) × IsTrue (has self.now r c) }
+    {
+        for r in 0..self.rows() {
+            if self.contains(r, c) {
+                return false;
+            }
+        }
+        true
+    }
+
+    /// Sets the bits that another has, and answers whether any of them was missing. Without memory the bits stay as they were.
+    pub fn join(&mut self, other: &BitRows) -> Result<bool, AllocError>
+        ensures both { IfOk result (λ _. (r c : ℕ) → has self.new r c ≡ (has self.old r c || has other.now r c)) }
+        ensures unchanged { IfOk result (λ rose. IsFalse rose → (r c : ℕ) → has self.new r c ≡ has self.old r c) }
+        ensures rises { IfOk result (λ rose. IsTrue rose → (r c : ℕ) × IsTrue (has other.now r c) × IsFalse (has self.old r c)) }
+        ensures leaves { IfErr result (λ _. (r c : ℕ) → has self.new r c ≡ has self.old r c) }
+    {
+        self.take_width(other.width);
+        if self.width == other.width {
+            return self.join_same(other);
+        }
+        self.join_wider(other)
+    }
+
+    /// Where there is no row, the width is another.
+    fn take_width(&mut self, width: usize)
+        requires { width ≤ most_width }
+        ensures { (r c : ℕ) → has self.new r c ≡ has self.old r c }
+    {
+        if self.bits.words().is_empty() {
+            self.width = width;
+        }
+    }
+
+    /// The same where the rows of both are equally wide.
+    fn join_same(&mut self, other: &BitRows) -> Result<bool, AllocError>
+        requires { self.old.width ≡ other.now.width }
+        ensures both { IfOk result (λ _. (r c : ℕ) → has self.new r c ≡ (has self.old r c || has other.now r c)) }
+        ensures unchanged { IfOk result (λ rose. IsFalse rose → self.new ≡ self.old) }
+        ensures rises { IfOk result (λ rose. IsTrue rose → (r c : ℕ) × IsTrue (has other.now r c) × IsFalse (has self.old r c)) }
+        ensures leaves { IfErr result (λ _. self.new ≡ self.old) }
+    {
+        let _width = other.width;
+        let rose = self.bits.join(&other.bits)?;
+        self.rows = greater(self.rows, other.rows);
+        Ok(rose)
+    }
+
+    /// The same where one has wider rows than the other.
+    fn join_wider(&mut self, other: &BitRows) -> Result<bool, AllocError>
+        ensures both { IfOk result (λ _. (r c : ℕ) → has self.new r c ≡ (has self.old r c || has other.now r c)) }
+        ensures unchanged { IfOk result (λ rose. IsFalse rose → (r c : ℕ) → has self.new r c ≡ has self.old r c) }
+        ensures rises { IfOk result (λ rose. IsTrue rose → (r c : ℕ) × IsTrue (has other.now r c) × IsFalse (has self.old r c)) }
+        ensures leaves { IfErr result (λ _. (r c : ℕ) → has self.new r c ≡ has self.old r c) }
+    {
+        let width = if self.width < other.width {
+            other.width
+        } else {
+            self.width
+        };
+        let mut mine = self.widened(width)?;
+        let theirs = other.widened(width)?;
+        let rose = mine.join_same(&theirs)?;
+        *self = mine;
+        Ok(rose)
+    }
+}
+
+/// The greater of two numbers.
+fn greater(one: usize, other: usize) -> usize
+    ensures one { one ≤ result }
+    ensures other { other ≤ result }
+    ensures least { (most : ℕ) → one ≤ most → other ≤ most → result ≤ most }
+{
+    if one < other { other } else { one }
+}

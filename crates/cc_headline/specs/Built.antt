@@ -1,0 +1,10 @@
+-- The pieces of a compiled unit, as the protocol core asks for them: all of its source's, in their order.
+use Rattle.std.specs.Prelude.{◌≤◌, length}
+use Rattle.cc_unit.specs.declared.unit.StoredUnit.{StoredUnit}
+use Rattle.cc_core.specs.Rules.{IsBuilt}
+use Rattle.cc_link.specs.Made.{IsMade}
+use Rattle.cc_headline.specs.Compiling.{compiling, Keeps}
+
+-- what the type of a compiled unit keeps gives them
+abbrev pub MadeUnitsAreBuilt : Type 0
+MadeUnitsAreBuilt = (unit : StoredUnit) → length unit.source ≤ 65536 → IsMade unit → IsBuilt compiling Keeps unit

@@ -1,0 +1,41 @@
+-- The rules of the build that compiles, and what a piece keeps.
+use Rattle.std.specs.Prelude.{ℕ, List, [], ◌∷◌, Result, Ok, Err, if◌then◌else◌}
+use Rattle.cc_ast.specs.Source.{source}
+use Rattle.cc_unit.specs.declared.unit.StoredUnit.{StoredUnit}
+use Rattle.cc_emit.specs.Piece.{Piece}
+use Rattle.cc_link.specs.Agree.{Agree}
+use Rattle.cc_link.specs.Linked.{same_bytes, linked}
+use Rattle.cc_link.specs.Laws.{LinkedUnitsAgree}
+use Rattle.cc_link.specs.Made.{IsCompiled}
+use Rattle.cc_link.specs.declared.fault.LinkFault.{LinkFault}
+use Rattle.cc_link.specs.Fault.{link_fault_number}
+use Rattle.cc_core.specs.Rules.{Rules}
+use Rattle.cc_headline.specs.Plan.{IsPlan}
+
+-- the text of a piece's unit
+abbrev pub text_of : Piece → List ℕ
+text_of piece = (source piece.unit).text
+
+-- a unit, or the number of the fault that refuses its pieces
+abbrev pub numbered : Result StoredUnit LinkFault → Result StoredUnit ℕ
+numbered (Ok unit) = Ok unit
+numbered (Err fault) = Err (link_fault_number fault)
+
+-- the unit that pieces give: what they are linked to for the first one's unit, where that is of the source; else 28, and 26 where
+-- there is no piece
+abbrev pub unit_of : List ℕ → List Piece → Result StoredUnit ℕ
+unit_of text [] = Err 26
+unit_of text (piece ∷ pieces) = if same_bytes (text_of piece) text then numbered (linked (source piece.unit) (piece ∷ pieces)) else Err 28
+
+-- a source has a piece for each function that it defines, by its number in the order of definitions; and they are linked
+abbrev pub compiling : Rules Piece
+compiling = record { plan = IsPlan; source_of = text_of; part_of = λ piece. piece.function; unit = unit_of }
+
+-- the image agrees with its stored source
+abbrev pub is_right : StoredUnit → Type 0
+is_right unit = Agree unit.source unit.image
+
+-- what the types of a piece and of its unit keep, and with it what linking promises of such pieces, for the law of the build, which is a term and can call nothing
+pub record Keeps (piece : Piece) : Type 0 where
+  pub compiled : IsCompiled piece
+  pub agree : LinkedUnitsAgree

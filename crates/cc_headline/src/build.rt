@@ -1,0 +1,78 @@
+// The build that compiles.
+ghost use Rattle.std.specs.Prelude.{◌≡◌, ℕ, List, Result};
+ghost use Rattle.cc_headline.specs.Plan.{IsPlan};
+ghost use Rattle.cc_headline.specs.Compiling.{compiling, Keeps, is_right};
+ghost use Rattle.cc_headline.specs.internal.Law.{sources_are_planned, whole_units_agree};
+
+use crate::refusal::refusal;
+use cc_core::build::Build;
+use cc_core::fault::BuildFault;
+use cc_emit::Piece;
+use cc_link::{link_lent, linked_units_agree, typed_unit};
+use cc_unit::StoredUnit;
+use std::alloc::Global;
+use std::sync::Arc;
+
+/// The build that compiles: a piece is the code of one function, and pieces are linked.
+///
+/// A source is refused with the number of its fault, 1 to 7 or 11 to 21, as `typed_unit` answers. Pieces are refused as linking
+/// refuses them: with 28 where one is of another source, with 27 where one comes twice, with 26 where one is missing, with 25 where the
+/// image would be too large.
+#[derive(Drop)]
+pub struct CcBuild {}
+
+impl Build for CcBuild {
+    type Piece = Piece;
+
+    ghost rules = { compiling };
+
+    ghost keeps = { Keeps };
+
+    ghost is_right = { is_right };
+
+    fn plan(&self, alloc: Global, source: &[u8]) -> Result<u32, BuildFault> {
+        match typed_unit(alloc, source) {
+            Ok(unit) => {
+                let functions = unit.functions() as u32;
+                Ok(functions)
+            }
+            Err(fault) => Err(refusal(fault.number())),
+        }
+    }
+
+    fn names(&self, piece: &Piece, source: &[u8], part: u32) -> bool {
+        // What the type of a piece and that of its unit keep, and what linking promises, is what a piece keeps.
+        linked_units_agree();
+        let _ = piece.items();
+        let _ = piece.unit().externals();
+        piece.function() == part as usize && piece.unit().text() == source
+    }
+
+    fn unit(
+        &self,
+        alloc: Global,
+        source: &[u8],
+        pieces: &[&Piece],
+    ) -> Result<Arc<StoredUnit>, BuildFault> {
+        let [first, ..] = pieces else {
+            return Err(BuildFault::Refused(26));
+        };
+        if first.unit().text() != source {
+            return Err(BuildFault::Refused(28));
+        }
+        match link_lent(alloc, first.unit(), pieces) {
+            Ok(compiled) => Ok(Arc::try_clone(compiled.stored())?),
+            Err(fault) => Err(refusal(fault.number())),
+        }
+    }
+
+    ghost planned = { sources_are_planned };
+
+    ghost law = { whole_units_agree };
+}
+
+/// How many pieces a source has, or the number that refuses it, is determined: a text has exactly one plan, as it has exactly one verdict.
+pub fn texts_have_one_plan()
+    ensures some { (text : List ℕ) → (plan : Result ℕ ℕ) × IsPlan text plan }
+    ensures one { (text : List ℕ) (a b : Result ℕ ℕ) → IsPlan text a → IsPlan text b → a ≡ b }
+{}

@@ -1,0 +1,16 @@
+// The faults of the compiler as the core's refusals.
+ghost use Rattle.std.specs.Prelude.{◌≡◌};
+ghost use Rattle.cc_headline.specs.internal.Refusals.{refused_by};
+
+use cc_core::fault::BuildFault;
+
+// By its number.
+pub(crate) fn refusal(number: u32) -> BuildFault
+    ensures { result ≡ refused_by number }
+{
+    if number == 40 {
+        BuildFault::OutOfMemory
+    } else {
+        BuildFault::Refused(number)
+    }
+}

@@ -1,5 +1,0 @@
-use Rattle.cc_semantics.proofs.Effects as law
-use Rattle.cc_semantics.proofs.laws.calls_are_effects.Goals as goal
-
-pub returns : goal.returns
-returns c = law.calls_are_effects

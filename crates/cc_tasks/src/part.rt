@@ -1,0 +1,136 @@
+// A part of a unit that a library keeps.
+
+ghost use Rattle.std.specs.Prelude.{◌≡◌, IfOk, IfErr, IsTrue};
+ghost use Rattle.std.specs.FinMap as map;
+ghost use Rattle.cc_disk.specs.Images.{OnlyReads};
+ghost use Rattle.cc_tasks.specs.Part.{IsPart, IsPartIn, IsNoPartIn, IsPartOn, IsNoPartOn, part_fault_number};
+
+use super::unknown::explain_unknown;
+use cc_disk::Disk;
+use cc_hex::image::write;
+use cc_library::{Library, LibraryFault, Name, UnitMap};
+use cc_task::Part;
+use cc_unit::StoredUnit;
+use std::alloc::{AllocError, Global};
+use std::io::{self, Write};
+use thiserror::Error;
+
+/// Why there is no part of a unit.
+#[derive(Clone, Copy, Debug, Drop, Error)]
+pub enum PartFault {
+    /// 33: what should be a name is none.
+    #[error("BadName")]
+    BadName,
+    /// 32: no unit has the name.
+    #[error("Absent")]
+    Absent,
+    /// 35, 37, 38, 40: the library could not be opened.
+    #[error(transparent)]
+    Library(LibraryFault),
+    /// 40: memory ran out.
+    #[error("OutOfMemory")]
+    OutOfMemory,
+}
+
+impl PartFault {
+    /// The fault's number.
+    pub fn number(&self) -> u32
+        ensures { result ≡ part_fault_number self.now }
+    {
+        match self {
+            PartFault::BadName => 33,
+            PartFault::Absent => 32,
+            PartFault::Library(fault) => fault.number(),
+            PartFault::OutOfMemory => 40,
+        }
+    }
+}
+
+// A part of a unit.
+fn part_of(alloc: Global, unit: &StoredUnit, part: Part) -> Result<Vec<u8>, AllocError>
+    ensures { IfOk result (λ bytes. IsPart part unit.now bytes.items) }
+{
+    match part {
+        Part::Image => write(alloc, &unit.image),
+        Part::Source => Vec::from_slice(alloc, unit.source.bytes()),
+    }
+}
+
+/// A part of the unit that has this name in a map: its image as Intel HEX, or its source's bytes.
+///
+/// Refusals, in this order: 33 where the bytes are no name, 32 where no unit has it, 40 where memory ran out.
+pub fn part_in(
+    alloc: Global,
+    units: &UnitMap,
+    name: &[u8],
+    part: Part,
+) -> Result<Vec<u8>, PartFault>
+    ensures part { IfOk result (λ bytes. IsPartIn units.now name.now part bytes.items) }
+    ensures refused { IfErr result (λ fault. IsNoPartIn units.now name.now fault) }
+{
+    let Ok(name) = Name::new(name) else {
+        return Err(PartFault::BadName);
+    };
+    let Some(unit) = units.get(&name) else {
+        return Err(PartFault::Absent);
+    };
+    match part_of(alloc, unit, part) {
+        Ok(bytes) => Ok(bytes),
+        Err(_) => Err(PartFault::OutOfMemory),
+    }
+}
+
+// Writes which names of the map are near. Nothing where memory for that runs out.
+fn explain_absent<W: Write>(
+    alloc: Global,
+    units: &UnitMap,
+    name: &[u8],
+    writer: &mut W,
+) -> io::Result<()> {
+    let Ok(found) = units.names(alloc) else {
+        return Ok(());
+    };
+    match slices_of(alloc, found.as_slice()) {
+        Ok(names) => explain_unknown("unit", name, names.as_slice(), writer),
+        Err(_) => Ok(()),
+    }
+}
+
+// The bytes of each name.
+fn slices_of(alloc: Global, names: &[Name]) -> Result<Vec<&[u8]>, AllocError> {
+    let mut slices = Vec::new(alloc);
+    for name in names {
+        slices.push(name.bytes())?;
+    }
+    Ok(slices)
+}
+
+/// A part of the unit that the library on a disk keeps under this name, as `part_in` has it; the disk is handed back. Nothing is written to
+/// it. Of a name that no unit has it is written to `explanations` which one is near; where that can't be written, it is not told.
+///
+/// Refusals: first those of `Library::open`, 35, 38, 37 and 40; then those of `part_in`.
+pub fn take_out<D: Disk + Drop, E: Write>(
+    alloc: Global,
+    disk: D,
+    name: &[u8],
+    part: Part,
+    explanations: &mut E,
+) -> (Result<Vec<u8>, PartFault>, D)
+    // Of an honest disk it is the part of the unit to which the disk recovers under that name.
+    ensures part { IfOk result.0 (λ bytes. IsTrue D.honest → IsPartOn (D.seen disk) name.now part bytes.items) }
+    // When each refusal comes.
+    ensures refused { IfErr result.0 (λ fault. IsNoPartOn D.honest (D.seen disk) (D.failures disk) (D.failures result.1) name.now fault) }
+    // The disk has the same bytes, and no crash leaves anything new.
+    ensures reads { IsTrue D.honest → OnlyReads D.seen D.may_leave D.moment D.left_since disk result.1 }
+{
+    match Library::open(alloc, disk) {
+        Ok(library) => {
+            let found = part_in(alloc, library.units(), name, part);
+            if let Err(PartFault::Absent) = &found {
+                let _ = explain_absent(alloc, library.units(), name, explanations);
+            }
+            (found, library.into_disk())
+        }
+        Err((fault, disk)) => (Err(PartFault::Library(fault)), disk),
+    }
+}

@@ -1,0 +1,161 @@
+// Showing what the compiler makes of a text's functions, over any reader and writer.
+
+ghost use Rattle.std.specs.Prelude.{◌≡◌, ◌≤◌, IsErrOf, IfErr, MatchOption};
+ghost use Rattle.cc_tasks.specs.internal.Shown.{IsUnknown, IsTextRefused};
+ghost use Rattle.cc_tasks.specs.internal.Stages.{fault_of_stages};
+ghost use Rattle.cc_tasks.specs.declared.fault.Fault.TheVariants.{UnknownFunction};
+
+use super::explain::{explain_fault, explain_program};
+use super::fault::Fault;
+use super::unknown::explain_unknown;
+use super::work::{Performed, read_text, refused, status};
+use cc_link::typed_unit;
+use cc_stages::{StagesFault, stages};
+use cc_types::TypedUnit;
+use std::alloc::{AllocError, Global};
+use std::io::{self, Read, Write};
+
+// The program's fault for one of the stages.
+fn fault_of(fault: StagesFault) -> Fault
+    ensures { result ≡ fault_of_stages fault }
+{
+    match fault {
+        StagesFault::UnknownFunction => Fault::UnknownFunction,
+        StagesFault::Piece(fault) => Fault::Piece(fault),
+        StagesFault::Link(fault) => Fault::Link(fault),
+        StagesFault::OutOfMemory => Fault::OutOfMemory,
+        StagesFault::Write => Fault::Write,
+    }
+}
+
+// Writes the stages of the functions of a text, or of the one of that name. What was written stays written where a fault comes behind it.
+fn show<W: Write>(
+    alloc: Global,
+    text: &[u8],
+    function: Option<&[u8]>,
+    writer: &mut W,
+) -> Result<(), Fault>
+    ensures refused { IfErr result (λ fault. IsTextRefused text.now fault) }
+    ensures unknown { IsErrOf result UnknownFunction → MatchOption function.entry ⊥ (λ name. IsUnknown text.now name.now) }
+{
+    let unit = match typed_unit(alloc, text) {
+        Ok(unit) => unit,
+        Err(fault) => return Err(Fault::Text(fault)),
+    };
+    match stages(alloc, &unit, function, writer) {
+        Ok(()) => Ok(()),
+        Err(fault) => Err(fault_of(fault)),
+    }
+}
+
+// Writes the stages, or the fault's line behind what was written of them.
+fn tell<W: Write>(
+    alloc: Global,
+    text: &[u8],
+    function: Option<&[u8]>,
+    writer: &mut W,
+) -> Result<(), Fault> {
+    match show(alloc, text, function, writer) {
+        Ok(()) => match writer.flush() {
+            Ok(()) => Ok(()),
+            Err(_) => Err(Fault::Write),
+        },
+        Err(Fault::Write) => Err(Fault::Write),
+        Err(fault) => Err(refused(fault, text, writer)),
+    }
+}
+
+// Shows the text of a reader.
+fn try_perform<R: Read, W: Write>(
+    alloc: Global,
+    function: Option<&[u8]>,
+    reader: &mut R,
+    writer: &mut W,
+) -> Performed {
+    match read_text(alloc, reader, writer) {
+        Ok(text) => {
+            let told = match tell(alloc, text.as_slice(), function, writer) {
+                Ok(()) => Ok(None),
+                Err(fault) => Err(fault),
+            };
+            Performed { text, told }
+        }
+        Err(performed) => performed,
+    }
+}
+
+// The names of a unit's functions.
+fn names_of(alloc: Global, unit: &TypedUnit) -> Result<Vec<&[u8]>, AllocError> {
+    let mut names = Vec::new(alloc);
+    for function in 0..unit.functions() {
+        names.push(unit.function_name(function))?;
+    }
+    Ok(names)
+}
+
+// Writes what is told of the name of a function that a text does not define. Nothing where memory for that runs out.
+fn explain_name<W: Write>(
+    alloc: Global,
+    text: &[u8],
+    name: &[u8],
+    writer: &mut W,
+) -> io::Result<()> {
+    let Ok(unit) = typed_unit(alloc, text) else {
+        return Ok(());
+    };
+    match names_of(alloc, &unit) {
+        Ok(names) => explain_unknown("function", name, names.as_slice(), writer),
+        Err(_) => Ok(()),
+    }
+}
+
+// Explains what was told of a text.
+fn explain<W: Write>(
+    alloc: Global,
+    function: Option<&[u8]>,
+    performed: &Performed,
+    writer: &mut W,
+) {
+    let text = performed.text.as_slice();
+    let written = match &performed.told {
+        Ok(_) => explain_program(alloc, text, writer),
+        Err(Fault::UnknownFunction) => explain_name(alloc, text, function.unwrap_or(b""), writer),
+        Err(fault) => explain_fault(alloc, text, fault, writer),
+    };
+    let _ = written;
+    let _ = writer.flush();
+}
+
+/// Shows what the compiler makes of the functions of the text that `reader` has, or of the one of that name: writes the stages to `writer`,
+/// and where there is a fault its line behind them.
+///
+/// The status is 0 where all is shown, and 1 for a fault. Faults are those of `asm`, and 59 where the text is a program that defines
+/// no function of that name; a function that is refused (22, 24) has the stages up to the one that says so. Of a write that fails (54)
+/// no line is written.
+pub fn perform_stages<H: AllocGlobal, R: Read, W: Write>(
+    rt: &H,
+    function: Option<&[u8]>,
+    reader: &mut R,
+    writer: &mut W,
+) -> u8
+    ensures { result ≤ 1 }
+{
+    let performed = try_perform(rt.alloc(), function, reader, writer);
+    status(performed)
+}
+
+/// Shows the functions as `perform_stages` does, and writes to `explanations` what helps a person with a fault, as `perform_and_explain`
+/// does; of a name that no function has, which one is near.
+pub fn perform_and_explain_stages<H: AllocGlobal, R: Read, W: Write, E: Write>(
+    rt: &H,
+    function: Option<&[u8]>,
+    reader: &mut R,
+    writer: &mut W,
+    explanations: &mut E,
+) -> u8
+    ensures { result ≤ 1 }
+{
+    let performed = try_perform(rt.alloc(), function, reader, writer);
+    explain(rt.alloc(), function, &performed, explanations);
+    status(performed)
+}
