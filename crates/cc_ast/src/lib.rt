@@ -15,7 +15,7 @@ pub use ast::{
     Target, UnaryOperator,
 };
 pub use cc_tokens::{
-    Keyword, LexicalError, MOST_BYTES, Next, Place, Punctuator, Scalar, SyntaxFault, Token,
+    Keyword, LexicalError, MOST_BYTES, NextToken, Place, Punctuator, Scalar, SyntaxFault, Token,
     TokenKind, next_token, place_at, tokens, tokens_are_determined,
 };
 pub use unit::Unit;

@@ -6,7 +6,7 @@ use Rattle.cc_resolve.specs.Names.{same_name}
 use Rattle.cc_resolve.specs.declared.layout.Extent.{Extent}
 use Rattle.cc_resolve.specs.Layout.{LaidObject, extent_of}
 use Rattle.cc_resolve.specs.Environment.{number_in}
-use Rattle.cc_c_laws.specs.Meaning.{Local, Global, local_word, words_of, with_local_word, with_element}
+use Rattle.cc_c_laws.specs.Meaning.{Local, Global, local_word, global_words, with_local_word, with_element}
 
 -- ---- lists
 
@@ -149,15 +149,15 @@ layout_from at [] = []
 layout_from at (g ∷ rest) = record { name = g.name; extent = record { offset = at; length = length g.words; width = g.width } } ∷ layout_from (at + length g.words) rest
 
 pub record Finds (prefix : List ℕ) (gs : List Global) (x : List ℕ) (ext : Extent) : Type 0 where
-  pub size : ext.length ≡ length (words_of gs x)
-  pub reads : (i : ℕ) → i < ext.length → slice_get (prefix ++ all_of gs) (ext.offset + i) ≡ slice_get (words_of gs x) i
+  pub size : ext.length ≡ length (global_words gs x)
+  pub reads : (i : ℕ) → i < ext.length → slice_get (prefix ++ all_of gs) (ext.offset + i) ≡ slice_get (global_words gs x) i
   pub within : (i : ℕ) → i < ext.length → ext.offset + i < length (prefix ++ all_of gs)
   pub writes : (i w : ℕ) → i < ext.length → slice_set (prefix ++ all_of gs) (ext.offset + i) (kept ext.width w) ≡ prefix ++ all_of (with_element x i w gs)
 
 -- after the words of one object more
 finds_behind : (prefix : List ℕ) (g : Global) (rest : List Global) (x : List ℕ) (ext : Extent) → same_name g.name x ≡ false → Finds (prefix ++ g.words) rest x ext → Finds prefix (g ∷ rest) x ext
 finds_behind prefix g rest x ext eq h =
-    let words : words_of (g ∷ rest) x ≡ words_of rest x = ap (λ c. if c then g.words else words_of rest x) eq in
+    let words : global_words (g ∷ rest) x ≡ global_words rest x = ap (λ c. if c then g.words else global_words rest x) eq in
     let all : (prefix ++ g.words) ++ all_of rest ≡ prefix ++ all_of (g ∷ rest) = append_assoc prefix g.words (all_of rest) in
     record {
       size = h.size ∙ ap length (sym words);
@@ -171,7 +171,7 @@ finds_behind prefix g rest x ext eq h =
 finds_here : (prefix : List ℕ) (g : Global) (rest : List Global) (x : List ℕ) (at : ℕ) → same_name g.name x ≡ true → length prefix ≡ at
     → Finds prefix (g ∷ rest) x (record { offset = at; length = length g.words; width = g.width })
 finds_here prefix g rest x at eq e =
-    let words : words_of (g ∷ rest) x ≡ g.words = ap (λ c. if c then g.words else words_of rest x) eq in
+    let words : global_words (g ∷ rest) x ≡ g.words = ap (λ c. if c then g.words else global_words rest x) eq in
     record {
       size = ap length (sym words);
       reads = λ i lt.

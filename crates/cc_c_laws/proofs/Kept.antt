@@ -12,21 +12,21 @@ use Rattle.cc_resolve.specs.Scope as scope
 use Rattle.cc_resolve.specs.Scope.{Binding, Visible, in_scope, opened, declared, scope_behind, scope_behind_beginning}
 use Rattle.cc_resolve.specs.Types.{value_type, target_type}
 use Rattle.cc_c_laws.specs.declared.cause.Cause.TheVariants.{Index, Depth}
-use Rattle.cc_c_laws.specs.Meaning.{Global, State, Run, Gives, Going, Wrong, Flow, Falls, Breaks, Continues, Returns, then_do, choose, Calls, words_of, with_local_word, with_element, local_word, stored, read_element, given, unless_decided, evaluate, evaluate_all, evaluate_or, Destination, ToVariable, ToElement, destination, old_value, write, new_value, perform, perform_optional, spend_of, behind_flow, behind_body, begin_body, turns, with_local, declare, start, left_scope, in_block, execute, execute_all, Function, functions, function_named, bound, result_of, run_optional, read_input, most_open, calls}
+use Rattle.cc_c_laws.specs.Meaning.{Global, State, Run, Gives, Going, Wrong, Flow, Falls, Breaks, Continues, Returns, then_do, choose, Calls, global_words, with_local_word, with_element, local_word, stored, read_element, given, unless_decided, evaluate, evaluate_all, evaluate_or, Destination, ToVariable, ToElement, destination, old_value, write, new_value, perform, perform_optional, spend_of, behind_flow, behind_body, begin_body, turns, with_local, declare, start, left_scope, in_block, execute, execute_all, Function, functions, function_named, bound, result_of, run_optional, read_input, most_open, calls}
 use Rattle.cc_c_laws.specs.Function.{Shared, effect_of, state_within, name_of_function}
-use Rattle.cc_c_laws.specs.Calls.{Size, size, sizes, KeepsObjects, CallsKeepObjects, BodiesKeepObjects}
+use Rattle.cc_c_laws.specs.Calls.{NamedSize, size, sizes, KeepsObjects, CallsKeepObjects, BodiesKeepObjects}
 use Rattle.cc_c_laws.proofs.Steps.{begun, body_part}
 use Rattle.cc_c_laws.proofs.Held.{length_slice_set}
 
-abbrev Kept : {A : Type 0} → List Size → Run A → Type 0
+abbrev Kept : {A : Type 0} → List NamedSize → Run A → Type 0
 Kept z (Gives x t) = sizes t.globals ≡ z
 Kept z (Going output) = Unit {0}
 Kept z (Wrong cause output) = Unit {0}
 
 abbrev Keeps : {A : Type 0} → (State → Run A) → Type 0
-Keeps part = (s : State) (z : List Size) → sizes s.globals ≡ z → Kept z (part s)
+Keeps part = (s : State) (z : List NamedSize) → sizes s.globals ≡ z → Kept z (part s)
 
-kept_then : {A B : Type 0} (z : List Size) (r : Run A) (go : A → State → Run B) → Kept z r → ((x : A) → Keeps (go x)) → Kept z (then_do r go)
+kept_then : {A B : Type 0} (z : List NamedSize) (r : Run A) (go : A → State → Run B) → Kept z r → ((x : A) → Keeps (go x)) → Kept z (then_do r go)
 kept_then z (Gives x t) go h f = f x t z h
 kept_then z (Going output) go h f = tt
 kept_then z (Wrong cause output) go h f = tt
@@ -48,7 +48,7 @@ keeps_unless (Some w) go p = keeps_gives w
 element_by : (x : List ℕ) (i w : ℕ) (g : Global) (rest : List Global) (b : Bool) → sizes (with_element x i w rest) ≡ sizes rest
     → sizes (if b then record g { words = slice_set g.words i (kept g.width w) } ∷ rest else g ∷ with_element x i w rest) ≡ sizes (g ∷ rest)
 element_by x i w g rest true ih = ap (λ k. record { name = g.name; width = g.width; elements = k } ∷ sizes rest) (length_slice_set g.words i (kept g.width w))
-element_by x i w g rest false ih = ap (λ (zs : List Size). size g ∷ zs) ih
+element_by x i w g rest false ih = ap (λ (zs : List NamedSize). size g ∷ zs) ih
 
 pub element_keeps : (x : List ℕ) (i w : ℕ) (gs : List Global) → sizes (with_element x i w gs) ≡ sizes gs
 element_keeps x i w [] = refl
@@ -61,14 +61,14 @@ stored_by false x w s = element_keeps x 0 w s.globals
 pub stored_keeps : (x : List ℕ) (w : ℕ) (s : State) → sizes (stored x w s).globals ≡ sizes s.globals
 stored_keeps x w s = stored_by (is_some (local_word s.locals x)) x w s
 
-read_by : (o : Option ℕ) (s : State) (z : List Size) → sizes s.globals ≡ z → Kept {A = ℕ} z (elim o [ None ↦ Wrong Index s.output | Some w ↦ Gives w s ])
+read_by : (o : Option ℕ) (s : State) (z : List NamedSize) → sizes s.globals ≡ z → Kept {A = ℕ} z (elim o [ None ↦ Wrong Index s.output | Some w ↦ Gives w s ])
 read_by None s z e = tt
 read_by (Some w) s z e = e
 
 keeps_read : (x : List ℕ) (i : ℕ) → Keeps (read_element x i)
-keeps_read x i = λ s z e. read_by (slice_get (words_of s.globals x) i) s z e
+keeps_read x i = λ s z e. read_by (slice_get (global_words s.globals x) i) s z e
 
-write_by : (b : Bool) (gs : List Global) (s : State) (z : List Size) → sizes gs ≡ z → Kept z (if b then Gives Falls (record s { globals = gs }) else Wrong Index s.output)
+write_by : (b : Bool) (gs : List Global) (s : State) (z : List NamedSize) → sizes gs ≡ z → Kept z (if b then Gives Falls (record s { globals = gs }) else Wrong Index s.output)
 write_by true gs s z e = e
 write_by false gs s z e = tt
 
@@ -78,7 +78,7 @@ keeps_given op (Some w) = keeps_gives w
 
 keeps_write : (d : Destination) (w : ℕ) → Keeps (write d w)
 keeps_write (ToVariable x) w = λ s z e. stored_keeps x w s ∙ e
-keeps_write (ToElement x i) w = λ s z e. write_by (nat_lt i (length (words_of s.globals x))) (with_element x i w s.globals) s z (element_keeps x i w s.globals ∙ e)
+keeps_write (ToElement x i) w = λ s z e. write_by (nat_lt i (length (global_words s.globals x))) (with_element x i w s.globals) s z (element_keeps x i w s.globals ∙ e)
 
 keeps_old : (d : Destination) → Keeps (old_value d)
 keeps_old (ToVariable x) = λ s z e. e
@@ -103,7 +103,7 @@ keeps_body Breaks go h = keeps_gives Falls
 keeps_body Continues go h = h
 keeps_body (Returns w) go h = keeps_gives (Returns w)
 
-kept_spend : {A : Type 0} (k : ℕ) (go : State → Run A) (s : State) (z : List Size) → sizes s.globals ≡ z → Keeps go → Kept z (spend_of k go s)
+kept_spend : {A : Type 0} (k : ℕ) (go : State → Run A) (s : State) (z : List NamedSize) → sizes s.globals ≡ z → Keeps go → Kept z (spend_of k go s)
 kept_spend zero go s z e h = tt
 kept_spend (suc k) go s z e h = h (record s { steps = k }) z e
 
@@ -215,11 +215,11 @@ module _ (call : Calls) (keeps_call : (f ws : List ℕ) → Keeps (call f ws)) w
       kept_then z (execute_all f.body n call f.visible (record s { locals = bound f.parameters ws [] })) (λ flow t. Gives (result_of flow) (record t { locals = s.locals }))
       (keeps_execute_all f.body n f.visible (record s { locals = bound f.parameters ws [] }) z e) (λ flow. λ t y h. h)
 
-kept_read : (input : List ℕ) (s : State) (z : List Size) → sizes s.globals ≡ z → Kept z (read_input input s)
+kept_read : (input : List ℕ) (s : State) (z : List NamedSize) → sizes s.globals ≡ z → Kept z (read_input input s)
 kept_read [] s z e = e
 kept_read (w ∷ rest) s z e = e
 
-kept_begun : (writes reads allowed : Bool) (body : ℕ → State → Run ℕ) (ws : List ℕ) (n : ℕ) (s : State) (z : List Size) → sizes s.globals ≡ z → Keeps (body n) → Kept z (begun writes reads allowed body ws n s)
+kept_begun : (writes reads allowed : Bool) (body : ℕ → State → Run ℕ) (ws : List ℕ) (n : ℕ) (s : State) (z : List NamedSize) → sizes s.globals ≡ z → Keeps (body n) → Kept z (begun writes reads allowed body ws n s)
 kept_begun true reads allowed body ws n s z e h = e
 kept_begun false true allowed body ws n s z e h = kept_read s.input s z e
 kept_begun false false true body ws n s z e h = kept_spend s.steps (body n) s z e h

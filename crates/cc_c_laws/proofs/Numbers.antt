@@ -12,7 +12,7 @@ use Rattle.cc_resolve.specs.Layout.{LaidObject, laid_from, extent_of, object_num
 use Rattle.cc_c_laws.specs.Meaning.{Global, Function, functions_from, functions, function_named, initial_global}
 use Rattle.cc_c_laws.specs.Function.{name_of_function}
 use Rattle.cc_c_laws.specs.Resolved.{arities}
-use Rattle.cc_c_laws.specs.Calls.{Size, sizes, laid_sizes, FunctionsAreNumbered, ObjectsAreNumbered, ObjectsAreSized}
+use Rattle.cc_c_laws.specs.Calls.{NamedSize, sizes, laid_sizes, FunctionsAreNumbered, ObjectsAreNumbered, ObjectsAreSized}
 use Rattle.cc_c_laws.proofs.Scopes.{AllFit, all_fit}
 
 -- ---- functions
@@ -106,7 +106,7 @@ object_sizes : (at : ℕ) (os : List Object) → AllFit os → sizes (map initia
 object_sizes at [] h = refl
 object_sizes at (o ∷ rest) h =
     ap (λ k. record { name = (object_name o).text; width = object_width o; elements = k } ∷ sizes (map initial_global rest)) h.0
-    ∙ ap (λ (zs : List Size). record { name = (object_name o).text; width = object_width o; elements = object_elements o } ∷ zs) (object_sizes (at + object_elements o) rest h.1)
+    ∙ ap (λ (zs : List NamedSize). record { name = (object_name o).text; width = object_width o; elements = object_elements o } ∷ zs) (object_sizes (at + object_elements o) rest h.1)
 
 pub objects_are_sized : ObjectsAreSized
 objects_are_sized unit typed = object_sizes 0 (objects unit) (all_fit unit first_file_scope typed.0)

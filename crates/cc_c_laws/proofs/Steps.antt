@@ -12,7 +12,7 @@ use Rattle.cc_resolve.specs.Operators.{working_type, unary_word, binary_word, de
 use Rattle.cc_resolve.specs.Scope as scope
 use Rattle.cc_resolve.specs.Scope.{Binding, Visible, in_scope, opened, declared, scope_behind, scope_behind_beginning}
 use Rattle.cc_resolve.specs.Types.{value_type, target_type}
-use Rattle.cc_c_laws.specs.Meaning.{Local, Global, State, Run, Gives, Wrong, Flow, Falls, Breaks, Continues, Returns, then_do, choose, Calls, local_word, words_of, with_local_word, with_element, variable_word, stored, read_element, write_element, given, unless_decided, evaluate, evaluate_all, evaluate_or, Destination, ToVariable, ToElement, destination, old_value, write, new_value, perform, perform_optional, with_local, declare, start, left_scope, in_block, return, execute, execute_all, behind_flow, Function, bound, result_of, run_body, run_optional, read_input, calls, function_named, most_open, spend, turns}
+use Rattle.cc_c_laws.specs.Meaning.{Local, Global, State, Run, Gives, Wrong, Flow, Falls, Breaks, Continues, Returns, then_do, choose, Calls, local_word, global_words, with_local_word, with_element, variable_word, stored, read_element, write_element, given, unless_decided, evaluate, evaluate_all, evaluate_or, Destination, ToVariable, ToElement, destination, old_value, write, new_value, perform, perform_optional, with_local, declare, start, left_scope, in_block, return, execute, execute_all, behind_flow, Function, bound, result_of, run_body, run_optional, read_input, calls, function_named, most_open, spend, turns}
 use Rattle.cc_simulation.specs.Behavior.{IsPrefixOf}
 use Rattle.cc_c_laws.specs.declared.cause.Cause.TheVariants.{Index, Depth}
 use Rattle.cc_c_laws.proofs.Lasting.{at, written, begins_refl, begins_spend, Lasts, lasts_gives, lasts_by, lasts_spend, Steady, steady_gives, steady_then, steady_choose, steady_unless, steady_flow, Under, under, steady_begin, steady_turns}
@@ -30,8 +30,8 @@ read_lasts (Some w) s = lasts_gives Under w s
 
 read_steady : (x : List ℕ) (i : ℕ) → Steady Under (λ (n : ℕ) s. read_element x i s)
 read_steady x i = record {
-  grows = λ n s. read_grows (slice_get (words_of s.globals x) i) s;
-  lasts = λ n s w. read_lasts (slice_get (words_of s.globals x) i) s;
+  grows = λ n s. read_grows (slice_get (global_words s.globals x) i) s;
+  lasts = λ n s w. read_lasts (slice_get (global_words s.globals x) i) s;
 }
 
 write_grows : (b : Bool) (gs : List Global) (s : State) → IsPrefixOf s.output (written (if b then Gives Falls (record s { globals = gs }) else Wrong Index s.output))
@@ -45,8 +45,8 @@ write_lasts false gs s = λ j b w. refl
 
 write_element_steady : (x : List ℕ) (i w : ℕ) → Steady Under (λ (n : ℕ) s. write_element x i w s)
 write_element_steady x i w = record {
-  grows = λ n s. write_grows (nat_lt i (length (words_of s.globals x))) (with_element x i w s.globals) s;
-  lasts = λ n s u. write_lasts (nat_lt i (length (words_of s.globals x))) (with_element x i w s.globals) s;
+  grows = λ n s. write_grows (nat_lt i (length (global_words s.globals x))) (with_element x i w s.globals) s;
+  lasts = λ n s u. write_lasts (nat_lt i (length (global_words s.globals x))) (with_element x i w s.globals) s;
 }
 
 stored_grows : (b : Bool) (ls : List Local) (gs : List Global) (s : State) → IsPrefixOf s.output (if b then record s { locals = ls } else record s { globals = gs }).output

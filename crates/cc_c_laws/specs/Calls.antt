@@ -68,15 +68,15 @@ BodiesGoOn = (unit : List External) (opened f : ℕ) (ws : List ℕ) → EffectG
 -- ---- objects
 
 -- an object's name, how wide its elements are, and how many there are
-pub record Size : Type 0 where
+pub record NamedSize : Type 0 where
   pub name : List ℕ
   pub width : Width
   pub elements : ℕ
 
-abbrev pub size : Global → Size
+abbrev pub size : Global → NamedSize
 size g = record { name = g.name; width = g.width; elements = length g.words }
 
-abbrev pub sizes : List Global → List Size
+abbrev pub sizes : List Global → List NamedSize
 sizes gs = map size gs
 
 -- the objects have the names and sizes that they had
@@ -101,10 +101,10 @@ abbrev pub ObjectsAreNumbered : Type 0
 ObjectsAreNumbered = (unit : List External) → map (λ (g : Global). g.name) (initial_globals unit) ≡ map (λ (p : LaidObject). p.name) (layout_of unit).objects
 
 -- the sizes that objects are laid out for
-abbrev pub laid_size : LaidObject → Size
+abbrev pub laid_size : LaidObject → NamedSize
 laid_size p = record { name = p.name; width = p.extent.width; elements = p.extent.length }
 
-abbrev pub laid_sizes : List LaidObject → List Size
+abbrev pub laid_sizes : List LaidObject → List NamedSize
 laid_sizes ps = map laid_size ps
 
 -- in a typed unit each object has before the run the size that it is laid out for

@@ -84,9 +84,9 @@ local_word [] x = None
 local_word (l ∷ behind) x = if same_name l.name x then Some l.word else local_word behind x
 
 -- the words of the object at file scope of that name
-abbrev pub words_of : List Global → List ℕ → List ℕ
-words_of [] x = []
-words_of (g ∷ rest) x = if same_name g.name x then g.words else words_of rest x
+abbrev pub global_words : List Global → List ℕ → List ℕ
+global_words [] x = []
+global_words (g ∷ rest) x = if same_name g.name x then g.words else global_words rest x
 
 -- the newest local of that name gets a word
 abbrev pub with_local_word : List ℕ → ℕ → List Local → List Local
@@ -100,7 +100,7 @@ with_element x i w (g ∷ rest) = if same_name g.name x then record g { words = 
 
 -- the word of a variable: a local hides what file scope has (6.2.1, 6.5.1)
 abbrev pub variable_word : List ℕ → State → ℕ
-variable_word x s = unwrap_or (local_word s.locals x) (unwrap_or (slice_get (words_of s.globals x) 0) 0)
+variable_word x s = unwrap_or (local_word s.locals x) (unwrap_or (slice_get (global_words s.globals x) 0) 0)
 
 -- stores a word in a variable (6.5.16.1)
 abbrev pub stored : List ℕ → ℕ → State → State
@@ -111,12 +111,12 @@ stored x w s =
 -- reads an element of an array; an index outside it goes wrong (6.5.2.1, 6.5.6). An index below 0 is a word above each
 -- length that a unit may have
 abbrev pub read_element : List ℕ → ℕ → State → Run ℕ
-read_element x i s = elim (slice_get (words_of s.globals x) i) [ None ↦ Wrong Index s.output | Some w ↦ Gives w s ]
+read_element x i s = elim (slice_get (global_words s.globals x) i) [ None ↦ Wrong Index s.output | Some w ↦ Gives w s ]
 
 -- stores a word in an element of an array
 abbrev pub write_element : List ℕ → ℕ → ℕ → State → Run Flow
 write_element x i w s =
-    if nat_lt i (length (words_of s.globals x)) then Gives Falls (record s { globals = with_element x i w s.globals })
+    if nat_lt i (length (global_words s.globals x)) then Gives Falls (record s { globals = with_element x i w s.globals })
     else Wrong Index s.output
 
 -- ---- expressions

@@ -12,7 +12,7 @@ use Rattle.cc_c_laws.specs.Meaning.{Global, State, Run, Gives, Flow, Falls, Brea
 use Rattle.cc_c_laws.specs.Function.{Shared, effect_of, state_within, call_function}
 use Rattle.cc_c_laws.specs.Resolved as resolved
 use Rattle.cc_c_laws.specs.Resolved.{arities, IsResolved}
-use Rattle.cc_c_laws.specs.Calls.{Size, size, sizes, laid_size, laid_sizes, shared_of, called, CallsAreEffects, CallsKeepObjects, FunctionsAreNumbered, ObjectsAreNumbered, ObjectsAreSized}
+use Rattle.cc_c_laws.specs.Calls.{NamedSize, size, sizes, laid_size, laid_sizes, shared_of, called, CallsAreEffects, CallsKeepObjects, FunctionsAreNumbered, ObjectsAreNumbered, ObjectsAreSized}
 use Rattle.cc_c_laws.specs.Numbered as by_number
 use Rattle.cc_c_laws.specs.Numbered.{objects_of, world_of, named, shared_in, numbered, call_in, body_in, arity_in, IsMeaningOf, CallsAreNumbered}
 use Rattle.cc_types.specs.Typed.{IsTyped}
@@ -33,11 +33,11 @@ use Rattle.cc_cminor.proofs.LoweredStatements.{GivesBack, Loosely, all_comes}
 
 -- ---- objects and functions by number
 
-sized_names : (gs : List Global) → map (λ (z : Size). z.name) (sizes gs) ≡ by_number.names_of gs
+sized_names : (gs : List Global) → map (λ (z : NamedSize). z.name) (sizes gs) ≡ by_number.names_of gs
 sized_names [] = refl
 sized_names (g ∷ gs) = ap (λ rest. g.name ∷ rest) (sized_names gs)
 
-laid_names : (ps : List LaidObject) → map (λ (z : Size). z.name) (laid_sizes ps) ≡ map (λ (p : LaidObject). p.name) ps
+laid_names : (ps : List LaidObject) → map (λ (z : NamedSize). z.name) (laid_sizes ps) ≡ map (λ (p : LaidObject). p.name) ps
 laid_names [] = refl
 laid_names (p ∷ ps) = ap (λ rest. p.name ∷ rest) (laid_names ps)
 
@@ -50,7 +50,7 @@ other_names [] = []
 other_names (x ∷ xs) = xs
 
 -- a size without its name
-abbrev unnamed : Size → world.Size
+abbrev unnamed : NamedSize → world.Size
 unnamed z = record { width = z.width; elements = z.elements }
 
 -- objects of a world with the names of the layout
@@ -143,7 +143,7 @@ module _ (effects : CallsAreEffects) (keep : CallsKeepObjects) (functions_are : 
       length-map (functions unit) (λ (g : Function). length g.parameters) ∙ sym (length-map (functions unit) (λ (g : Function). g.name)) ∙ ap (λ (xs : List (List ℕ)). length xs) (functions_are unit)
 
   same_names : (unit : List External) (gs : List Global) → sizes gs ≡ laid_sizes (layout_of unit).objects → by_number.names_of gs ≡ by_number.names_of (initial_globals unit)
-  same_names unit gs e = sym (sized_names gs) ∙ ap (λ zs. map (λ (z : Size). z.name) zs) e ∙ laid_names (layout_of unit).objects ∙ sym (objects_are unit)
+  same_names unit gs e = sym (sized_names gs) ∙ ap (λ zs. map (λ (z : NamedSize). z.name) zs) e ∙ laid_names (layout_of unit).objects ∙ sym (objects_are unit)
 
   call_facts : (unit : List External) (m : Meaning) (is : IsMeaningOf unit m) (opened n : ℕ) → CallFacts (call_effect m opened) (layout_of unit) (calls n (functions unit) opened) n
   call_facts unit m is opened n = record {

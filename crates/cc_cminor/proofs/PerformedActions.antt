@@ -16,8 +16,8 @@ use Rattle.cc_types.specs.Names.{same_name}
 use Rattle.cc_resolve.specs.Layout.{Layout}
 use Rattle.cc_resolve.specs.Environment.{Environment, types_in, number_in, with_local, with_locals, behind_beginning}
 use Rattle.cc_c_laws.specs.Meaning as meaning
-use Rattle.cc_c_laws.specs.Calls.{Size, size, sizes, laid_sizes}
-use Rattle.cc_c_laws.specs.Meaning.{Global, State, Run, Gives, Flow, Falls, then_do, given, read_element, write_element, evaluate, evaluate_or, Destination, ToVariable, ToElement, destination, old_value, write, new_value, perform, perform_optional, stored, declare, start, words_of, local_word, with_local_word, with_element, variable_word}
+use Rattle.cc_c_laws.specs.Calls.{NamedSize, size, sizes, laid_sizes}
+use Rattle.cc_c_laws.specs.Meaning.{Global, State, Run, Gives, Flow, Falls, then_do, given, read_element, write_element, evaluate, evaluate_or, Destination, ToVariable, ToElement, destination, old_value, write, new_value, perform, perform_optional, stored, declare, start, global_words, local_word, with_local_word, with_element, variable_word}
 use Rattle.cc_simulation.specs.World as world
 use Rattle.cc_simulation.specs.World.{World, Question, Effect}
 use Rattle.cc_simulation.specs.Run.{Goes, tried}
@@ -85,7 +85,7 @@ module _ (effect : ℕ → Question → Effect) (g : Layout) where
   local_fits ns x w i s l e h =
       record { names = written_names x w s.locals ∙ h.names; holds = writes s.locals l x w i (ap (λ xs. number_in xs x) h.names ∙ e) h.holds; sized = h.sized }
 
-  object_written : (x : List ℕ) (i w : ℕ) (s : State) → IsObject g x → sizes s.globals ≡ laid_sizes g.objects → i < length (words_of s.globals x) → world.stored (world_at s) (width_of g x) (object_of g x) i w ≡ Some (world_at (record s { globals = with_element x i w s.globals }))
+  object_written : (x : List ℕ) (i w : ℕ) (s : State) → IsObject g x → sizes s.globals ≡ laid_sizes g.objects → i < length (global_words s.globals x) → world.stored (world_at s) (width_of g x) (object_of g x) i w ≡ Some (world_at (record s { globals = with_element x i w s.globals }))
   object_written x i w s known e lt =
       ap (λ o. world.stored (world_at s) (width_of g x) (unwrap_or o 0) i w) known.1 ∙ stored_object s.globals g.objects x known.0 i w s.input s.output e known.1 lt
 
@@ -98,7 +98,7 @@ module _ (effect : ℕ → Question → Effect) (g : Layout) where
       let none_here : local_word s.locals x ≡ None = reads s.locals l x h.holds ∙ ap (λ xs. option_map l (number_in xs x)) h.names ∙ ap (option_map l) num in
       let t : State = record s { globals = with_element x 0 w s.globals } in
       let same : stored x w s ≡ t = ap (λ (o : Option ℕ). if is_some o then record s { locals = with_local_word x w s.locals } else t) none_here in
-      let size : length (words_of s.globals x) ≡ 1 = size_object s.globals g.objects x h.sized ∙ placed.1.0 in
+      let size : length (global_words s.globals x) ≡ 1 = size_object s.globals g.objects x h.sized ∙ placed.1.0 in
       let o : ℕ = object_of g x in
       subst (λ u. Comes effect (Falling κ ns) (config (Store Word o (Constant 0) e) κ l (world_at s)) s.steps (Gives Falls u)) (sym same)
       (comes_moved effect (Falling κ ns) (config (Store Word o (Constant 0) e) κ l (world_at s)) (config Skip κ l (world_at t)) s.steps (Gives Falls t)
@@ -120,21 +120,21 @@ module _ (effect : ℕ → Question → Effect) (g : Layout) where
   variable_comes v x e κ l s (meaning.Going o) placed h p = absurd p
   variable_comes v x e κ l s (meaning.Wrong cause o) placed h p = tt
 
-  written_by : (b : Bool) (ns : List (List ℕ)) (x : List ℕ) (k i w : ℕ) (e : Expression) (κ : Continuation) (l : ℕ → ℕ) (s : State) → IsObject g x → nat_lt i (length (words_of s.globals x)) ≡ b → l k ≡ i → Fits g ns s l → value e l (world_at s) ≡ Some w
+  written_by : (b : Bool) (ns : List (List ℕ)) (x : List ℕ) (k i w : ℕ) (e : Expression) (κ : Continuation) (l : ℕ → ℕ) (s : State) → IsObject g x → nat_lt i (length (global_words s.globals x)) ≡ b → l k ≡ i → Fits g ns s l → value e l (world_at s) ≡ Some w
       → Comes effect (Falling κ ns) (config (Store (width_of g x) (object_of g x) (Local k) e) κ l (world_at s)) s.steps (if b then Gives Falls (record s { globals = with_element x i w s.globals }) else meaning.Wrong Index s.output)
   written_by true ns x k i w e κ l s known lt at h is =
       let t : State = record s { globals = with_element x i w s.globals } in
       let o : ℕ = object_of g x in
       comes_moved effect (Falling κ ns) (config (Store (width_of g x) o (Local k) e) κ l (world_at s)) (config Skip κ l (world_at t)) s.steps (Gives Falls t)
       (ap (λ p. tried p (λ w. tried (world.stored (world_at s) (width_of g x) o (l k) w) (λ y. Goes (config Skip κ l y)))) is
-      ∙ ap (λ (p : Option World). tried p (λ y. Goes (config Skip κ l y))) (ap (λ j. world.stored (world_at s) (width_of g x) o j w) at ∙ object_written x i w s known h.sized (ltb-true i (length (words_of s.globals x)) lt)))
+      ∙ ap (λ (p : Option World). tried p (λ y. Goes (config Skip κ l y))) (ap (λ j. world.stored (world_at s) (width_of g x) o j w) at ∙ object_written x i w s known h.sized (ltb-true i (length (global_words s.globals x)) lt)))
       (comes_here effect (Falling κ ns) (config Skip κ l (world_at t)) Falls t (record { falls = refl; stops = record { variables = l; at = refl; fits = element_fits ns x i w s l h } }))
   written_by false ns x k i w e κ l s known lt at h is = tt
 
   element_comes : (ns : List (List ℕ)) (x : List ℕ) (k i : ℕ) (e : Expression) (κ : Continuation) (l : ℕ → ℕ) (s : State) (r : Run ℕ) → IsObject g x → l k ≡ i → Fits g ns s l → PlainIs r s (value e l (world_at s))
       → Comes effect (Falling κ ns) (config (Store (width_of g x) (object_of g x) (Local k) e) κ l (world_at s)) s.steps (then_do r (λ new z. write_element x i new z))
   element_comes ns x k i e κ l s (Gives w u) known at h p =
-      subst (λ t. Comes effect (Falling κ ns) (config (Store (width_of g x) (object_of g x) (Local k) e) κ l (world_at s)) s.steps (write_element x i w t)) (sym p.0) (written_by (nat_lt i (length (words_of s.globals x))) ns x k i w e κ l s known refl at h p.1)
+      subst (λ t. Comes effect (Falling κ ns) (config (Store (width_of g x) (object_of g x) (Local k) e) κ l (world_at s)) s.steps (write_element x i w t)) (sym p.0) (written_by (nat_lt i (length (global_words s.globals x))) ns x k i w e κ l s known refl at h p.1)
   element_comes ns x k i e κ l s (meaning.Going o) known at h p = absurd p
   element_comes ns x k i e κ l s (meaning.Wrong cause o) known at h p = tt
 

@@ -22,8 +22,8 @@ use Rattle.cc_words.specs.declared.operators.Binary.TheVariants as two
 use Rattle.cc_ast.specs.Tree as tree
 use Rattle.cc_ast.specs.Tree.{Name, Expr, Exprs, none, more, Number, Variable, Element, Parenthesised, Cast, Conditional}
 use Rattle.cc_c_laws.specs.Meaning as meaning
-use Rattle.cc_c_laws.specs.Meaning.{Global, State, Run, Gives, then_do, given, unless_decided, read_element, Calls, evaluate, evaluate_all, local_word, with_local_word, variable_word, words_of, with_element}
-use Rattle.cc_c_laws.specs.Calls.{Size, sizes, laid_sizes}
+use Rattle.cc_c_laws.specs.Meaning.{Global, State, Run, Gives, then_do, given, unless_decided, read_element, Calls, evaluate, evaluate_all, local_word, with_local_word, variable_word, global_words, with_element}
+use Rattle.cc_c_laws.specs.Calls.{NamedSize, sizes, laid_sizes}
 use Rattle.cc_c_laws.specs.Numbered.{objects_of}
 use Rattle.cc_simulation.specs.World.{Object, World, element, object_with, stored}
 use Rattle.cc_resolve.specs.Layout.{LaidObject, Layout, object_number, extent_of}
@@ -125,11 +125,11 @@ written_names y w (x ∷ older) = names_by (same_name x.name y) x w older (with_
 
 -- ---- objects
 
-abbrev first_size : List Size → Size
+abbrev first_size : List NamedSize → NamedSize
 first_size [] = record { name = []; width = Word; elements = 0 }
 first_size (z ∷ zs) = z
 
-abbrev other_sizes : List Size → List Size
+abbrev other_sizes : List NamedSize → List NamedSize
 other_sizes [] = []
 other_sizes (z ∷ zs) = zs
 
@@ -152,12 +152,12 @@ found_by false k u ws vs rest None n e f = absurd (cc)
 found_by false k u ws vs rest (Some m) n e f = let z : suc m ≡ n = cc in ap (λ i. get_or (object k ws ∷ rest) i no_object) (sym z) ∙ f m refl
 
 -- an object by its number
-found_object : (gs : List Global) (ps : List LaidObject) (x : List ℕ) (n : ℕ) → sizes gs ≡ laid_sizes ps → object_number ps x ≡ Some n → get_or (objects_of gs) n no_object ≡ object (width_by_name gs x) (words_of gs x)
+found_object : (gs : List Global) (ps : List LaidObject) (x : List ℕ) (n : ℕ) → sizes gs ≡ laid_sizes ps → object_number ps x ≡ Some n → get_or (objects_of gs) n no_object ≡ object (width_by_name gs x) (global_words gs x)
 found_object gs [] x n e f = absurd (cc)
-found_object [] (p ∷ ps) x n e f = absurd (let q : ◌≡◌ {A = List Size} [] (laid_sizes (p ∷ ps)) = e in cc)
+found_object [] (p ∷ ps) x n e f = absurd (let q : ◌≡◌ {A = List NamedSize} [] (laid_sizes (p ∷ ps)) = e in cc)
 found_object (g ∷ gs) (p ∷ ps) x n e f =
-    let name : g.name ≡ p.name = ap (λ (z : Size). z.name) (ap first_size e) in
-    found_by (same_name g.name x) g.width (width_by_name gs x) g.words (words_of gs x) (objects_of gs) (object_number ps x) n
+    let name : g.name ≡ p.name = ap (λ (z : NamedSize). z.name) (ap first_size e) in
+    found_by (same_name g.name x) g.width (width_by_name gs x) g.words (global_words gs x) (objects_of gs) (object_number ps x) n
     (ap (λ y. if same_name y x then Some 0 else option_map suc (object_number ps x)) name ∙ f)
     (λ m k. found_object gs ps x m (ap other_sizes e) k)
 
@@ -172,12 +172,12 @@ changed_by false g gs other i w u vs (Some m) n e f =
     ap (λ k. set (object g.width g.words ∷ objects_of gs) k (object u (set vs i (kept u w)))) (sym z) ∙ ap (λ rest. object g.width g.words ∷ rest) (f m refl)
 
 changed_object : (gs : List Global) (ps : List LaidObject) (x : List ℕ) (n i w : ℕ) → sizes gs ≡ laid_sizes ps → object_number ps x ≡ Some n
-    → set (objects_of gs) n (object (width_by_name gs x) (set (words_of gs x) i (kept (width_by_name gs x) w))) ≡ objects_of (with_element x i w gs)
+    → set (objects_of gs) n (object (width_by_name gs x) (set (global_words gs x) i (kept (width_by_name gs x) w))) ≡ objects_of (with_element x i w gs)
 changed_object gs [] x n i w e f = absurd (cc)
-changed_object [] (p ∷ ps) x n i w e f = absurd (let q : ◌≡◌ {A = List Size} [] (laid_sizes (p ∷ ps)) = e in cc)
+changed_object [] (p ∷ ps) x n i w e f = absurd (let q : ◌≡◌ {A = List NamedSize} [] (laid_sizes (p ∷ ps)) = e in cc)
 changed_object (g ∷ gs) (p ∷ ps) x n i w e f =
-    let name : g.name ≡ p.name = ap (λ (z : Size). z.name) (ap first_size e) in
-    changed_by (same_name g.name x) g gs (with_element x i w gs) i w (width_by_name gs x) (words_of gs x) (object_number ps x) n
+    let name : g.name ≡ p.name = ap (λ (z : NamedSize). z.name) (ap first_size e) in
+    changed_by (same_name g.name x) g gs (with_element x i w gs) i w (width_by_name gs x) (global_words gs x) (object_number ps x) n
     (ap (λ y. if same_name y x then Some 0 else option_map suc (object_number ps x)) name ∙ f)
     (λ m k. changed_object gs ps x m i w (ap other_sizes e) k)
 
@@ -190,13 +190,13 @@ extent_by true p ps x = refl
 extent_by false p ps x = refl
 
 -- how many elements an object has
-pub size_object : (gs : List Global) (ps : List LaidObject) (x : List ℕ) → sizes gs ≡ laid_sizes ps → length (words_of gs x) ≡ (extent_of ps x).length
+pub size_object : (gs : List Global) (ps : List LaidObject) (x : List ℕ) → sizes gs ≡ laid_sizes ps → length (global_words gs x) ≡ (extent_of ps x).length
 size_object [] [] x e = refl
-size_object [] (p ∷ ps) x e = absurd (let q : ◌≡◌ {A = List Size} [] (laid_sizes (p ∷ ps)) = e in cc)
-size_object (g ∷ gs) [] x e = absurd (let q : ◌≡◌ {A = List Size} (sizes (g ∷ gs)) [] = e in cc)
+size_object [] (p ∷ ps) x e = absurd (let q : ◌≡◌ {A = List NamedSize} [] (laid_sizes (p ∷ ps)) = e in cc)
+size_object (g ∷ gs) [] x e = absurd (let q : ◌≡◌ {A = List NamedSize} (sizes (g ∷ gs)) [] = e in cc)
 size_object (g ∷ gs) (p ∷ ps) x e =
-    let name : g.name ≡ p.name = ap (λ (z : Size). z.name) (ap first_size e) in
-    size_by (same_name g.name x) g.words (words_of gs x) p.extent.length (extent_of ps x).length (ap (λ (z : Size). z.elements) (ap first_size e)) (size_object gs ps x (ap other_sizes e))
+    let name : g.name ≡ p.name = ap (λ (z : NamedSize). z.name) (ap first_size e) in
+    size_by (same_name g.name x) g.words (global_words gs x) p.extent.length (extent_of ps x).length (ap (λ (z : NamedSize). z.elements) (ap first_size e)) (size_object gs ps x (ap other_sizes e))
     ∙ ap (λ y. if same_name y x then p.extent.length else (extent_of ps x).length) name ∙ sym (extent_by (same_name p.name x) p ps x)
 
 width_by : (b : Bool) (k u : Width) (p : LaidObject) (ps : List LaidObject) (x : List ℕ) → k ≡ p.extent.width → u ≡ (extent_of ps x).width → (if b then k else u) ≡ (if b then p.extent else extent_of ps x).width
@@ -206,11 +206,11 @@ width_by false k u p ps x e f = f
 -- how wide they are
 width_object : (gs : List Global) (ps : List LaidObject) (x : List ℕ) → sizes gs ≡ laid_sizes ps → width_by_name gs x ≡ (extent_of ps x).width
 width_object [] [] x e = refl
-width_object [] (p ∷ ps) x e = absurd (let q : ◌≡◌ {A = List Size} [] (laid_sizes (p ∷ ps)) = e in cc)
-width_object (g ∷ gs) [] x e = absurd (let q : ◌≡◌ {A = List Size} (sizes (g ∷ gs)) [] = e in cc)
+width_object [] (p ∷ ps) x e = absurd (let q : ◌≡◌ {A = List NamedSize} [] (laid_sizes (p ∷ ps)) = e in cc)
+width_object (g ∷ gs) [] x e = absurd (let q : ◌≡◌ {A = List NamedSize} (sizes (g ∷ gs)) [] = e in cc)
 width_object (g ∷ gs) (p ∷ ps) x e =
-    let name : g.name ≡ p.name = ap (λ (z : Size). z.name) (ap first_size e) in
-    width_by (same_name g.name x) g.width (width_by_name gs x) p ps x (ap (λ (z : Size). z.width) (ap first_size e)) (width_object gs ps x (ap other_sizes e))
+    let name : g.name ≡ p.name = ap (λ (z : NamedSize). z.name) (ap first_size e) in
+    width_by (same_name g.name x) g.width (width_by_name gs x) p ps x (ap (λ (z : NamedSize). z.width) (ap first_size e)) (width_object gs ps x (ap other_sizes e))
     ∙ ap (λ y. (if same_name y x then p.extent else extent_of ps x).width) name
 
 same_itself : (u : Width) → same_width u u ≡ true
@@ -219,18 +219,18 @@ same_itself Word = refl
 
 -- an element by its object's number
 pub element_object : (gs : List Global) (ps : List LaidObject) (x : List ℕ) (n i : ℕ) (input output : List ℕ) → sizes gs ≡ laid_sizes ps → object_number ps x ≡ Some n
-    → element (record { globals = objects_of gs; input = input; output = output }) (extent_of ps x).width n i ≡ slice_get (words_of gs x) i
+    → element (record { globals = objects_of gs; input = input; output = output }) (extent_of ps x).width n i ≡ slice_get (global_words gs x) i
 element_object gs ps x n i input output e f =
     let k = width_by_name gs x in
-    subst (λ (u : Width). element (record { globals = objects_of gs; input = input; output = output }) u n i ≡ slice_get (words_of gs x) i) (width_object gs ps x e)
+    subst (λ (u : Width). element (record { globals = objects_of gs; input = input; output = output }) u n i ≡ slice_get (global_words gs x) i) (width_object gs ps x e)
     (ap (λ (o : Object). if same_width o.width k then slice_get o.words i else None) (found_object gs ps x n e f)
-    ∙ ap (λ b. if b then slice_get (words_of gs x) i else None) (same_itself k))
+    ∙ ap (λ b. if b then slice_get (global_words gs x) i else None) (same_itself k))
 
-pub stored_object : (gs : List Global) (ps : List LaidObject) (x : List ℕ) (n i w : ℕ) (input output : List ℕ) → sizes gs ≡ laid_sizes ps → object_number ps x ≡ Some n → i < length (words_of gs x)
+pub stored_object : (gs : List Global) (ps : List LaidObject) (x : List ℕ) (n i w : ℕ) (input output : List ℕ) → sizes gs ≡ laid_sizes ps → object_number ps x ≡ Some n → i < length (global_words gs x)
     → stored (record { globals = objects_of gs; input = input; output = output }) (extent_of ps x).width n i w ≡ Some (record { globals = objects_of (with_element x i w gs); input = input; output = output })
 stored_object gs ps x n i w input output e f lt =
     let k = width_by_name gs x in
-    let vs = words_of gs x in
+    let vs = global_words gs x in
     subst (λ (u : Width). stored (record { globals = objects_of gs; input = input; output = output }) u n i w ≡ Some (record { globals = objects_of (with_element x i w gs); input = input; output = output })) (width_object gs ps x e)
     (ap (λ (o : Object). option_map (λ old. record { globals = set (objects_of gs) n (object_with o i (kept k w)); input = input; output = output }) (if same_width o.width k then slice_get o.words i else None)) (found_object gs ps x n e f)
     ∙ ap (λ b. option_map (λ old. record { globals = set (objects_of gs) n (object k (set vs i (kept k w))); input = input; output = output }) (if b then slice_get vs i else None)) (same_itself k)
@@ -374,8 +374,8 @@ plain_read_by : (o : Option ℕ) (s : State) → PlainIs {A = ℕ} (elim o [ Non
 plain_read_by None s = refl
 plain_read_by (Some w) s = (refl, refl)
 
-pub plain_read : (x : List ℕ) (i : ℕ) (s : State) → PlainIs (read_element x i s) s (slice_get (words_of s.globals x) i)
-plain_read x i s = plain_read_by (slice_get (words_of s.globals x) i) s
+pub plain_read : (x : List ℕ) (i : ℕ) (s : State) → PlainIs (read_element x i s) s (slice_get (global_words s.globals x) i)
+plain_read x i s = plain_read_by (slice_get (global_words s.globals x) i) s
 
 module _ (g : Layout) where
   -- the variables stand for a state with locals of these names
@@ -395,29 +395,29 @@ module _ (g : Layout) where
   pub fits_put : (ns : List (List ℕ)) (s : State) (l : ℕ → ℕ) (k w : ℕ) → length ns ≤ k → Fits ns s l → Fits ns s (put l k w)
   fits_put ns s l k w le h = fits_same ns s l (put l k w) (λ i lt. put_below l k w i (omega arith)) h
 
-  object_is : (s : State) (x : List ℕ) (i : ℕ) → IsObject g x → sizes s.globals ≡ laid_sizes g.objects → element (world_at s) (width_of g x) (object_of g x) i ≡ slice_get (words_of s.globals x) i
+  object_is : (s : State) (x : List ℕ) (i : ℕ) → IsObject g x → sizes s.globals ≡ laid_sizes g.objects → element (world_at s) (width_of g x) (object_of g x) i ≡ slice_get (global_words s.globals x) i
   object_is s x i known e =
       ap (λ o. element (world_at s) (width_of g x) (unwrap_or o 0) i) known.1 ∙ element_object s.globals g.objects x known.0 i s.input s.output e known.1
 
   variable_by : (o : Option ℕ) (x : List ℕ) (s : State) (l : ℕ → ℕ) → sizes s.globals ≡ laid_sizes g.objects → local_word s.locals x ≡ option_map l o → IsPlaced g o x
       → value (read_of o (object_of g x)) l (world_at s) ≡ Some (variable_word x s)
   variable_by None x s l e f h =
-      let size : length (words_of s.globals x) ≡ 1 = size_object s.globals g.objects x e ∙ h.1.0 in
-      let found : slice_get (words_of s.globals x) 0 ≡ Some (unwrap_or (slice_get (words_of s.globals x) 0) 0) =
-      is_some_word (slice_get (words_of s.globals x) 0) _ (slice_get-get_or (words_of s.globals x) 0 0 (omega arith)) in
-      ap (λ (u : Width). element (world_at s) u (object_of g x) 0) (sym h.1.1) ∙ object_is s x 0 h.0 e ∙ found ∙ ap (λ (o : Option ℕ). Some (unwrap_or o (unwrap_or (slice_get (words_of s.globals x) 0) 0))) (sym f)
+      let size : length (global_words s.globals x) ≡ 1 = size_object s.globals g.objects x e ∙ h.1.0 in
+      let found : slice_get (global_words s.globals x) 0 ≡ Some (unwrap_or (slice_get (global_words s.globals x) 0) 0) =
+      is_some_word (slice_get (global_words s.globals x) 0) _ (slice_get-get_or (global_words s.globals x) 0 0 (omega arith)) in
+      ap (λ (u : Width). element (world_at s) u (object_of g x) 0) (sym h.1.1) ∙ object_is s x 0 h.0 e ∙ found ∙ ap (λ (o : Option ℕ). Some (unwrap_or o (unwrap_or (slice_get (global_words s.globals x) 0) 0))) (sym f)
     where
       is_some_word : (o : Option ℕ) (w : ℕ) → o ≡ Some w → o ≡ Some (unwrap_or o 0)
       is_some_word None w e = absurd (cc)
       is_some_word (Some v) w e = refl
-  variable_by (Some i) x s l e f h = ap (λ (o : Option ℕ). Some (unwrap_or o (unwrap_or (slice_get (words_of s.globals x) 0) 0))) (sym f)
+  variable_by (Some i) x s l e f h = ap (λ (o : Option ℕ). Some (unwrap_or o (unwrap_or (slice_get (global_words s.globals x) 0) 0))) (sym f)
 
   pub variable_value : (v : Environment) (x : List ℕ) (s : State) (l : ℕ → ℕ) → IsVariable g v x → Fits v.locals s l → value (variable_of g v x) l (world_at s) ≡ Some (variable_word x s)
   variable_value v x s l known h =
       variable_by (number_in v.locals x) x s l h.sized (reads s.locals l x h.holds ∙ ap (λ ns. option_map l (number_in ns x)) h.names) known
 
   pub element_value : (x : List ℕ) (e : Expression) (i : ℕ) (l : ℕ → ℕ) (s : State) → IsObject g x → sizes s.globals ≡ laid_sizes g.objects → value e l (world_at s) ≡ Some i
-      → value (Load (width_of g x) (object_of g x) e) l (world_at s) ≡ slice_get (words_of s.globals x) i
+      → value (Load (width_of g x) (object_of g x) e) l (world_at s) ≡ slice_get (global_words s.globals x) i
   element_value x e i l s known sized is = ap (λ o. then_value o (λ j. element (world_at s) (width_of g x) (object_of g x) j)) is ∙ object_is s x i known sized
 
   pub plain_is : (call : Calls) (e : Expr) (v : Environment) (l : ℕ → ℕ) (s : State) → is_plain e ≡ true → Known g v e → Fits v.locals s l → PlainIs (evaluate e (types_in v) call s) s (value (plain g v e) l (world_at s))

@@ -6,7 +6,7 @@ ghost use Rattle.cc_command_line.specs.Work.{IsAllowed};
 
 use crate::library::{Session, library_command, library_of};
 use crate::numbers::number_in;
-use crate::spool::{Client, Server, serve_command, serve_of, submit_command, submit_of};
+use crate::spool::{Submitter, Server, serve_command, serve_of, submit_command, submit_of};
 use crate::unit::{Wanted, image_command, image_of, source_command, source_of};
 use cc_task::{MOST_STEPS, Task};
 use clap::error::ErrorKind;
@@ -67,7 +67,7 @@ pub enum Work {
     /// The scripts that are left in a folder, over a library.
     Serve(Server),
     /// Leave a script in a folder, and wait for its answer.
-    Submit(Client),
+    Submit(Submitter),
 }
 
 // What is said of a command that runs a program: its name, what it does, its bound, and an example.
@@ -218,7 +218,7 @@ fn words_in(alloc: Global, texts: &[&str]) -> Result<Option<Vec<u32>>, AllocErro
     Ok(Some(words))
 }
 
-fn words_of(alloc: Global, runner: &Runner, given: &ArgMatches<'_>) -> Result<Vec<u32>, Error> {
+fn input_words(alloc: Global, runner: &Runner, given: &ArgMatches<'_>) -> Result<Vec<u32>, Error> {
     let Some(texts) = given.get_strs("WORD") else {
         return Ok(Vec::new(alloc));
     };
@@ -234,11 +234,11 @@ fn task_of(alloc: Global, matches: &ArgMatches<'_>) -> Result<Task, Error>
     match matches.subcommand() {
         Some(("interpret", given)) => {
             let steps = steps_of(alloc, &INTERPRET, given)?;
-            Ok(Task::Interpret(steps, words_of(alloc, &INTERPRET, given)?))
+            Ok(Task::Interpret(steps, input_words(alloc, &INTERPRET, given)?))
         }
         Some(("run", given)) => {
             let steps = steps_of(alloc, &RUN, given)?;
-            Ok(Task::Run(steps, words_of(alloc, &RUN, given)?))
+            Ok(Task::Run(steps, input_words(alloc, &RUN, given)?))
         }
         Some(("asm", _)) => Ok(Task::Asm),
         _ => Ok(Task::Check),
@@ -274,7 +274,7 @@ fn work_of(alloc: Global, matches: &ArgMatches<'_>) -> Result<Work, Error>
 
 /// What a command line asks for: the work, and whether no fault of it is to be explained.
 #[derive(Drop)]
-pub struct Request {
+pub struct Invocation {
     pub work: Work,
     pub is_quiet: bool,
 }
@@ -282,7 +282,7 @@ pub struct Request {
 /// Reads the command line, whose first word is the program's name.
 ///
 /// The error is clap's: its text goes to standard error and its status is 2, but for a text of help.
-pub fn read_request<'a, S: AsStr>(alloc: Global, words: &'a [S]) -> Result<Request, Error>
+pub fn read_invocation<'a, S: AsStr>(alloc: Global, words: &'a [S]) -> Result<Invocation, Error>
     ensures { IfOk result (λ request. IsAllowed request.work) }
 {
     let matches = command(alloc)?.try_get_matches_from(words)?;
@@ -290,17 +290,17 @@ pub fn read_request<'a, S: AsStr>(alloc: Global, words: &'a [S]) -> Result<Reque
     let work = work_of(alloc, &matches);
     drop(matches);
     match work {
-        Ok(work) => Ok(Request { work, is_quiet }),
+        Ok(work) => Ok(Invocation { work, is_quiet }),
         Err(error) => Err(error),
     }
 }
 
-/// The work that a command line asks for, as `read_request` reads it.
+/// The work that a command line asks for, as `read_invocation` reads it.
 pub fn line<'a, S: AsStr>(alloc: Global, words: &'a [S]) -> Result<Work, Error>
     ensures { IfOk result IsAllowed }
 {
-    match read_request(alloc, words) {
-        Ok(Request { work, is_quiet: _ }) => Ok(work),
+    match read_invocation(alloc, words) {
+        Ok(Invocation { work, is_quiet: _ }) => Ok(work),
         Err(error) => Err(error),
     }
 }

@@ -2,8 +2,8 @@
 //!
 //! It stands on `clap` and `cc_task` alone and knows nothing of the language, so it is proved beside the crates that do. `command_line`
 //! reads it, `library` has the command for a library, `unit` those that take something out of one, `spool` those of a server and its
-//! clients, `numbers` the numbers, `telling` says why there is no work. Hands out `read_request`, `line`, `read_or_tell`, `Work` with what each work needs (`Task` of `cc_task`, `Wanted`,
-//! `Session`, `Server`, `Client`) and the limits, and the definitions that their contracts name (`specs/`).
+//! clients, `numbers` the numbers, `telling` says why there is no work. Hands out `read_invocation`, `line`, `read_or_tell`, `Work` with what each work needs (`Task` of `cc_task`, `Wanted`,
+//! `Session`, `Server`, `Submitter`) and the limits, and the definitions that their contracts name (`specs/`).
 #![tactic(auto)]
 
 mod command_line;
@@ -13,8 +13,8 @@ mod spool;
 mod telling;
 mod unit;
 
-pub use command_line::{Request, Work, line, read_request, refused_bytes};
+pub use command_line::{Invocation, Work, line, read_invocation, refused_bytes};
 pub use library::{LEAST_AREA, MOST_AREA, MOST_WORKERS, Session};
-pub use spool::{Client, MOST_CLIENTS, MOST_DAYS, MOST_WAIT, Server};
+pub use spool::{Submitter, MOST_CLIENTS, MOST_DAYS, MOST_WAIT, Server};
 pub use telling::{NoRequest, read_or_tell, tell_bytes};
 pub use unit::Wanted;

@@ -90,7 +90,7 @@ pub struct Server {
 
 /// A script for a server.
 #[derive(Drop)]
-pub struct Client {
+pub struct Submitter {
     /// The path of the folder.
     pub folder: String,
     /// The line of a script, whose source is on standard input where it takes one. Where it is not given the script is on standard input.
@@ -287,5 +287,5 @@ pub(crate) fn submit_of(alloc: Global, given: &ArgMatches<'_>) -> Result<Work, E
         Some(_) => return Err(refused_submit(alloc, WORD_RULE)?),
         None => None,
     };
-    Ok(Work::Submit(Client { folder, line, wait }))
+    Ok(Work::Submit(Submitter { folder, line, wait }))
 }

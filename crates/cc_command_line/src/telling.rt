@@ -3,7 +3,7 @@
 ghost use Rattle.std.specs.Prelude.{IfOk};
 ghost use Rattle.cc_command_line.specs.Work.{IsAllowed};
 
-use crate::command_line::{Request, read_request, refused_bytes};
+use crate::command_line::{Invocation, read_invocation, refused_bytes};
 use clap::Error;
 use clap::error::ErrorKind;
 use std::alloc::Global;
@@ -25,15 +25,15 @@ fn tell<R: Eprint + Print>(rt: &R, error: Error) -> NoRequest {
     NoRequest::Told(if error.exit_code() == 0 { 0 } else { 2 })
 }
 
-/// Reads the command line as `read_request` does. A refusal goes to standard error, a text of help to standard output.
+/// Reads the command line as `read_invocation` does. A refusal goes to standard error, a text of help to standard output.
 pub fn read_or_tell<'a, R: Eprint + Print, S: AsStr>(
     rt: &R,
     alloc: Global,
     words: &'a [S],
-) -> Result<Request, NoRequest>
+) -> Result<Invocation, NoRequest>
     ensures { IfOk result (λ request. IsAllowed request.work) }
 {
-    match read_request(alloc, words) {
+    match read_invocation(alloc, words) {
         Ok(request) => Ok(request),
         Err(error) => Err(tell(rt, error)),
     }

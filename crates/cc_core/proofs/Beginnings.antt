@@ -9,7 +9,7 @@ use Rattle.std.proofs.lemmas.Option.{slice_get_within}
 use Rattle.cc_journal.specs.Format.{HoldsRecords, header, records}
 use Rattle.cc_journal.proofs.Bytes.{header_area}
 use Rattle.cc_journal.proofs.Records.{holds_same}
-use Rattle.cc_library.specs.declared.command.Command.{Command}
+use Rattle.cc_library.specs.declared.command.LibraryCommand.{LibraryCommand}
 use Rattle.cc_library.specs.declared.fault.LibraryFault.{LibraryFault}
 use Rattle.cc_library.specs.declared.fault.LibraryFault.TheVariants.{Exists, Absent, Full, DiskFault, Closed, Damaged, NotALibrary, OutOfMemory}
 use Rattle.cc_library.specs.Answers.{OpenFaults}
@@ -46,7 +46,7 @@ holds_at image other area size bodies h same is =
 
 -- ---- the commands
 
-same_commands : (bodies : List (List ℕ)) (xs ys : List Command) → AreSpelled bodies xs → AreSpelled bodies ys → xs ≡ ys
+same_commands : (bodies : List (List ℕ)) (xs ys : List LibraryCommand) → AreSpelled bodies xs → AreSpelled bodies ys → xs ≡ ys
 same_commands [] [] [] p q = refl
 same_commands [] [] (y ∷ ys) p q = absurd q
 same_commands [] (x ∷ xs) ys p q = absurd p
@@ -55,7 +55,7 @@ same_commands (body ∷ bodies) (x ∷ xs) [] p q = absurd q
 same_commands (body ∷ bodies) (x ∷ xs) (y ∷ ys) p q =
     let first : x ≡ y = one_command body x y p.0 q.0 in
     let others : xs ≡ ys = same_commands bodies xs ys p.1 q.1 in
-    ap (λ (z : Command). z ∷ xs) first ∙ ap (λ (zs : List Command). y ∷ zs) others
+    ap (λ (z : LibraryCommand). z ∷ xs) first ∙ ap (λ (zs : List LibraryCommand). y ∷ zs) others
 
 -- the order of the records leads to the map that they stand for
 pub order_leads : (bodies : List (List ℕ)) (library : Units) (order : List Numbered) (upcoming : SequenceNumber) → StandFor bodies library → IsOrderOf bodies order upcoming
@@ -66,7 +66,7 @@ order_leads bodies library order upcoming stand o =
 
 -- so far these bodies were read, and those behind are left
 pub record IsReadTo (bodies behind : List (List ℕ)) (order : List Numbered) (upcoming : ℕ) : Type 0 where
-  pub leads : (rest : List Command) → AreSpelled behind rest → AreSpelled bodies (commands order ++ rest)
+  pub leads : (rest : List LibraryCommand) → AreSpelled behind rest → AreSpelled bodies (commands order ++ rest)
   pub counted : (k : ℕ) (a : Numbered) → slice_get order k ≡ Some a → a.number.value ≡ k
   pub next : upcoming ≡ length order
 
@@ -82,7 +82,7 @@ pub read_more : (bodies : List (List ℕ)) (body : List ℕ) (behind : List (Lis
 read_more bodies body behind order upcoming last r spelled number = record {
   leads = λ rest others.
       subst (AreSpelled bodies)
-      (sym (ap (λ (l : List Command). l ++ rest) (map-append (λ (p : Numbered). p.command) order (last ∷ [])) ∙ append_assoc (commands order) (last.command ∷ []) rest))
+      (sym (ap (λ (l : List LibraryCommand). l ++ rest) (map-append (λ (p : Numbered). p.command) order (last ∷ [])) ∙ append_assoc (commands order) (last.command ∷ []) rest))
       (r.leads (last.command ∷ rest) (spelled, others));
   counted = λ k a is. elim (slice_get-push order last k a is) [
     | inl h ↦ r.counted k a h

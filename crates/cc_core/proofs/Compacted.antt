@@ -12,8 +12,8 @@ use Rattle.std.specs.FinMap as map
 use Rattle.std.specs.FinMap.Entries.{put, by_order, is_sorted, is_sorted-where_key, find-where_key}
 use Rattle.cc_journal.specs.Format.{record_bytes, records, room_of}
 use Rattle.cc_unit.specs.declared.unit.StoredUnit.{StoredUnit}
-use Rattle.cc_library.specs.declared.command.Command.{Command}
-use Rattle.cc_library.specs.declared.command.Command.TheVariants.{Add, Replace, Withdraw}
+use Rattle.cc_library.specs.declared.command.LibraryCommand.{LibraryCommand}
+use Rattle.cc_library.specs.declared.command.LibraryCommand.TheVariants.{Add, Replace, Withdraw}
 use Rattle.cc_library.specs.Apply.{Units, after, after_all, kept}
 use Rattle.cc_library.specs.Body.{IsCommand, body_of}
 use Rattle.cc_library.specs.Compact.{adds, bodies_of, compacted}
@@ -127,7 +127,7 @@ grows_removed n units name =
 stays : (n : ℕ) (units : Units) → Grows n units units
 stays n units = (omega arith, λ all. all)
 
-grows_after : (units : Units) (c : Command) → IsCommand c → Grows (length (record_bytes (body_of c))) units (after units c)
+grows_after : (units : Units) (c : LibraryCommand) → IsCommand c → Grows (length (record_bytes (body_of c))) units (after units c)
 grows_after units (Add name unit) right = at (map.contains_key units name)
   where
     at : (b : Bool) → Grows (one name unit) units (kept units (cond b (Err 31) (Ok (map.insert units name unit))))
@@ -147,7 +147,7 @@ grows_after units (Withdraw name) right = at (map.contains_key units name)
     at true = grows_removed n units name
     at false = stays n units
 
-grows_all : (units : Units) (bodies : List (List ℕ)) (cs : List Command) → AreSpelled bodies cs → Grows (length (records bodies)) units (after_all units cs)
+grows_all : (units : Units) (bodies : List (List ℕ)) (cs : List LibraryCommand) → AreSpelled bodies cs → Grows (length (records bodies)) units (after_all units cs)
 grows_all units [] [] spelled = stays 0 units
 grows_all units [] (c ∷ cs) spelled = absurd spelled
 grows_all units (body ∷ bodies) [] spelled = absurd spelled

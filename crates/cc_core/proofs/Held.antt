@@ -12,7 +12,7 @@ use Rattle.cc_journal.specs.Commit.{area_begin}
 use Rattle.cc_journal.specs.Journal.{HoldsFrom}
 use Rattle.cc_journal.proofs.Records.{length-records_push, length-record_bytes}
 use Rattle.cc_journal.proofs.Images.{frame, length-frame, behind_gate, at_gate, committed, length-written}
-use Rattle.cc_library.specs.declared.command.Command.{Command}
+use Rattle.cc_library.specs.declared.command.LibraryCommand.{LibraryCommand}
 use Rattle.cc_library.specs.Body.{body_of}
 use Rattle.cc_core.specs.declared.contents.Due.{Due}
 use Rattle.cc_core.specs.declared.contents.Due.TheVariants.{WriteBody, SyncBody, WriteGate, SyncGate, Acknowledge}
@@ -202,7 +202,7 @@ gate_images store bodies body byte s room image now =
     at_gate_held store.area_byte store.area store.used bodies w.rest.taken body w.before (bytes_of store.cells) image w.held room w.seen w.long differs
 
 -- each device step goes on to the next part
-pub commit_goes_on : (due : Due) (store : StoreState) (bodies : List (List ℕ)) (command : Command) → HasRoom due store command → InCommit due store bodies (body_of command)
+pub commit_goes_on : (due : Due) (store : StoreState) (bodies : List (List ℕ)) (command : LibraryCommand) → HasRoom due store command → InCommit due store bodies (body_of command)
     → InCommit (due_after due) (stepped due command store) bodies (body_of command)
 commit_goes_on WriteBody store bodies command room c =
     let body = body_of command in
@@ -247,7 +247,7 @@ commit_goes_on SyncGate store bodies command room c =
 commit_goes_on Acknowledge store bodies command room c = c
 
 -- the room is still there
-pub room_goes_on : (due : Due) (store : StoreState) (command : Command) → HasRoom due store command → HasRoom (due_after due) (stepped due command store) command
+pub room_goes_on : (due : Due) (store : StoreState) (command : LibraryCommand) → HasRoom due store command → HasRoom (due_after due) (stepped due command store) command
 room_goes_on WriteBody store command room = room
 room_goes_on SyncBody store command room = room
 room_goes_on WriteGate store command room = room
@@ -255,7 +255,7 @@ room_goes_on SyncGate store command room = tt
 room_goes_on Acknowledge store command room = tt
 
 -- what a failed step leaves
-pub failed_images : (due : Due) (store new : StoreState) (bodies : List (List ℕ)) (command : Command) → HasRoom due store command → InCommit due store bodies (body_of command) → FailsTo due command store new
+pub failed_images : (due : Due) (store new : StoreState) (bodies : List (List ℕ)) (command : LibraryCommand) → HasRoom due store command → InCommit due store bodies (body_of command) → FailsTo due command store new
     → (image : List ℕ) → IsImage new.cells image → HoldsInOneOf new.area_byte new.area bodies (body_of command) image
 failed_images WriteBody store new bodies command room c f =
     let body = body_of command in

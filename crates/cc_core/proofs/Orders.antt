@@ -13,8 +13,8 @@ use Rattle.std.proofs.lemmas.Option.{same_Some}
 use Rattle.std.proofs.lemmas.Slice.Eq.{slice_eq-Decides}
 use lib.Pointwise.{pointwise}
 use Rattle.cc_unit.specs.declared.unit.StoredUnit.{StoredUnit}
-use Rattle.cc_library.specs.declared.command.Command.{Command}
-use Rattle.cc_library.specs.declared.command.Command.TheVariants as command
+use Rattle.cc_library.specs.declared.command.LibraryCommand.{LibraryCommand}
+use Rattle.cc_library.specs.declared.command.LibraryCommand.TheVariants as command
 use Rattle.cc_library.specs.Apply.{Units, apply, kept, after, after_all, library_of, AreAccepted}
 use Rattle.cc_core.specs.declared.command.Numbered.{Numbered}
 use Rattle.cc_core.specs.Step.{commands, IsLongest}
@@ -46,7 +46,7 @@ EachUnit-kept : (is_right : StoredUnit → Type 0) (library : Units) (b : Bool) 
 EachUnit-kept is_right library true made first second each new = (each, new)
 EachUnit-kept is_right library false made first second each new = (new, each)
 
-pub EachUnit-after : (is_right : StoredUnit → Type 0) (library : Units) (c : Command) → EachUnit is_right library → IsRightCommand is_right c → EachUnit is_right (after library c)
+pub EachUnit-after : (is_right : StoredUnit → Type 0) (library : Units) (c : LibraryCommand) → EachUnit is_right library → IsRightCommand is_right c → EachUnit is_right (after library c)
 EachUnit-after is_right library (command.Add name unit) each right =
     (EachUnit-kept is_right library (contains_key library name) (insert library name unit) 31 32 each (EachUnit-insert is_right library name unit each right)).0
 EachUnit-after is_right library (command.Replace name unit) each right =
@@ -59,7 +59,7 @@ EachUnit-empty is_right name unit is = let none = sym (get-empty (slice_cmp nat_
 
 -- ---- one command more
 
-after_all-push : (library : Units) (cs : List Command) (c : Command) → after_all library (cs ++ c ∷ []) ≡ after (after_all library cs) c
+after_all-push : (library : Units) (cs : List LibraryCommand) (c : LibraryCommand) → after_all library (cs ++ c ∷ []) ≡ after (after_all library cs) c
 after_all-push library [] c = refl
 after_all-push library (d ∷ cs) c = after_all-push (after library d) cs c
 
@@ -69,15 +69,15 @@ commands-push prefix last = map-append (λ (p : Numbered). p.command) prefix (la
 pub library-push : (prefix : List Numbered) (last : Numbered) → library_of (commands (prefix ++ last ∷ [])) ≡ after (library_of (commands prefix)) last.command
 library-push prefix last = ap library_of (commands-push prefix last) ∙ after_all-push empty (commands prefix) last.command
 
-accepted_push : (library : Units) (cs : List Command) (c : Command) → AreAccepted library cs → IsOk (apply (after_all library cs) c) → AreAccepted library (cs ++ c ∷ [])
+accepted_push : (library : Units) (cs : List LibraryCommand) (c : LibraryCommand) → AreAccepted library cs → IsOk (apply (after_all library cs) c) → AreAccepted library (cs ++ c ∷ [])
 accepted_push library [] c all taken = (taken, tt)
 accepted_push library (d ∷ cs) c all taken = (all.0, accepted_push (after library d) cs c all.1 taken)
 
-accepted_before : (library : Units) (cs ds : List Command) → AreAccepted library (cs ++ ds) → AreAccepted library cs
+accepted_before : (library : Units) (cs ds : List LibraryCommand) → AreAccepted library (cs ++ ds) → AreAccepted library cs
 accepted_before library [] ds all = tt
 accepted_before library (c ∷ cs) ds all = (all.0, accepted_before (after library c) cs ds all.1)
 
-accepted_last : (library : Units) (cs : List Command) (c : Command) → AreAccepted library (cs ++ c ∷ []) → IsOk (apply (after_all library cs) c)
+accepted_last : (library : Units) (cs : List LibraryCommand) (c : LibraryCommand) → AreAccepted library (cs ++ c ∷ []) → IsOk (apply (after_all library cs) c)
 accepted_last library [] c all = all.0
 accepted_last library (d ∷ cs) c all = accepted_last (after library d) cs c all.1
 
@@ -155,7 +155,7 @@ inserted_same library name unit is =
     at q false tied = refl
 
 -- an accepted command is in effect in the library that it leaves
-after_in_effect : (library : Units) (c : Command) → IsOk (apply library c) → IsInEffect (after library c) c
+after_in_effect : (library : Units) (c : LibraryCommand) → IsOk (apply library c) → IsInEffect (after library c) c
 after_in_effect library (command.Add name unit) ok =
     let made = made_absent library (insert library name unit) (contains_key library name) 31 (ok_absent (contains_key library name) (insert library name unit) 31 ok) in
     ap (λ (m : Units). get m name) made ∙ get_inserted library name unit
@@ -167,7 +167,7 @@ after_in_effect library (command.Withdraw name) ok =
     ap (λ (m : Units). get m name) made ∙ get_removed library name
 
 -- an accepted command that is in effect already changes nothing
-effect_stays : (library : Units) (c : Command) → IsOk (apply library c) → IsInEffect library c → after library c ≡ library
+effect_stays : (library : Units) (c : LibraryCommand) → IsOk (apply library c) → IsInEffect library c → after library c ≡ library
 effect_stays library (command.Add name unit) ok there =
     let none : is_some (get library name) ≡ false = ok_absent (contains_key library name) (insert library name unit) 31 ok in
     let some : is_some (get library name) ≡ true = ap is_some there in
@@ -225,7 +225,7 @@ decided_none : (found : Option StoredUnit) → (found ≡ None) ⊎ (found ≡ N
 decided_none None = inl refl
 decided_none (Some there) = inr (λ e. no_longer_none there (sym e))
 
-decided_effect : (library : Units) (c : Command) → IsInEffect library c ⊎ (IsInEffect library c → ⊥)
+decided_effect : (library : Units) (c : LibraryCommand) → IsInEffect library c ⊎ (IsInEffect library c → ⊥)
 decided_effect library (command.Add name unit) = decided_found (get library name) unit
 decided_effect library (command.Replace name unit) = decided_found (get library name) unit
 decided_effect library (command.Withdraw name) = decided_none (get library name)

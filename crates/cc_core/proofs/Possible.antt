@@ -7,7 +7,7 @@ use Rattle.std.proofs.lemmas.List.{length-append, length-take-le}
 use Rattle.cc_journal.specs.Commit.{Commit, behind_gate}
 use Rattle.cc_journal.specs.Format.{records, room_of}
 use Rattle.cc_disk.specs.Model.{written}
-use Rattle.cc_library.specs.declared.command.Command.{Command}
+use Rattle.cc_library.specs.declared.command.LibraryCommand.{LibraryCommand}
 use Rattle.cc_library.specs.Apply.{after}
 use Rattle.cc_library.specs.Body.{body_of}
 use Rattle.cc_library.specs.Compact.{compacted}
@@ -118,7 +118,7 @@ reopens old crashed r =
       },
     )
 
-begun : (old : Core) (client : ClientId) (v : Result Command Refusal) → (reply : Option Reply) × (new : Core) × Begun old client v reply new
+begun : (old : Core) (client : ClientId) (v : Result LibraryCommand Refusal) → (reply : Option Reply) × (new : Core) × Begun old client v reply new
 begun old client (Ok command) = (
   None,
   record (ticked old) { order = old.order ++ numbered_now old command ∷ []; phase = Committing client (numbered_now old command) due.WriteBody },

@@ -20,7 +20,7 @@ use Rattle.cc_journal.proofs.Images.{frame}
 use Rattle.cc_journal.proofs.Records.{holds_alone, holds_same}
 use Rattle.cc_journal.proofs.Bytes.{empty_holds}
 use Rattle.cc_unit.specs.declared.unit.StoredUnit.{StoredUnit}
-use Rattle.cc_library.specs.declared.command.Command.{Command}
+use Rattle.cc_library.specs.declared.command.LibraryCommand.{LibraryCommand}
 use Rattle.cc_library.specs.Apply.{Units, apply, after, library_of, AreAccepted}
 use Rattle.cc_library.specs.Body.{IsCommand, body_of}
 use Rattle.cc_library.specs.Compact.{compacted}
@@ -177,7 +177,7 @@ idle_not_crashed is = absurd (cc)
 failed_not_crashed : (failed : Option Numbered) → Failed failed ≡ Crashed → ⊥
 failed_not_crashed failed is = absurd (cc)
 
-begun_not_crashed : (s : Core) (client : ClientId) (v : Result Command Refusal) (reply : Option Reply) (new : Core) → IsFree s.phase → Begun s client v reply new → new.phase ≡ Crashed → ⊥
+begun_not_crashed : (s : Core) (client : ClientId) (v : Result LibraryCommand Refusal) (reply : Option Reply) (new : Core) → IsFree s.phase → Begun s client v reply new → new.phase ≡ Crashed → ⊥
 begun_not_crashed s client (Err refused) reply new free begun crashed = subst IsFree (sym (ap (λ (c : Core). c.phase) begun.1) ∙ crashed) free
 begun_not_crashed s client (Ok command) reply new free begun crashed = absurd (crashed_not_committing client (numbered_now s command) due.WriteBody (sym crashed ∙ ap (λ (c : Core). c.phase) begun.1))
 
@@ -343,8 +343,8 @@ module _ {P : Type 0} (rules : Rules P) (keeps : P → Type 0) where
     idle_of (Failed failed) free open' = absurd (cc)
     idle_of Crashed free open' = absurd free
 
-    begun_sound : (s : Core) (client : ClientId) (v : Result Command Refusal) (reply : Option Reply) (new : Core)
-        → IsSoundCore is_right s → ((c : Command) → v ≡ Ok c → (s.phase ≡ Idle) × IsRightCommand is_right c × IsOk (apply s.library c) × IsFitting s.store c)
+    begun_sound : (s : Core) (client : ClientId) (v : Result LibraryCommand Refusal) (reply : Option Reply) (new : Core)
+        → IsSoundCore is_right s → ((c : LibraryCommand) → v ≡ Ok c → (s.phase ≡ Idle) × IsRightCommand is_right c × IsOk (apply s.library c) × IsFitting s.store c)
         → Begun s client v reply new → PutsCommand s new → IsSoundCore is_right new
     begun_sound s client (Err refused) reply new sound right begun puts =
         let there : IsSoundCore is_right (ticked s) = record {
@@ -606,7 +606,7 @@ module _ {P : Type 0} (rules : Rules P) (keeps : P → Type 0) where
         } in
         subst (IsSoundCore is_right) (sym step.new_is) there
 
-    AllNamed-begun : (jobs : FinMap nat_cmp (Job P)) (client : ClientId) (v : Result Command Refusal) → AllNamed jobs → AllNamed (jobs_begun jobs client v)
+    AllNamed-begun : (jobs : FinMap nat_cmp (Job P)) (client : ClientId) (v : Result LibraryCommand Refusal) → AllNamed jobs → AllNamed (jobs_begun jobs client v)
     AllNamed-begun jobs client (Ok command) all = all
     AllNamed-begun jobs client (Err refused) all = AllNamed-remove jobs client.number all
 
@@ -759,7 +759,7 @@ module _ {P : Type 0} (rules : Rules P) (keeps : P → Type 0) where
     of_crash s event.Recover reply new sound crashed step = inr refl
 
     -- a command that begins has the source that was handed in
-    begun_source : (s : Core) (client : ClientId) (v : Result Command Refusal) (new : Core) → Begun s client v None new → (c : Command) × (v ≡ Ok c) × (new.order ≡ s.order ++ numbered_now s c ∷ [])
+    begun_source : (s : Core) (client : ClientId) (v : Result LibraryCommand Refusal) (new : Core) → Begun s client v None new → (c : LibraryCommand) × (v ≡ Ok c) × (new.order ≡ s.order ++ numbered_now s c ∷ [])
     begun_source s client (Ok c) new begun = (c, refl, ap (λ (n : Core). n.order) begun.1)
     begun_source s client (Err refused) new begun = absurd (cc (begun.0))
 

@@ -8,8 +8,8 @@ use Rattle.std.specs.Cmp.{nat_cmp_total, eq_by_cmp_equiv}
 use Rattle.std.specs.FinMap.{FinMap, get, insert, remove, empty, get-empty, get-insert, get-remove, nat_cmp-IsAntisymmetric}
 use Rattle.std.proofs.lemmas.List.{append-nil, length-append, length-take}
 use Rattle.cc_unit.specs.declared.unit.StoredUnit.{StoredUnit}
-use Rattle.cc_library.specs.declared.command.Command.{Command}
-use Rattle.cc_library.specs.declared.command.Command.TheVariants as command
+use Rattle.cc_library.specs.declared.command.LibraryCommand.{LibraryCommand}
+use Rattle.cc_library.specs.declared.command.LibraryCommand.TheVariants as command
 use Rattle.cc_library.specs.Body.{IsCommand}
 use Rattle.cc_core.specs.declared.command.Numbered.{Numbered}
 use Rattle.cc_core.specs.declared.command.Reply.{Reply}
@@ -151,7 +151,7 @@ module _ {P : Type 0} (rules : Rules P) where
   kept_order old event.Recover reply new none step n is =
       longer_than old.core.order step.core_step.longest.count n (sym step.core_step.longest.prefix ∙ sym (ap (λ (c : Core). c.order) step.core_step.new_is) ∙ is)
 
-  puts_begun : (old : Core) (client : ClientId) (v : Result Command Refusal) (reply : Option Reply) (new : Core) → ((d : Command) → v ≡ Ok d → IsCommand d) → Begun old client v reply new → PutsCommand old new
+  puts_begun : (old : Core) (client : ClientId) (v : Result LibraryCommand Refusal) (reply : Option Reply) (new : Core) → ((d : LibraryCommand) → v ≡ Ok d → IsCommand d) → Begun old client v reply new → PutsCommand old new
   puts_begun old client (Ok d) reply new is_put begun numbered is =
       let order : old.order ++ numbered_now old d ∷ [] ≡ old.order ++ numbered ∷ [] = sym (ap (λ (c : Core). c.order) begun.1) ∙ is in
       let same = same_last old.order (numbered_now old d) old.order numbered order in
@@ -189,7 +189,7 @@ module _ {P : Type 0} (rules : Rules P) where
 
   -- ---- jobs and workers
 
-  begun_none : (jobs new : FinMap nat_cmp (Job P)) (client : ClientId) (v : Result Command Refusal) (k : ℕ) → new ≡ jobs_begun jobs client v → get jobs k ≡ None → get new k ≡ None
+  begun_none : (jobs new : FinMap nat_cmp (Job P)) (client : ClientId) (v : Result LibraryCommand Refusal) (k : ℕ) → new ≡ jobs_begun jobs client v → get jobs k ≡ None → get new k ≡ None
   begun_none jobs new client (Ok d) k is none = none_same jobs new k is none
   begun_none jobs new client (Err refused) k is none = ap (λ l. get l k) is ∙ none_removed jobs client.number k none
 
@@ -314,7 +314,7 @@ module _ {P : Type 0} (rules : Rules P) (keeps : P → Type 0) where
         plain_turn old (event.Submit client call asked) None (submitted asked (replicate n Waiting)) (λ c e. absurd (cc)) (λ w q e. absurd (cc))
         (record { up = up; free = free; plan = Ok n; planned_so = so; silent = refl; new_is = refl })
 
-    with_source : (asked : Request) (c : Command) (unit : StoredUnit) → source_in asked ≡ Some unit.source → ((n : ℕ) → rules.plan unit.source (Ok n) → IsPlanned rules asked (Ok n))
+    with_source : (asked : Request) (c : LibraryCommand) (unit : StoredUnit) → source_in asked ≡ Some unit.source → ((n : ℕ) → rules.plan unit.source (Ok n) → IsPlanned rules asked (Ok n))
         → ((its : Job P) → built rules its unit.source ≡ Ok unit → command_of rules its asked ≡ Ok c) → IsBuilt rules keeps unit → CanBeReady rules keeps old client worker c
     with_source asked c unit from plans gives b =
         let first = submitted asked (replicate (length b.pieces) Waiting) in
@@ -334,7 +334,7 @@ module _ {P : Type 0} (rules : Rules P) (keeps : P → Type 0) where
           idle = all.idle;
         }
 
-    pub can_be_ready : (c : Command) → HasBuilt rules keeps c → CanBeReady rules keeps old client worker c
+    pub can_be_ready : (c : LibraryCommand) → HasBuilt rules keeps c → CanBeReady rules keeps old client worker c
     can_be_ready (command.Add name unit) b =
         with_source (request.Add name unit.source) (command.Add name unit) unit refl (λ n so. so) (λ its is. ap (with_unit (command.Add name)) is) b
     can_be_ready (command.Replace name unit) b =

@@ -4,8 +4,8 @@ use Rattle.std.proofs.Common.{◌≡◌, ℕ, zero, suc, ◌≤◌, Bool, true, 
 use Rattle.std.specs.Prelude.{slice_get, IsTrue, IsOk, nat_le}
 use Rattle.std.proofs.lemmas.Bool.{leb-true}
 use Rattle.cc_unit.specs.declared.unit.StoredUnit.{StoredUnit}
-use Rattle.cc_library.specs.declared.command.Command.{Command}
-use Rattle.cc_library.specs.declared.command.Command.TheVariants as command
+use Rattle.cc_library.specs.declared.command.LibraryCommand.{LibraryCommand}
+use Rattle.cc_library.specs.declared.command.LibraryCommand.TheVariants as command
 use Rattle.cc_core.specs.declared.command.Request.{Request}
 use Rattle.cc_core.specs.declared.command.Request.TheVariants as request
 use Rattle.cc_core.specs.declared.job.Job.{Job}
@@ -33,7 +33,7 @@ both_none None second is = (refl, is)
 both_none (Some refused) second is = absurd (cc)
 
 -- a command that the map does not refuse is accepted
-not_refused : (library : Units) (c : Command) → map_refusal library c ≡ None → IsOk (apply library c)
+not_refused : (library : Units) (c : LibraryCommand) → map_refusal library c ≡ None → IsOk (apply library c)
 not_refused library (command.Add name unit) none = at (contains_key library name) none
   where
     at : (b : Bool) → (if b then Some refusal.Exists else None) ≡ None → IsOk (if b then Err exists else Ok (insert library name unit))
@@ -58,13 +58,13 @@ not_full m n is = at (nat_le m n) refl is
     at false le is = absurd (cc)
 
 -- what a command that is taken is
-pub record IsTaken (phase : Phase) (library : Units) (store : StoreState) (r : Result Command ℕ) (c : Command) : Type 0 where
+pub record IsTaken (phase : Phase) (library : Units) (store : StoreState) (r : Result LibraryCommand ℕ) (c : LibraryCommand) : Type 0 where
   pub open' : closed phase ≡ None
   pub same : r ≡ Ok c
   pub ok : IsOk (apply library c)
   pub fits : room_taken store (body_of c) ≤ store.area
 
-accepted-taken : (phase : Phase) (library : Units) (store : StoreState) (r : Result Command ℕ) (c : Command) → accepted phase library store r ≡ Ok c → IsTaken phase library store r c
+accepted-taken : (phase : Phase) (library : Units) (store : StoreState) (r : Result LibraryCommand ℕ) (c : LibraryCommand) → accepted phase library store r ≡ Ok c → IsTaken phase library store r c
 accepted-taken phase library store (Ok d) c is =
     let taken = unless-Ok (command_refusal phase library store d) (Ok d) c is in
     let first = both_none (closed phase) (first_of_two (map_refusal library d) (full store d)) taken.0 in
@@ -132,12 +132,12 @@ module _ {P : Type 0} (rules : Rules P) (keeps : P → Type 0) where
       let each : All keeps (made_pieces job.pieces) = All-each keeps (made_pieces job.pieces) (λ k p at. named.kept k p (made.1 k p at)) in
       law source (made_pieces job.pieces) unit whole each second.1
 
-  with_unit_right : (is_right : StoredUnit → Type 0) (make : StoredUnit → Command) → ((u : StoredUnit) → is_right u → IsRightCommand is_right (make u))
-      → (r : Result StoredUnit ℕ) (c : Command) → ((u : StoredUnit) → r ≡ Ok u → is_right u) → with_unit make r ≡ Ok c → IsRightCommand is_right c
+  with_unit_right : (is_right : StoredUnit → Type 0) (make : StoredUnit → LibraryCommand) → ((u : StoredUnit) → is_right u → IsRightCommand is_right (make u))
+      → (r : Result StoredUnit ℕ) (c : LibraryCommand) → ((u : StoredUnit) → r ≡ Ok u → is_right u) → with_unit make r ≡ Ok c → IsRightCommand is_right c
   with_unit_right is_right make makes (Ok u) c right is = let same : make u ≡ c = cc in subst (IsRightCommand is_right) same (makes u (right u refl))
   with_unit_right is_right make makes (Err number) c right is = absurd (cc)
 
-  command_right : (is_right : StoredUnit → Type 0) → IsLawful is_right → (job : Job P) (asked : Request) (c : Command)
+  command_right : (is_right : StoredUnit → Type 0) → IsLawful is_right → (job : Job P) (asked : Request) (c : LibraryCommand)
       → job.request ≡ asked → IsNamed job → IsTrue (all_there job.pieces) → command_of rules job asked ≡ Ok c → IsRightCommand is_right c
   command_right is_right law job (request.Add name source) c asks named there is =
       with_unit_right is_right (command.Add name) (λ u h. h) (built rules job source) c (λ u made. built_has (λ s v. is_right v) law job source u named (ap source_in asks) there made) is
@@ -147,23 +147,23 @@ module _ {P : Type 0} (rules : Rules P) (keeps : P → Type 0) where
       let same : command.Withdraw name ≡ c = cc in subst (IsRightCommand is_right) same tt
 
   -- the command that a job begins is taken
-  pub verdict_taken : (phase : Phase) (library : Units) (store : StoreState) (job : Job P) (c : Command) → verdict rules phase library store job ≡ Ok c
+  pub verdict_taken : (phase : Phase) (library : Units) (store : StoreState) (job : Job P) (c : LibraryCommand) → verdict rules phase library store job ≡ Ok c
       → IsTaken phase library store (command_of rules job job.request) c
   verdict_taken phase library store job c is = accepted-taken phase library store (command_of rules job job.request) c is
 
   -- and has a right unit
-  pub verdict_right : (is_right : StoredUnit → Type 0) → IsLawful is_right → (phase : Phase) (library : Units) (store : StoreState) (job : Job P) (c : Command)
+  pub verdict_right : (is_right : StoredUnit → Type 0) → IsLawful is_right → (phase : Phase) (library : Units) (store : StoreState) (job : Job P) (c : LibraryCommand)
       → IsNamed job → IsTrue (all_there job.pieces) → verdict rules phase library store job ≡ Ok c → IsRightCommand is_right c
   verdict_right is_right law phase library store job c named there is =
       command_right is_right law job job.request c refl named there (verdict_taken phase library store job c is).same
 
   -- and has the source that was handed in
-  with_unit_source : (make : StoredUnit → Command) (source : List ℕ) → ((u : StoredUnit) → command_source (make u) ≡ Some u.source)
-      → (r : Result StoredUnit ℕ) (c : Command) → ((u : StoredUnit) → r ≡ Ok u → u.source ≡ source) → with_unit make r ≡ Ok c → command_source c ≡ Some source
+  with_unit_source : (make : StoredUnit → LibraryCommand) (source : List ℕ) → ((u : StoredUnit) → command_source (make u) ≡ Some u.source)
+      → (r : Result StoredUnit ℕ) (c : LibraryCommand) → ((u : StoredUnit) → r ≡ Ok u → u.source ≡ source) → with_unit make r ≡ Ok c → command_source c ≡ Some source
   with_unit_source make source makes (Ok u) c right is = let same : make u ≡ c = cc in ap command_source (sym same) ∙ makes u ∙ ap Some (right u refl)
   with_unit_source make source makes (Err number) c right is = absurd (cc)
 
-  command_has_source : IsOfSource → (job : Job P) (asked : Request) (c : Command)
+  command_has_source : IsOfSource → (job : Job P) (asked : Request) (c : LibraryCommand)
       → job.request ≡ asked → IsNamed job → IsTrue (all_there job.pieces) → command_of rules job asked ≡ Ok c → command_source c ≡ source_in asked
   command_has_source law job (request.Add name source) c asks named there is =
       with_unit_source (command.Add name) source (λ u. refl) (built rules job source) c (λ u made. built_has (λ s v. v.source ≡ s) law job source u named (ap source_in asks) there made) is
@@ -171,7 +171,7 @@ module _ {P : Type 0} (rules : Rules P) (keeps : P → Type 0) where
       with_unit_source (command.Replace name) source (λ u. refl) (built rules job source) c (λ u made. built_has (λ s v. v.source ≡ s) law job source u named (ap source_in asks) there made) is
   command_has_source law job (request.Withdraw name) c asks named there is = let same : command.Withdraw name ≡ c = cc in ap command_source (sym same)
 
-  pub verdict_source : IsOfSource → (phase : Phase) (library : Units) (store : StoreState) (job : Job P) (c : Command)
+  pub verdict_source : IsOfSource → (phase : Phase) (library : Units) (store : StoreState) (job : Job P) (c : LibraryCommand)
       → IsNamed job → IsTrue (all_there job.pieces) → verdict rules phase library store job ≡ Ok c → command_source c ≡ source_in job.request
   verdict_source law phase library store job c named there is =
       command_has_source law job job.request c refl named there (verdict_taken phase library store job c is).same

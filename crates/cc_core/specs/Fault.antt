@@ -2,8 +2,8 @@
 use Rattle.std.specs.Prelude.{ℕ, ◌≡◌, Result, Err}
 use Rattle.cc_core.specs.declared.fault.CoreFault.{CoreFault}
 use Rattle.cc_core.specs.declared.fault.CoreFault.TheVariants as core_fault
-use Rattle.cc_core.specs.declared.fault.BuildFault.{BuildFault}
-use Rattle.cc_core.specs.declared.fault.BuildFault.TheVariants as build
+use Rattle.cc_core.specs.declared.fault.BuildRefusal.{BuildRefusal}
+use Rattle.cc_core.specs.declared.fault.BuildRefusal.TheVariants as build
 use Rattle.cc_core.specs.declared.fault.Refusal.{Refusal}
 use Rattle.cc_core.specs.declared.fault.Refusal.TheVariants as refusal
 
@@ -13,7 +13,7 @@ fault_number core_fault.NotNow = 29
 fault_number core_fault.OutOfMemory = 40
 
 -- the number of a build's refusal, or 40
-abbrev pub build_fault_number : BuildFault → ℕ
+abbrev pub build_fault_number : BuildRefusal → ℕ
 build_fault_number (build.Refused number) = number
 build_fault_number build.OutOfMemory = 40
 
@@ -27,11 +27,11 @@ refusal_number refusal.DiskFault = 35
 refusal_number refusal.Closed = 36
 
 -- a build's fault answers for its rule: the number that the rule refuses with; where memory runs out it says nothing
-abbrev pub RefusesAs : {A : Type 0} → BuildFault → Result A ℕ → Type 0
+abbrev pub RefusesAs : {A : Type 0} → BuildRefusal → Result A ℕ → Type 0
 RefusesAs (build.Refused number) rule = rule ≡ Err number
 RefusesAs build.OutOfMemory rule = Unit {0}
 
 -- so too for the rule that says how many pieces a source has
-abbrev pub RefusesPlan : BuildFault → (Result ℕ ℕ → Type 0) → Type 0
+abbrev pub RefusesPlan : BuildRefusal → (Result ℕ ℕ → Type 0) → Type 0
 RefusesPlan (build.Refused number) answers = answers (Err number)
 RefusesPlan build.OutOfMemory answers = Unit {0}

@@ -3,8 +3,8 @@ use Rattle.std.specs.Prelude.{ℕ, ◌≡◌, Bool, true, false, List, [], ◌�
 use Rattle.std.specs.List.{list_all}
 use Rattle.std.specs.FinMap.{contains_key}
 use Rattle.cc_unit.specs.declared.unit.StoredUnit.{StoredUnit}
-use Rattle.cc_library.specs.declared.command.Command.{Command}
-use Rattle.cc_library.specs.declared.command.Command.TheVariants as command
+use Rattle.cc_library.specs.declared.command.LibraryCommand.{LibraryCommand}
+use Rattle.cc_library.specs.declared.command.LibraryCommand.TheVariants as command
 use Rattle.cc_core.specs.declared.command.Request.{Request}
 use Rattle.cc_core.specs.declared.command.Request.TheVariants as request
 use Rattle.cc_core.specs.declared.fault.Refusal.{Refusal}
@@ -34,7 +34,7 @@ unless None next = next
 unless (Some refusal) next = Err refusal
 
 -- the command with the unit that was built, or the number that refuses it
-abbrev pub with_unit : (StoredUnit → Command) → Result StoredUnit ℕ → Result Command ℕ
+abbrev pub with_unit : (StoredUnit → LibraryCommand) → Result StoredUnit ℕ → Result LibraryCommand ℕ
 with_unit make (Ok unit) = Ok (make unit)
 with_unit make (Err number) = Err number
 
@@ -47,13 +47,13 @@ closed (Failed failed) = Some refusal.Closed
 closed Crashed = None
 
 -- a name that is there is not added, one that is not there is not replaced or withdrawn
-abbrev pub map_refusal : Units → Command → Option Refusal
+abbrev pub map_refusal : Units → LibraryCommand → Option Refusal
 map_refusal library (command.Add name unit) = if contains_key library name then Some refusal.Exists else None
 map_refusal library (command.Replace name unit) = if contains_key library name then None else Some refusal.Absent
 map_refusal library (command.Withdraw name) = if contains_key library name then None else Some refusal.Absent
 
 -- a command whose record does not fit its area is refused
-abbrev pub full : StoreState → Command → Option Refusal
+abbrev pub full : StoreState → LibraryCommand → Option Refusal
 full store command = if nat_le (room_taken store (body_of command)) store.area then None else Some refusal.Full
 
 -- the first of two refusals
@@ -62,11 +62,11 @@ first_of_two None second = second
 first_of_two (Some refusal) second = Some refusal
 
 -- why a command is refused, where it is: 36 after a failed step, then 31 or 32, then 34
-abbrev pub command_refusal : Phase → Units → StoreState → Command → Option Refusal
+abbrev pub command_refusal : Phase → Units → StoreState → LibraryCommand → Option Refusal
 command_refusal phase library store command = first_of_two (closed phase) (first_of_two (map_refusal library command) (full store command))
 
 -- a command that is taken, or why it is refused: by the build, or as said before
-abbrev pub accepted : Phase → Units → StoreState → Result Command ℕ → Result Command Refusal
+abbrev pub accepted : Phase → Units → StoreState → Result LibraryCommand ℕ → Result LibraryCommand Refusal
 accepted phase library store (Ok command) = unless (command_refusal phase library store command) (Ok command)
 accepted phase library store (Err number) = Err (refusal.Build number)
 
@@ -119,11 +119,11 @@ module _ {P : Type 0} where
   built rules job source = unless job.refusal (unless (first_refused job.pieces) (rules.unit source (made_pieces job.pieces)))
 
   -- the command of a job, or the number that refuses it
-  abbrev pub command_of : Rules P → Job P → Request → Result Command ℕ
+  abbrev pub command_of : Rules P → Job P → Request → Result LibraryCommand ℕ
   command_of rules job (request.Add name source) = with_unit (command.Add name) (built rules job source)
   command_of rules job (request.Replace name source) = with_unit (command.Replace name) (built rules job source)
   command_of rules job (request.Withdraw name) = Ok (command.Withdraw name)
 
   -- the command that a job whose pieces are all there begins, or why it is refused
-  abbrev pub verdict : Rules P → Phase → Units → StoreState → Job P → Result Command Refusal
+  abbrev pub verdict : Rules P → Phase → Units → StoreState → Job P → Result LibraryCommand Refusal
   verdict rules phase library store job = accepted phase library store (command_of rules job job.request)

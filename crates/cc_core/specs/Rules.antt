@@ -1,8 +1,8 @@
 -- What a build does, apart from any code: its rules, when pieces are all of a source's, and when pieces give a unit.
 use Rattle.std.specs.Prelude.{ℕ, ◌≡◌, List, length, slice_get, Some, Result, Ok, All}
 use Rattle.cc_unit.specs.declared.unit.StoredUnit.{StoredUnit}
-use Rattle.cc_library.specs.declared.command.Command.{Command}
-use Rattle.cc_library.specs.declared.command.Command.TheVariants as command
+use Rattle.cc_library.specs.declared.command.LibraryCommand.{LibraryCommand}
+use Rattle.cc_library.specs.declared.command.LibraryCommand.TheVariants as command
 
 -- the rules of a build whose pieces are of the type P
 pub record Rules (P : Type 0) : Type 1 where
@@ -28,7 +28,7 @@ pub record IsBuilt {P : Type 0} (rules : Rules P) (keeps : P → Type 0) (unit :
   pub unit_is : rules.unit unit.source pieces ≡ Ok unit
 
 -- pieces give the unit of a command, where it has one
-abbrev pub HasBuilt : {P : Type 0} → Rules P → (P → Type 0) → Command → Type 0
+abbrev pub HasBuilt : {P : Type 0} → Rules P → (P → Type 0) → LibraryCommand → Type 0
 HasBuilt rules keeps (command.Add name unit) = IsBuilt rules keeps unit
 HasBuilt rules keeps (command.Replace name unit) = IsBuilt rules keeps unit
 HasBuilt rules keeps (command.Withdraw name) = Unit {0}

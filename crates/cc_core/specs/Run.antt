@@ -5,8 +5,8 @@ use Rattle.cc_disk.specs.Model.{IsImage, bytes_of}
 use Rattle.cc_disk.specs.Images.{LeavesAlone, IsWritten}
 use Rattle.cc_journal.specs.Commit.{IsCommitted}
 use Rattle.cc_journal.specs.Format.{HoldsRecords, records, record_bytes}
-use Rattle.cc_library.specs.declared.command.Command.{Command}
-use Rattle.cc_library.specs.declared.command.Command.TheVariants as command
+use Rattle.cc_library.specs.declared.command.LibraryCommand.{LibraryCommand}
+use Rattle.cc_library.specs.declared.command.LibraryCommand.TheVariants as command
 use Rattle.cc_unit.specs.declared.unit.StoredUnit.{StoredUnit}
 use Rattle.cc_library.specs.Apply.{Units, AreAccepted, library_of}
 use Rattle.cc_library.specs.Body.{IsCommand, body_of}
@@ -79,13 +79,13 @@ abbrev pub EachImageIsRight : (StoredUnit → Type 0) → Core → Type 0
 EachImageIsRight is_right s = (image : List ℕ) (library : Units) → IsImage s.store.cells image → Recovers image library → EachUnit is_right library
 
 -- the source of a command's unit, where it has one
-abbrev pub command_source : Command → Option (List ℕ)
+abbrev pub command_source : LibraryCommand → Option (List ℕ)
 command_source (command.Add name unit) = Some unit.source
 command_source (command.Replace name unit) = Some unit.source
 command_source (command.Withdraw name) = None
 
 -- the unit of a command, where it has one, has this property
-abbrev pub IsRightCommand : (StoredUnit → Type 0) → Command → Type 0
+abbrev pub IsRightCommand : (StoredUnit → Type 0) → LibraryCommand → Type 0
 IsRightCommand is_right (command.Add name unit) = is_right unit
 IsRightCommand is_right (command.Replace name unit) = is_right unit
 IsRightCommand is_right (command.Withdraw name) = Unit {0}

@@ -5,7 +5,7 @@ use Rattle.std.specs.FinMap.{FinMap, get, insert, remove, empty}
 use Rattle.cc_disk.specs.Model.{bytes_of}
 use Rattle.cc_journal.specs.Commit.{Commit}
 use Rattle.cc_journal.specs.Format.{HoldsRecords, records, room_of}
-use Rattle.cc_library.specs.declared.command.Command.{Command}
+use Rattle.cc_library.specs.declared.command.LibraryCommand.{LibraryCommand}
 use Rattle.cc_library.specs.Apply.{Units, after, library_of}
 use Rattle.cc_library.specs.Compact.{compacted}
 use Rattle.cc_library.specs.Recovered.{StandFor}
@@ -54,7 +54,7 @@ IsFree (Failed failed) = Unit {0}
 IsFree Crashed = ⊥
 
 -- the commands of an order, without their sequence numbers
-abbrev pub commands : List Numbered → List Command
+abbrev pub commands : List Numbered → List LibraryCommand
 commands order = map (λ numbered. numbered.command) order
 
 -- the longest prefix of the order whose library is this one
@@ -72,11 +72,11 @@ abbrev pub ticked : Core → Core
 ticked old = record old { upcoming = record { value = old.upcoming.value + 1 } }
 
 -- a command is named by the sequence number of its Begin
-abbrev pub numbered_now : Core → Command → Numbered
+abbrev pub numbered_now : Core → LibraryCommand → Numbered
 numbered_now old command = record { number = old.upcoming; command = command }
 
 -- what a beginning comes to: a refusal is the reply; a command goes last in the order, and the write of its body is due
-abbrev pub Begun : Core → ClientId → Result Command Refusal → Option Reply → Core → Type 0
+abbrev pub Begun : Core → ClientId → Result LibraryCommand Refusal → Option Reply → Core → Type 0
 Begun old client (Err refused) reply new = (reply ≡ Some (replies.Refused refused)) × (new ≡ ticked old)
 Begun old client (Ok command) reply new =
     (reply ≡ None) × (new ≡ record (ticked old) { order = old.order ++ numbered_now old command ∷ []; phase = Committing client (numbered_now old command) due.WriteBody })
@@ -234,7 +234,7 @@ module _ {P : Type 0} where
     }
 
   -- a refused job ends at its Begin
-  abbrev pub jobs_begun : FinMap nat_cmp (Job P) → ClientId → Result Command Refusal → FinMap nat_cmp (Job P)
+  abbrev pub jobs_begun : FinMap nat_cmp (Job P) → ClientId → Result LibraryCommand Refusal → FinMap nat_cmp (Job P)
   jobs_begun jobs client (Ok command) = jobs
   jobs_begun jobs client (Err refused) = remove jobs client.number
 

@@ -6,7 +6,7 @@ use Rattle.cc_disk.specs.Model.{Cell, bytes_of, IsImage, written, synced, crashe
 use Rattle.cc_disk.specs.Images.{LeavesAlone}
 use Rattle.cc_journal.specs.Format.{header, IsArea}
 use Rattle.cc_journal.specs.Commit.{Commit, append_commit, area_begin, rewrite_commit}
-use Rattle.cc_library.specs.declared.command.Command.{Command}
+use Rattle.cc_library.specs.declared.command.LibraryCommand.{LibraryCommand}
 use Rattle.cc_library.specs.Apply.{Units}
 use Rattle.cc_library.specs.Body.{body_of}
 use Rattle.cc_library.specs.Compact.{compacted}
@@ -64,12 +64,12 @@ DecidingFails commit old new = (byte : ℕ) × (new ≡ with_cells old (written 
 -- ---- of a command
 
 -- the commit that puts the record of a command behind the last one
-abbrev pub append_of : StoreState → Command → Commit
+abbrev pub append_of : StoreState → LibraryCommand → Commit
 append_of store command = append_commit (gate_of store) (body_of command)
 
 -- the disk after the step that was due: the body and the next gate, closed, are written in one write; they are synced; the
 -- record's own gate is written open; it is synced, and the record is one of the journal's
-abbrev pub stepped : Due → Command → StoreState → StoreState
+abbrev pub stepped : Due → LibraryCommand → StoreState → StoreState
 stepped WriteBody command store = first_written (append_of store command) store
 stepped SyncBody command store = settled_all store
 stepped WriteGate command store = decided (append_of store command) store
@@ -86,7 +86,7 @@ due_after Acknowledge = Acknowledge
 
 -- the step that was due fails: a write leaves any bytes, unsettled, in its range; a sync changes nothing; a reply is no step
 -- of the device
-abbrev pub FailsTo : Due → Command → StoreState → StoreState → Type 0
+abbrev pub FailsTo : Due → LibraryCommand → StoreState → StoreState → Type 0
 FailsTo WriteBody command old new = FirstFails (append_of old command) old new
 FailsTo SyncBody command old new = new ≡ old
 FailsTo WriteGate command old new = DecidingFails (append_of old command) old new

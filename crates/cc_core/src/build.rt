@@ -6,7 +6,7 @@ ghost use Rattle.cc_unit.specs.declared.unit.StoredUnit.{StoredUnit};
 ghost use Rattle.cc_core.specs.Rules.{Rules, AreWhole};
 ghost use Rattle.cc_core.specs.Fault.{RefusesAs, RefusesPlan};
 
-use crate::fault::BuildFault;
+use crate::fault::BuildRefusal;
 use cc_unit::StoredUnit;
 use std::alloc::Global;
 use std::sync::Arc;
@@ -26,7 +26,7 @@ pub trait Build: Drop {
     ghost is_right: { StoredUnit → Type 0 };
 
     /// How many pieces a source has, any bytes; or the number that refuses it.
-    fn plan(&self, alloc: Global, source: &[u8]) -> Result<u32, BuildFault>
+    fn plan(&self, alloc: Global, source: &[u8]) -> Result<u32, BuildRefusal>
         ensures answer { IfOk result (λ pieces. rules.plan source.now (Ok pieces)) }
         ensures refused { IfErr result (λ fault. RefusesPlan fault (rules.plan source.now)) };
 
@@ -41,7 +41,7 @@ pub trait Build: Drop {
         alloc: Global,
         source: &[u8],
         pieces: &[&Self::Piece],
-    ) -> Result<Arc<StoredUnit>, BuildFault>
+    ) -> Result<Arc<StoredUnit>, BuildRefusal>
         ensures answer { IfOk result
             (λ unit. rules.unit source.now (map (λ piece. piece.now) pieces.now) ≡ Ok (arc_value unit)) }
         ensures refused { IfErr result

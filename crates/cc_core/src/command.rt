@@ -5,7 +5,7 @@ ghost use Rattle.std.specs.Prelude.{◌≡◌, IfOk};
 use crate::fault::Refusal;
 use crate::sequence::Sequence;
 use crate::sequence_number::SequenceNumber;
-use cc_library::{Command, Name};
+use cc_library::{LibraryCommand, Name};
 use std::alloc::AllocError;
 
 /// What a client asks for: a name, and for the first two a source, any bytes.
@@ -21,7 +21,7 @@ pub enum Request {
 #[derive(Drop)]
 pub struct Numbered {
     pub number: SequenceNumber,
-    pub command: Command,
+    pub command: LibraryCommand,
 }
 
 impl Numbered {

@@ -17,11 +17,11 @@ use crate::fault::{CoreFault, Refusal};
 use crate::ids::ClientId;
 use crate::store::Store;
 use cc_journal::Commit;
-use cc_library::{Command, body_length, body_of_command};
+use cc_library::{LibraryCommand, body_length, body_of_command};
 use std::alloc::{AllocError, Global};
 
 // The commit that puts the record of a command behind the last one.
-fn append_of(alloc: Global, store: &Store, command: &Command) -> Result<Commit, AllocError>
+fn append_of(alloc: Global, store: &Store, command: &LibraryCommand) -> Result<Commit, AllocError>
     requires { IsFitting store.now command.now }
     ensures commit { IfOk result (λ commit. commit ≡ append_of store.now command.now) }
     ensures within { IfOk result (λ commit. IsWithin commit store.now) }

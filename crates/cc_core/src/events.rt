@@ -20,7 +20,7 @@ use crate::command::{Numbered, Reply, Request};
 use crate::contents::{Contents, Core, Due, Phase};
 use crate::device::{sync_body, sync_gate, write_body, write_gate};
 use crate::event::Event;
-use crate::fault::{BuildFault, CoreFault, Refusal};
+use crate::fault::{BuildRefusal, CoreFault, Refusal};
 use crate::ids::{CallId, ClientId, PartIndex, WorkerId};
 use crate::job::{
     Job, Progress, Work, all_made, all_waiting, are_all_there, least_refused, set_progress,
@@ -28,14 +28,14 @@ use crate::job::{
 use crate::recovery::{crash, recover};
 use crate::rewriting::{fail, rewrite_all, sync_all, sync_area, write_area};
 use crate::sequence::Sequence;
-use cc_library::{Command, SharedUnit, UnitMap, body_length};
+use cc_library::{LibraryCommand, SharedUnit, UnitMap, body_length};
 use std::alloc::{AllocError, Global};
 
 /// What an event answers: a reply or none; 29 where it is not possible, 40 where memory was refused.
 pub(crate) type Answer = Result<Option<Reply>, CoreFault>;
 
 // How many pieces a request has, or the number that refuses it.
-fn plan_of<B: Build>(build: &B, alloc: Global, request: &Request) -> Result<u32, BuildFault>
+fn plan_of<B: Build>(build: &B, alloc: Global, request: &Request) -> Result<u32, BuildRefusal>
     ensures answer { IfOk result (λ pieces. IsPlanned B.rules request.now (Ok pieces)) }
     ensures refused { IfErr result (λ fault. RefusesPlan fault (IsPlanned B.rules request.now)) }
 {
@@ -58,8 +58,8 @@ fn plan_job<B: Build>(
 {
     let (refusal, count) = match plan_of(build, alloc, &request) {
         Ok(count) => (None, count),
-        Err(BuildFault::Refused(number)) => (Some(number), 0),
-        Err(BuildFault::OutOfMemory) => {
+        Err(BuildRefusal::Refused(number)) => (Some(number), 0),
+        Err(BuildRefusal::OutOfMemory) => {
             drop(request);
             return Err(AllocError);
         }
@@ -200,15 +200,15 @@ fn build_unit<B: Build>(
     alloc: Global,
     job: &Job<B::Piece>,
     source: &[u8],
-) -> Result<SharedUnit, BuildFault>
+) -> Result<SharedUnit, BuildRefusal>
     ensures ok { IfOk result (λ unit. built B.rules job.now source.now ≡ Ok unit) }
     ensures err { IfErr result (λ fault. RefusesAs fault (built B.rules job.now source.now)) }
 {
     if let Some(number) = job.refusal {
-        return Err(BuildFault::Refused(number));
+        return Err(BuildRefusal::Refused(number));
     }
     if let Some(number) = least_refused(job.pieces.as_slice()) {
-        return Err(BuildFault::Refused(number));
+        return Err(BuildRefusal::Refused(number));
     }
     let made = all_made(alloc, job.pieces.as_slice())?;
     let unit = build.unit(alloc, source, made.as_slice())?;
@@ -220,7 +220,7 @@ fn make_command<B: Build>(
     build: &B,
     alloc: Global,
     job: &Job<B::Piece>,
-) -> Result<Command, BuildFault>
+) -> Result<LibraryCommand, BuildRefusal>
     ensures ok { IfOk result (λ command. command_of B.rules job.now job.now.request ≡ Ok command) }
     ensures err { IfErr result (λ fault. RefusesAs fault (command_of B.rules job.now job.now.request)) }
 {
@@ -228,28 +228,28 @@ fn make_command<B: Build>(
         Request::Add(name, source) => {
             let name = name.clone()?;
             let unit = build_unit(build, alloc, job, source.as_slice())?;
-            Ok(Command::Add(name, unit))
+            Ok(LibraryCommand::Add(name, unit))
         }
         Request::Replace(name, source) => {
             let name = name.clone()?;
             let unit = build_unit(build, alloc, job, source.as_slice())?;
-            Ok(Command::Replace(name, unit))
+            Ok(LibraryCommand::Replace(name, unit))
         }
-        Request::Withdraw(name) => Ok(Command::Withdraw(name.clone()?)),
+        Request::Withdraw(name) => Ok(LibraryCommand::Withdraw(name.clone()?)),
     }
 }
 
 // Why the map refuses a command, where it does.
-fn map_refusal(library: &UnitMap, command: &Command) -> Option<Refusal>
+fn map_refusal(library: &UnitMap, command: &LibraryCommand) -> Option<Refusal>
     ensures { result ≡ map_refusal library.now command.now }
 {
     match command {
-        Command::Add(name, _) => {
+        LibraryCommand::Add(name, _) => {
             if library.contains(name) {
                 return Some(Refusal::Exists);
             }
         }
-        Command::Replace(name, _) | Command::Withdraw(name) => {
+        LibraryCommand::Replace(name, _) | LibraryCommand::Withdraw(name) => {
             if !library.contains(name) {
                 return Some(Refusal::Absent);
             }
@@ -260,7 +260,7 @@ fn map_refusal(library: &UnitMap, command: &Command) -> Option<Refusal>
 
 // Why a command is refused, where it is: 36, then 31 or 32, then 34. The length of its body is enough, so no body is made
 // that has no room.
-fn refusal_of(core: &Core, command: &Command) -> Option<Refusal>
+fn refusal_of(core: &Core, command: &LibraryCommand) -> Option<Refusal>
     ensures refusal { result ≡ command_refusal core.now.phase core.now.library core.now.store command.now }
     ensures spelled { result ≡ None → IsCommand command.now }
 {
@@ -285,14 +285,14 @@ fn decide<B: Build>(
     alloc: Global,
     core: &Core,
     job: &Job<B::Piece>,
-) -> Result<Result<Command, Refusal>, AllocError>
+) -> Result<Result<LibraryCommand, Refusal>, AllocError>
     ensures verdict { IfOk result (λ decided. decided ≡ verdict B.rules core.now.phase core.now.library core.now.store job.now) }
     ensures command { IfOk result (λ decided. IfOk decided (λ command. IsCommand command)) }
 {
     let command = match make_command(build, alloc, job) {
         Ok(command) => command,
-        Err(BuildFault::Refused(number)) => return Ok(Err(Refusal::Build(number))),
-        Err(BuildFault::OutOfMemory) => return Err(AllocError),
+        Err(BuildRefusal::Refused(number)) => return Ok(Err(Refusal::Build(number))),
+        Err(BuildRefusal::OutOfMemory) => return Err(AllocError),
     };
     match refusal_of(core, &command) {
         None => Ok(Ok(command)),
@@ -304,7 +304,7 @@ fn decide<B: Build>(
 }
 
 // Puts a command last in the order, in commit for this client.
-fn put_in_order(core: &mut Core, client: ClientId, command: Command) -> Result<(), AllocError>
+fn put_in_order(core: &mut Core, client: ClientId, command: LibraryCommand) -> Result<(), AllocError>
     ensures answer { OnOk result (Begun core.old client (Ok command) None core.new) }
     ensures leaves { OnErr result (core.new ≡ core.old) }
 {

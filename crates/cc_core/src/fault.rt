@@ -83,7 +83,7 @@ impl Refusal {
 
 /// Why a build gives no answer, or no unit.
 #[derive(Debug, Drop, Error)]
-pub enum BuildFault {
+pub enum BuildRefusal {
     /// That number: the source or its pieces are refused with it.
     #[error("Refused")]
     Refused(u32),
@@ -92,7 +92,7 @@ pub enum BuildFault {
     OutOfMemory,
 }
 
-impl BuildFault {
+impl BuildRefusal {
     ghost use Rattle.cc_core.specs.Fault.{build_fault_number};
 
     /// The number that refuses, or 40 where memory ran out.
@@ -100,18 +100,18 @@ impl BuildFault {
         ensures { result ≡ build_fault_number self.now }
     {
         match self {
-            BuildFault::Refused(number) => *number,
-            BuildFault::OutOfMemory => 40,
+            BuildRefusal::Refused(number) => *number,
+            BuildRefusal::OutOfMemory => 40,
         }
     }
 }
 
-impl From<AllocError> for BuildFault {
-    ghost use Rattle.cc_core.specs.declared.fault.BuildFault.TheVariants as build;
+impl From<AllocError> for BuildRefusal {
+    ghost use Rattle.cc_core.specs.declared.fault.BuildRefusal.TheVariants as build;
 
     ghost from_gives = { λ _ fault. fault ≡ build.OutOfMemory };
 
-    fn from(_error: AllocError) -> BuildFault {
-        BuildFault::OutOfMemory
+    fn from(_error: AllocError) -> BuildRefusal {
+        BuildRefusal::OutOfMemory
     }
 }

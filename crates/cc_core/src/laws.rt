@@ -2,7 +2,7 @@
 ghost use Rattle.std.specs.Prelude.{◌≡◌, ◌++◌, ℕ, Option, None, Some, List};
 ghost use Rattle.std.specs.FinMap.{get, empty};
 ghost use Rattle.cc_library.specs.Apply.{Units, after};
-ghost use Rattle.cc_library.specs.declared.command.Command.{Command};
+ghost use Rattle.cc_library.specs.declared.command.LibraryCommand.{LibraryCommand};
 ghost use Rattle.cc_core.specs.declared.contents.Contents.{Contents};
 ghost use Rattle.cc_core.specs.declared.event.Event.{Event};
 ghost use Rattle.cc_core.specs.declared.command.Numbered.{Numbered};
@@ -60,9 +60,9 @@ pub fn crash_law<B: Build>()
 /// What a command leaves of the units of a map. Where each is right, or each is right or found in a base, and so is the unit of the
 /// command, each is so after the command. The empty map has none.
 pub fn units_law<B: Build>()
-    ensures right { (library : Units) (command : Command)
+    ensures right { (library : Units) (command : LibraryCommand)
         → EachUnit B.is_right library → IsRightCommand B.is_right command → EachUnit B.is_right (after library command) }
-    ensures found { (base library : Units) (command : Command)
+    ensures found { (base library : Units) (command : LibraryCommand)
         → EachUnit (IsRightOr B.is_right base) library → IsRightCommand (IsRightOr B.is_right base) command → EachUnit (IsRightOr B.is_right base) (after library command) }
     ensures none { EachUnit B.is_right empty }
 {}
@@ -80,7 +80,7 @@ pub fn turn_law<B: Build>()
         → Step B.rules old event reply new → IsNoSubmit event → (k : ℕ) → get old.jobs k ≡ None → get new.jobs k ≡ None }
     ensures no_work { (old new : Contents B.Piece) (event : Event B.Piece) (reply : Option Reply)
         → Step B.rules old event reply new → IsNoTake event → (k : ℕ) → get old.workers k ≡ None → get new.workers k ≡ None }
-    ensures ready { (old : Contents B.Piece) (client : ClientId) (worker : WorkerId) (command : Command)
+    ensures ready { (old : Contents B.Piece) (client : ClientId) (worker : WorkerId) (command : LibraryCommand)
         → IsUp old.core.phase → get old.jobs client.number ≡ None → get old.workers worker.number ≡ None
         → HasBuilt B.rules B.keeps command → CanBeReady B.rules B.keeps old client worker command }
 {}

@@ -16,7 +16,7 @@ use crate::events::Answer;
 use crate::fault::CoreFault;
 use crate::sequence::Sequence;
 use crate::table::Table;
-use cc_library::{Command, UnitMap};
+use cc_library::{LibraryCommand, UnitMap};
 use std::alloc::Global;
 
 // The disk crashes; the live map is gone.
@@ -48,15 +48,15 @@ pub(crate) fn crash<P: Drop>(
 }
 
 // Whether the map is as the command leaves it.
-fn is_in_effect(library: &UnitMap, command: &Command) -> bool
+fn is_in_effect(library: &UnitMap, command: &LibraryCommand) -> bool
     ensures { IsTrue result ↔ IsInEffect library.now command.now }
 {
     match command {
-        Command::Add(name, unit) | Command::Replace(name, unit) => match library.get(name) {
+        LibraryCommand::Add(name, unit) | LibraryCommand::Replace(name, unit) => match library.get(name) {
             Some(there) => there.is_same(unit.stored()),
             None => false,
         },
-        Command::Withdraw(name) => library.get(name).is_none(),
+        LibraryCommand::Withdraw(name) => library.get(name).is_none(),
     }
 }
 

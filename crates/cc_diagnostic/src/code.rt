@@ -14,7 +14,7 @@ pub struct Element<'a> {
 
 /// A binary operator, the offset of its token where it can go wrong, the type in which it works, and that of its right operand.
 #[derive(Clone, Copy)]
-pub struct Operation {
+pub struct TypedOperator {
     pub operator: BinaryOperator,
     pub at: usize,
     pub working: Scalar,
@@ -44,7 +44,7 @@ pub enum Instruction<'a> {
     SetElement(Element<'a>),
     Unary(UnaryOperation),
     /// Replaces two words, the left one below the right one, by one.
-    Binary(Operation),
+    Binary(TypedOperator),
     /// Takes a word away.
     Drop,
     /// Replaces a word by 1, and 0 stays.
@@ -81,12 +81,12 @@ pub struct Function<'a> {
 /// What a unit becomes: the instructions of its functions one behind the other, and its functions in the order of their first
 /// declarations.
 #[derive(Drop)]
-pub struct Code<'a> {
+pub struct Bytecode<'a> {
     pub instructions: Vec<Instruction<'a>>,
     pub functions: Vec<Function<'a>>,
 }
 
-impl<'a> Code<'a> {
+impl<'a> Bytecode<'a> {
     /// The number of the function of a name.
     pub fn function(&self, name: &[u8]) -> Option<usize> {
         self.functions

@@ -2,7 +2,7 @@
 //
 // The reason is read off its tokens: the first name decides.
 
-use cc_tokens::{Next, Token, TokenKind, next_token};
+use cc_tokens::{NextToken, Token, TokenKind, next_token};
 
 /// Why a constant expression is none.
 #[derive(Clone, Copy)]
@@ -18,8 +18,8 @@ pub enum Cause {
 // The token at an offset or behind it.
 fn token_at(text: &[u8], at: usize) -> Option<Token> {
     match next_token(text, at.min(text.len())) {
-        Next::Token(token) => Some(token),
-        Next::End | Next::Error(_, _) => None,
+        NextToken::Token(token) => Some(token),
+        NextToken::End | NextToken::Error(_, _) => None,
     }
 }
 

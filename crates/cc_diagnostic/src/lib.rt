@@ -23,8 +23,8 @@ mod typing;
 mod walk;
 mod warning;
 
-pub use cc_syntax_diagnostic::{Diagnostic, Part, Related, message, near_name, of_name, of_syntax};
-pub use code::{Code, Element, Function, Instruction, Operation};
+pub use cc_syntax_diagnostic::{Diagnostic, MessagePart, Related, message, near_name, of_name, of_syntax};
+pub use code::{Bytecode, Element, Function, Instruction, TypedOperator};
 pub use further::further_of_typing;
 pub use typing::of_typing;
 pub use walk::code_of;

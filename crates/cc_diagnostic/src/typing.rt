@@ -9,7 +9,7 @@ use super::names::Standing;
 use super::walk::{Note, Use, Walk};
 use cc_syntax::{Object, Signature, Unit, parse};
 use cc_syntax_diagnostic::{
-    Diagnostic, Part, Related, message, near_keyword, offset_in, said_of_foreign, words,
+    Diagnostic, MessagePart, Related, message, near_keyword, offset_in, said_of_foreign, words,
 };
 use cc_tokens::{Place, SyntaxFault, place_at};
 use cc_types::{
@@ -45,15 +45,15 @@ fn place_in(text: &[u8], at: usize) -> Place {
 }
 
 impl<'a> View<'a> {
-    fn word(&self) -> Part<'a> {
-        Part::Token(self.word)
+    fn word(&self) -> MessagePart<'a> {
+        MessagePart::Token(self.word)
     }
 
     // The name of the function in which the fault is.
-    fn function(&self) -> Part<'a> {
+    fn function(&self) -> MessagePart<'a> {
         match self.inside {
-            Some(signature) => Part::Token(signature.name.bytes.as_slice()),
-            None => Part::Words("a function"),
+            Some(signature) => MessagePart::Token(signature.name.bytes.as_slice()),
+            None => MessagePart::Words("a function"),
         }
     }
 
@@ -67,13 +67,13 @@ impl<'a> View<'a> {
 
     // The word, what is said of it, and a place.
     fn with_place(&self, alloc: Global, said: &'a str, at: usize) -> Result<String, AllocError> {
-        let place = Part::Place(place_in(self.text, at));
-        message(alloc, &[self.word(), Part::Words(said), place])
+        let place = MessagePart::Place(place_in(self.text, at));
+        message(alloc, &[self.word(), MessagePart::Words(said), place])
     }
 
     // The word, and what is said of it.
     fn with(&self, alloc: Global, said: &'a str) -> Result<String, AllocError> {
-        message(alloc, &[self.word(), Part::Words(said)])
+        message(alloc, &[self.word(), MessagePart::Words(said)])
     }
 }
 
@@ -108,9 +108,9 @@ fn no_constant(alloc: Global, view: &View<'_>) -> Result<String, AllocError> {
             return words(alloc, told);
         }
     };
-    let name = Part::Token(view.text.get(from..to).unwrap_or(b""));
-    let told = Part::Words("this is no constant expression: ");
-    message(alloc, &[told, Part::Words(said), name])
+    let name = MessagePart::Token(view.text.get(from..to).unwrap_or(b""));
+    let told = MessagePart::Words("this is no constant expression: ");
+    message(alloc, &[told, MessagePart::Words(said), name])
 }
 
 // A name that is no name for what is done with it, or a constant expression that is none.
@@ -118,13 +118,13 @@ fn misused(alloc: Global, view: &View<'_>) -> Result<String, AllocError> {
     let (Some(done), Some(standing)) = (view.done, view.standing) else {
         return no_constant(alloc, view);
     };
-    let kind = Part::Words(kind(standing));
-    let not_done = Part::Words(not_done(done));
+    let kind = MessagePart::Words(kind(standing));
+    let not_done = MessagePart::Words(not_done(done));
     match standing.at {
         None => message(alloc, &[view.word(), kind, not_done]),
         Some(at) => {
-            let declared = Part::Words(", declared at ");
-            let place = Part::Place(place_in(view.text, at));
+            let declared = MessagePart::Words(", declared at ");
+            let place = MessagePart::Place(place_in(view.text, at));
             message(
                 alloc,
                 &[
@@ -132,7 +132,7 @@ fn misused(alloc: Global, view: &View<'_>) -> Result<String, AllocError> {
                     kind,
                     declared,
                     place,
-                    Part::Words(","),
+                    MessagePart::Words(","),
                     not_done,
                 ],
             )
@@ -142,9 +142,9 @@ fn misused(alloc: Global, view: &View<'_>) -> Result<String, AllocError> {
 
 // A name that is declared nowhere: what is said of it, or what could be meant.
 fn not_declared(alloc: Global, view: &View<'_>) -> Result<String, AllocError> {
-    let what = Part::Words(" is not declared");
+    let what = MessagePart::Words(" is not declared");
     if let Some(said) = said_of_foreign(view.word) {
-        let parts = [view.word(), what, Part::Words(": "), Part::Words(said)];
+        let parts = [view.word(), what, MessagePart::Words(": "), MessagePart::Words(said)];
         return message(alloc, &parts);
     }
     let near = match near_keyword(view.word) {
@@ -153,15 +153,15 @@ fn not_declared(alloc: Global, view: &View<'_>) -> Result<String, AllocError> {
     };
     match near {
         Some(name) => {
-            let asked = Part::Words(": did you mean ");
+            let asked = MessagePart::Words(": did you mean ");
             message(
                 alloc,
                 &[
                     view.word(),
                     what,
                     asked,
-                    Part::Token(name),
-                    Part::Words("?"),
+                    MessagePart::Token(name),
+                    MessagePart::Words("?"),
                 ],
             )
         }
@@ -211,9 +211,9 @@ fn built_in(alloc: Global, view: &View<'_>, declared: &'static str) -> Result<St
         alloc,
         &[
             view.word(),
-            Part::Words(" is built in, as "),
-            Part::Words(declared),
-            Part::Words(refused),
+            MessagePart::Words(" is built in, as "),
+            MessagePart::Words(declared),
+            MessagePart::Words(refused),
         ],
     )
 }
@@ -228,14 +228,14 @@ fn is_object(view: &View<'_>) -> bool {
 
 // A second declaration of an object, a parameter or a local that was declared at an offset.
 fn already_declared(alloc: Global, view: &View<'_>, at: usize) -> Result<String, AllocError> {
-    let place = Part::Place(place_in(view.text, at));
+    let place = MessagePart::Place(place_in(view.text, at));
     let more = if is_object(view) {
         ": there are no tentative definitions in this C; declare it once"
     } else {
         ""
     };
-    let what = Part::Words(" is already declared at ");
-    message(alloc, &[view.word(), what, place, Part::Words(more)])
+    let what = MessagePart::Words(" is already declared at ");
+    message(alloc, &[view.word(), what, place, MessagePart::Words(more)])
 }
 
 fn redeclared(alloc: Global, view: &View<'_>) -> Result<String, AllocError> {
@@ -278,12 +278,12 @@ fn wrong_length(alloc: Global, view: &View<'_>, object: &Object) -> Result<Strin
     if count == 0 {
         return view.with(alloc, " has a length below 1");
     }
-    let given = Part::Count(values.len());
-    let count = Part::Count(count);
-    let for_length = Part::Words(" initialisers for its length of ");
+    let given = MessagePart::Count(values.len());
+    let count = MessagePart::Count(count);
+    let for_length = MessagePart::Words(" initialisers for its length of ");
     message(
         alloc,
-        &[view.word(), Part::Words(" has "), given, for_length, count],
+        &[view.word(), MessagePart::Words(" has "), given, for_length, count],
     )
 }
 
@@ -303,11 +303,11 @@ fn wrong_call(
         alloc,
         &[
             view.word(),
-            Part::Words(" takes "),
-            Part::Count(taken),
-            Part::Words(arguments),
-            Part::Count(given),
-            Part::Words(" given"),
+            MessagePart::Words(" takes "),
+            MessagePart::Count(taken),
+            MessagePart::Words(arguments),
+            MessagePart::Count(given),
+            MessagePart::Words(" given"),
         ],
     )
 }
@@ -332,16 +332,16 @@ fn bad_return(alloc: Global, view: &View<'_>) -> Result<String, AllocError> {
         Some(Use::Returned(true)) => " is void and cannot return a value",
         _ => " has to return a value",
     };
-    message(alloc, &[view.function(), Part::Words(told)])
+    message(alloc, &[view.function(), MessagePart::Words(told)])
 }
 
 fn no_main(alloc: Global, view: &View<'_>) -> Result<String, AllocError> {
     match first_of(view.declarations, b"main") {
         None => words(alloc, "there is no int main(void)"),
         Some(declaration) => {
-            let place = Part::Place(place_in(view.text, declaration.name.at));
-            let told = Part::Words(" is no definition of int main(void)");
-            message(alloc, &[Part::Words("'main' at "), place, told])
+            let place = MessagePart::Place(place_in(view.text, declaration.name.at));
+            let told = MessagePart::Words(" is no definition of int main(void)");
+            message(alloc, &[MessagePart::Words("'main' at "), place, told])
         }
     }
 }

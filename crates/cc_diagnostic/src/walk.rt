@@ -11,7 +11,7 @@ mod expressions;
 mod statements;
 mod units;
 
-use super::code::{Code, Element, Function, Instruction};
+use super::code::{Bytecode, Element, Function, Instruction};
 use super::names::{Names, Standing};
 use super::operators::operators;
 use super::warning::Warning;
@@ -214,10 +214,10 @@ fn written<'a>(
     alloc: Global,
     unit: &'a Unit,
     operators: Vec<usize>,
-) -> Result<Code<'a>, AllocError> {
+) -> Result<Bytecode<'a>, AllocError> {
     let mut walk = Walk::new(alloc, operators, None)?;
     let walked = walk.externals(unit.externals());
-    let code = Code {
+    let code = Bytecode {
         instructions: replace(&mut walk.code, Vec::new(alloc)),
         functions: replace(&mut walk.functions, Vec::new(alloc)),
     };
@@ -234,7 +234,7 @@ fn written<'a>(
 /// What the tree of a unit becomes to be run once more. Nothing for a text without tokens, which no unit has.
 ///
 /// `AllocError` where memory for it runs out.
-pub fn code_of(alloc: Global, unit: &Unit) -> Result<Option<Code<'_>>, AllocError> {
+pub fn code_of(alloc: Global, unit: &Unit) -> Result<Option<Bytecode<'_>>, AllocError> {
     match operators(alloc, unit.text())? {
         Some(operators) => Ok(Some(written(alloc, unit, operators)?)),
         None => Ok(None),

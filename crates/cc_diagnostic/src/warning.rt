@@ -5,8 +5,8 @@
 use super::code::Element;
 use super::walk::Walk;
 use cc_syntax::{Identifier, SyntaxFault, Unit, parse};
-use cc_syntax_diagnostic::{Diagnostic, Part, message};
-use cc_tokens::{Next, Token, next_token};
+use cc_syntax_diagnostic::{Diagnostic, MessagePart, message};
+use cc_tokens::{NextToken, Token, next_token};
 use std::alloc::{AllocError, Global};
 
 /// How many warnings are told at most.
@@ -26,8 +26,8 @@ pub enum Warning<'a> {
 // The token at an offset or behind it.
 fn token_at(text: &[u8], at: usize) -> Option<Token> {
     match next_token(text, at.min(text.len())) {
-        Next::Token(token) => Some(token),
-        Next::End | Next::Error(_, _) => None,
+        NextToken::Token(token) => Some(token),
+        NextToken::End | NextToken::Error(_, _) => None,
     }
 }
 
@@ -60,9 +60,9 @@ fn end_of_body(text: &[u8], at: usize) -> usize {
 
 fn no_return(alloc: Global, text: &[u8], name: &Identifier) -> Result<Diagnostic, AllocError> {
     let parts = [
-        Part::Words("warning: "),
-        Part::Token(name.bytes.as_slice()),
-        Part::Words(" has no return at its end, and gives 0 there"),
+        MessagePart::Words("warning: "),
+        MessagePart::Token(name.bytes.as_slice()),
+        MessagePart::Words(" has no return at its end, and gives 0 there"),
     ];
     let message = message(alloc, &parts)?;
     Ok(Diagnostic {
@@ -74,13 +74,13 @@ fn no_return(alloc: Global, text: &[u8], name: &Identifier) -> Result<Diagnostic
 
 fn index(alloc: Global, element: Element<'_>, word: u32) -> Result<Diagnostic, AllocError> {
     let parts = [
-        Part::Words("warning: index "),
-        Part::Word(element.index, word),
-        Part::Words(" is outside "),
-        Part::Name(element.array.bytes.as_slice()),
-        Part::Words("["),
-        Part::Count(element.extent.length),
-        Part::Words("]"),
+        MessagePart::Words("warning: index "),
+        MessagePart::Word(element.index, word),
+        MessagePart::Words(" is outside "),
+        MessagePart::Name(element.array.bytes.as_slice()),
+        MessagePart::Words("["),
+        MessagePart::Count(element.extent.length),
+        MessagePart::Words("]"),
     ];
     let message = message(alloc, &parts)?;
     Ok(Diagnostic {

@@ -12,7 +12,7 @@ use Rattle.cc_types.specs.Scope as scope
 use Rattle.cc_types.specs.Scope.{Binding, Visible, in_scope, opened, declared, scope_behind, scope_behind_beginning}
 use Rattle.cc_types.specs.Types.{value_type, target_type}
 use Rattle.cc_c_laws.specs.declared.cause.Cause.TheVariants.{Index, Depth}
-use Rattle.cc_c_laws.specs.Meaning.{Global, State, Run, Gives, Going, Wrong, Flow, Falls, Breaks, Continues, Returns, then_do, choose, Calls, words_of, with_local_word, with_element, local_word, variable_word, stored, read_element, write_element, given, unless_decided, evaluate, evaluate_all, evaluate_or, Destination, ToVariable, ToElement, destination, old_value, write, new_value, perform, perform_optional, spend_of, spend, behind_flow, behind_body, begin_body, turns, with_local, declare, start, left_scope, in_block, execute, execute_all, Function, functions, function_named, bound, result_of, run_optional, read_input, most_open, calls, outcome_of, initial_globals, source_behavior}
+use Rattle.cc_c_laws.specs.Meaning.{Global, State, Run, Gives, Going, Wrong, Flow, Falls, Breaks, Continues, Returns, then_do, choose, Calls, global_words, with_local_word, with_element, local_word, variable_word, stored, read_element, write_element, given, unless_decided, evaluate, evaluate_all, evaluate_or, Destination, ToVariable, ToElement, destination, old_value, write, new_value, perform, perform_optional, spend_of, spend, behind_flow, behind_body, begin_body, turns, with_local, declare, start, left_scope, in_block, execute, execute_all, Function, functions, function_named, bound, result_of, run_optional, read_input, most_open, calls, outcome_of, initial_globals, source_behavior}
 use Rattle.cc_earlier.specs.Texts.{ArePlain, EarlierGlobal, earlier_with_element, earlier_global, AreOfWords, EarlierMeaningStays}
 use Rattle.cc_earlier.specs.Meaning as earlier
 
@@ -118,7 +118,7 @@ module _ (stays : EarlierMeaningStays) where
   does_read : (x : List ℕ) (i : ℕ) → Does (read_element x i) (earlier.read_element x i)
   does_read x i = λ s are.
       subst (λ (ws : List ℕ). Same (read_element x i s) (elim (slice_get ws i) [ None ↦ earlier.Wrong Index s.output | Some w ↦ earlier.Gives w (before s) ]))
-      (stays.reads s.globals x) (read_by (slice_get (words_of s.globals x) i) s are)
+      (stays.reads s.globals x) (read_by (slice_get (global_words s.globals x) i) s are)
 
   does_store : (x : List ℕ) (w : ℕ) → Does (λ s. Gives Falls (stored x w s)) (λ s. earlier.Gives Falls (earlier.stored x w s))
   does_store x w = λ s are.
@@ -131,7 +131,7 @@ module _ (stays : EarlierMeaningStays) where
       let q = stays.writes x i w s.globals are in
       let hs = earlier_with_element x i w (map earlier_global s.globals) in
       subst (λ (ws : List ℕ). Same (write_element x i w s) (if nat_lt i (length ws) then earlier.Gives Falls (record (before s) { globals = hs }) else earlier.Wrong Index s.output))
-      (stays.reads s.globals x) (write_by (nat_lt i (length (words_of s.globals x))) (with_element x i w s.globals) hs s q.0 q.1)
+      (stays.reads s.globals x) (write_by (nat_lt i (length (global_words s.globals x))) (with_element x i w s.globals) hs s q.0 q.1)
 
   does_old : (d : Destination) → Does (old_value d) (earlier.old_value d)
   does_old (ToVariable x) = does_variable x

@@ -16,9 +16,9 @@ use Rattle.cc_types.specs.Types.{array_length, object_width, object_words, initi
 use Rattle.cc_types.specs.Rules.{object_errors, objects_errors, external_errors, externals_errors}
 use Rattle.cc_types.specs.Limits.{most_words, most_functions, too_many, past, function_names, objects, object_name, word_excesses, externals_excesses}
 use Rattle.cc_types.specs.declared.rule.RuleError.{RuleError}
-use Rattle.cc_c_laws.specs.Meaning.{Global, words_of, with_element, initial_global}
+use Rattle.cc_c_laws.specs.Meaning.{Global, global_words, with_element, initial_global}
 use Rattle.cc_c_laws.specs.Function.{Shared, Effect, Answer, Answers, Unfinished, Failed, call_function, body_of_function}
-use Rattle.cc_c_laws.specs.Calls.{Size, sizes, KeepsObjects}
+use Rattle.cc_c_laws.specs.Calls.{NamedSize, sizes, KeepsObjects}
 use Rattle.cc_c_laws.proofs.Kept.{calls_keep_objects, bodies_keep_objects}
 use Rattle.cc_earlier.specs.Texts.{HasNoChar, IsNoByteArray, IsPlain, ArePlain, EarlierObject, EarlierExternal, EarlierExternals, EarlierUnit, EarlierTreesStay, NoTreeIsNew, earlier_object_errors, earlier_objects_errors, earlier_external_errors, earlier_externals_errors, earlier_object_words, earlier_word_excesses, EarlierRulesStay, EarlierGlobal, earlier_words_of, earlier_with_element, earlier_initial_words, earlier_global, AreOfWords, StayOfWords, EarlierMeaningStays}
 
@@ -193,7 +193,7 @@ begin_same (o ∷ rest) h =
     ap (λ ws. record { name = (object_name o).text; words = ws } ∷ map earlier_global (map initial_global rest)) (same_begin o h.0).1
     ∙ ap (λ (l : List EarlierGlobal). record { name = (object_name o).text; words = earlier_initial_words o } ∷ l) (begin_same rest h.1)
 
-read_same : (gs : List Global) (x : List ℕ) → words_of gs x ≡ earlier_words_of (map earlier_global gs) x
+read_same : (gs : List Global) (x : List ℕ) → global_words gs x ≡ earlier_words_of (map earlier_global gs) x
 read_same [] x = refl
 read_same (g ∷ rest) x = ap (λ (ws : List ℕ). if same_name g.name x then g.words else ws) (read_same rest x)
 
@@ -219,15 +219,15 @@ write_same x i w [] h = refl
 write_same x i w (g ∷ rest) h = written_same x i w g rest (same_name g.name x) h.0 (write_same x i w rest h.1)
 
 -- objects of the same sizes are of words together
-abbrev first_width : List Size → Width
+abbrev first_width : List NamedSize → Width
 first_width [] = Word
 first_width (z ∷ zs) = z.width
 
-abbrev other_sizes : List Size → List Size
+abbrev other_sizes : List NamedSize → List NamedSize
 other_sizes [] = []
 other_sizes (z ∷ zs) = zs
 
-abbrev is_empty : List Size → Bool
+abbrev is_empty : List NamedSize → Bool
 is_empty [] = true
 is_empty (z ∷ zs) = false
 

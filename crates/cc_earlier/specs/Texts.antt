@@ -22,7 +22,7 @@ use Rattle.cc_types.specs.Rules.{broken_if, optional_constant_errors, constants_
 use Rattle.cc_types.specs.Limits.{most_words, most_functions, too_many, past, function_names, objects, object_name, externals_excesses, excesses}
 use Rattle.cc_types.specs.declared.rule.RuleError.{RuleError}
 use Rattle.cc_types.specs.declared.rule.Rule.TheVariants.{Redeclared}
-use Rattle.cc_c_laws.specs.Meaning.{Global, words_of, with_element, initial_globals}
+use Rattle.cc_c_laws.specs.Meaning.{Global, global_words, with_element, initial_globals}
 use Rattle.cc_c_laws.specs.Function.{Shared, Effect, Answer, Answers, Unfinished, Failed, call_function, body_of_function}
 
 -- ---- earlier texts
@@ -183,7 +183,7 @@ StayOfWords (Failed cause output) = Unit {0}
 -- a tree of before begins with objects of words, a write leaves them so, and so does each call and each body
 pub record EarlierMeaningStays : Type 0 where
   pub begins : (tree : List External) → ArePlain tree → AreOfWords (initial_globals tree) × (map earlier_global (initial_globals tree) ≡ earlier_initial_globals tree)
-  pub reads : (gs : List Global) (x : List ℕ) → words_of gs x ≡ earlier_words_of (map earlier_global gs) x
+  pub reads : (gs : List Global) (x : List ℕ) → global_words gs x ≡ earlier_words_of (map earlier_global gs) x
   pub writes : (x : List ℕ) (i w : ℕ) (gs : List Global) → AreOfWords gs
       → AreOfWords (with_element x i w gs) × (map earlier_global (with_element x i w gs) ≡ earlier_with_element x i w (map earlier_global gs))
   pub calls : (unit : List External) (n opened f : ℕ) (ws : List ℕ) (h : Shared) → AreOfWords h.globals → StayOfWords (call_function unit n opened f ws h)

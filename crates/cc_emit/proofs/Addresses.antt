@@ -109,7 +109,7 @@ before_summed (s ∷ sizes) zero = refl
 before_summed (s ∷ sizes) (suc g) = ap (λ n. size_words s + n) (before_summed sizes g)
 
 -- how many words a size takes
-abbrev filled : calls.Size → ℕ
+abbrev filled : calls.NamedSize → ℕ
 filled z = words_of z.width z.elements
 
 words_mapped : (gs : List Global) → map size_words (map size_of (objects_of gs)) ≡ map filled (sizes gs)

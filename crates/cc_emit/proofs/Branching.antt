@@ -7,8 +7,8 @@ use Rattle.cc_words.specs.Operators.{apply_binary}
 use Rattle.cc_words.specs.declared.operators.Binary as binary
 use Rattle.cc_words.specs.declared.operators.Binary.TheVariants.{Eq, Ne, LtS, LtU, LeS, LeU}
 use Rattle.cc_words.proofs.Laws.{is_zero-lt_u, le_s-lt_s, le_u-lt_u}
-use Rattle.cc_rv32.specs.declared.instr.Operation as machine
-use Rattle.cc_rv32.specs.declared.instr.Operation.TheVariants as operation
+use Rattle.cc_rv32.specs.declared.instr.RegisterOperation.{RegisterOperation}
+use Rattle.cc_rv32.specs.declared.instr.RegisterOperation.TheVariants as operation
 use Rattle.cc_rv32.specs.declared.instr.ImmediateOperation.{ImmediateOperation}
 use Rattle.cc_rv32.specs.declared.instr.ImmediateOperation.TheVariants.{Slti, Sltiu}
 use Rattle.cc_rv32.specs.declared.instr.BranchOperation.{BranchOperation}
@@ -125,7 +125,7 @@ immediate_tells Slti n a g c z w e = slti_tells (n == 0) (n == 1) n a g c z w re
 immediate_tells Sltiu n a g c z w e = sltiu_tells (n == 1) n a g c z refl e
 immediate_tells _ n a g c z w e = none_some c e
 
-operation_tells : (i : machine.Operation) (a : ℕ) (g : ℕ → ℕ) (c : Condition) → g 0 ≡ 0 → operation_on_zero i a ≡ Some c → Tells c g (computed i 0 (g a))
+operation_tells : (i : RegisterOperation) (a : ℕ) (g : ℕ → ℕ) (c : Condition) → g 0 ≡ 0 → operation_on_zero i a ≡ Some c → Tells c g (computed i 0 (g a))
 operation_tells operation.Slt a g c z e =
     subst (λ d. Tells d g (lt_s 0 (g a))) (some (compares Blt 0 a) c e) (ap (λ m. int_lt (signed_value m) (signed_value (g a))) z ∙ sym (truth_told (int_lt (signed_value 0) (signed_value (g a)))))
 operation_tells operation.Sltu a g c z e = subst (λ d. Tells d g (lt_u 0 (g a))) (some (compares Bne a 0) c e) (ap (λ m. not (g a == m)) z ∙ sym (nonzero_told (g a)))

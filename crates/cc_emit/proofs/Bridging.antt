@@ -6,8 +6,8 @@ use Rattle.std.specs.List.{AllByRecursion}
 use Rattle.std.proofs.lemmas.List.{drop_more, drop_all}
 use Rattle.std.proofs.lemmas.Bool.{lt-ltb}
 use Rattle.std.proofs.lemmas.Bool.Decides.{nat_tests, leb_tells}
-use Rattle.cc_linear_language.specs.declared.item.Item as linear
-use Rattle.cc_linear_language.specs.declared.item.Item.TheVariants.{Jump, IfNonzero, IfZero}
+use Rattle.cc_linear_language.specs.declared.item.LinearItem.{LinearItem}
+use Rattle.cc_linear_language.specs.declared.item.LinearItem.TheVariants.{Jump, IfNonzero, IfZero}
 use Rattle.cc_linear_language.specs.Linear.{IsItem}
 use Rattle.cc_rv32.specs.declared.instr.BranchOperation.TheVariants.{Beq, Bne}
 use Rattle.cc_select.specs.declared.step.Step.{Step}
@@ -16,8 +16,8 @@ use Rattle.cc_select.specs.Selected.{IsStep}
 use Rattle.cc_emit.specs.declared.condition.Condition.{Condition}
 use Rattle.cc_emit.specs.declared.recipe.WordRecipe.{WordRecipe}
 use Rattle.cc_emit.specs.Branches.{compares, turned, comparison, against_zero}
-use Rattle.cc_emit.specs.declared.item.Item.{Item}
-use Rattle.cc_emit.specs.declared.item.Item.TheVariants.{Go}
+use Rattle.cc_emit.specs.declared.item.PieceItem.{PieceItem}
+use Rattle.cc_emit.specs.declared.item.PieceItem.TheVariants.{Go}
 use Rattle.cc_emit.specs.declared.addressed.Addressed.{Addressed}
 use Rattle.cc_emit.specs.declared.addressed.Remembered.{Remembered}
 use Rattle.cc_emit.specs.declared.scratch.Scratch.{Scratch}
@@ -146,7 +146,7 @@ place_within f all first second end l p leads lt = let long = p.of_second.long i
 
 -- ---- the items so far
 
-pub record Emitting (base : ℕ → ℕ) (f : Frame) (all : List Addressed) (index here : ℕ) (items : List Item) : Type 0 where
+pub record Emitting (base : ℕ → ℕ) (f : Frame) (all : List Addressed) (index here : ℕ) (items : List PieceItem) : Type 0 where
   pub long : ℕ
   pub sum : long + here ≡ long_behind f all
   pub here_is : here ≡ long_behind f (drop index all)
@@ -163,9 +163,9 @@ length_prologue f =
     let more = length_saving (4 * f.slots) f.saved in
     omega arith
 
-pub emitting_first : (base : ℕ → ℕ) (f : Frame) (all : List Addressed) (here : ℕ) (items : List Item) → items ≡ prologue f → here ≡ behind f [] all → Emitting base f all 0 here items
+pub emitting_first : (base : ℕ → ℕ) (f : Frame) (all : List Addressed) (here : ℕ) (items : List PieceItem) → items ≡ prologue f → here ≡ behind f [] all → Emitting base f all 0 here items
 emitting_first base f all here items e h =
-    let n : length items ≡ prologue_size f = ap (λ (xs : List Item). length xs) e ∙ length_prologue f in
+    let n : length items ≡ prologue_size f = ap (λ (xs : List PieceItem). length xs) e ∙ length_prologue f in
     record {
       long = 0;
       sum = (let z = h ∙ behind_first f all in omega arith);
@@ -177,7 +177,7 @@ emitting_first base f all here items e h =
 rest_is : (all : List Addressed) (i : ℕ) (item : Addressed) → i < length all → item ≡ get_or all i item → drop i all ≡ item ∷ drop (i + 1) all
 rest_is all i item lt is = drop_more all i item lt ∙ ap (λ x. x ∷ drop (i + 1) all) (sym is)
 
-pub here_enough : (base : ℕ → ℕ) (f : Frame) (all : List Addressed) (i here : ℕ) (item : Addressed) (items : List Item) → i < length all → item ≡ get_or all i item → Emitting base f all i here items → long_size f item ≤ here
+pub here_enough : (base : ℕ → ℕ) (f : Frame) (all : List Addressed) (i here : ℕ) (item : Addressed) (items : List PieceItem) → i < length all → item ≡ get_or all i item → Emitting base f all i here items → long_size f item ≤ here
 here_enough base f all i here item items lt is o = let e = o.here_is ∙ ap (long_behind f) (rest_is all i item lt is) in omega arith
 
 leads_at : (count : ℕ) (all : List Addressed) (i : ℕ) (item : Addressed) → i < length all → item ≡ get_or all i item → AllByRecursion (LeadsBelow count) all → LeadsBelow count item
@@ -185,7 +185,7 @@ leads_at count [] i item lt is leads = absurd (omega arith)
 leads_at count (x ∷ all) zero item lt is leads = subst (LeadsBelow count) (sym is) leads.0
 leads_at count (x ∷ all) (suc i) item lt is leads = leads_at count all i item (omega arith) is leads.1
 
-pub emitting_more : (base : ℕ → ℕ) (f : Frame) (all : List Addressed) (first second : List ℕ) (end i here here' : ℕ) (item : Addressed) (old new : List Item) → ArePlaces f all first second end → AllByRecursion (LeadsBelow (length first)) all
+pub emitting_more : (base : ℕ → ℕ) (f : Frame) (all : List Addressed) (first second : List ℕ) (end i here here' : ℕ) (item : Addressed) (old new : List PieceItem) → ArePlaces f all first second end → AllByRecursion (LeadsBelow (length first)) all
     → i < length all → item ≡ get_or all i item → new ≡ old ++ items_of base f (near_behind first here) (place_from second end) (length old) item → here' ≡ here - long_size f item → Emitting base f all i here old → Emitting base f all (i + 1) here' new
 emitting_more base f all first second end i here here' item old new p leads lt is e less o =
     let rest = rest_is all i item lt is in
@@ -199,7 +199,7 @@ emitting_more base f all first second end i here here' item old new p leads lt i
     same_items base f (near_behind first here) (near w) (place_from second end) (places_of f all) a (length first) item (leads_at (length first) all i item lt is leads)
     (λ l ll. near_same f all first w here l p.of_first sum ll) (λ l ll. place_is f all first second end l p leads ll) in
     let grown : new ≡ old ++ one = e ∙ ap (λ xs. old ++ xs) same in
-    let n : length new ≡ a + size f (near w) item = ap (λ (xs : List Item). length xs) grown ∙ length-append old one ∙ ap (λ k. a + k) (size_is base f (near w) (places_of f all) a item) in
+    let n : length new ≡ a + size f (near w) item = ap (λ (xs : List PieceItem). length xs) grown ∙ length-append old one ∙ ap (λ k. a + k) (size_is base f (near w) (places_of f all) a item) in
     let more = emitted base f near (places_of f all) (w + long_size f item) (a + size f (near w) item) (drop (i + 1) all) in
     record {
       long = w + long_size f item;
@@ -211,12 +211,12 @@ emitting_more base f all first second end i here here' item old new p leads lt i
           ∙ sym (ap (λ items. old ++ emitted base f near (places_of f all) w a items) rest) ∙ o.so_far;
     }
 
-pub emitting_all : (base : ℕ → ℕ) (f : Frame) (all : List Addressed) (i here : ℕ) (items : List Item) → length all ≤ i → Emitting base f all i here items → items ≡ framed_items base f all
+pub emitting_all : (base : ℕ → ℕ) (f : Frame) (all : List Addressed) (i here : ℕ) (items : List PieceItem) → length all ≤ i → Emitting base f all i here items → items ≡ framed_items base f all
 emitting_all base f all i here items le o =
     let none = drop_all i all le in
     sym (append_none items) ∙ sym (ap (λ xs. items ++ emitted base f (is_near f all) (places_of f all) o.long (length items) xs) none) ∙ o.so_far
   where
-    append_none : (xs : List Item) → xs ++ [] ≡ xs
+    append_none : (xs : List PieceItem) → xs ++ [] ≡ xs
     append_none [] = refl
     append_none (x ∷ xs) = ap (λ l. x ∷ l) (append_none xs)
 
@@ -225,21 +225,21 @@ emitting_all base f all i here items le o =
 reach_from : (from to : ℕ) → from ≤ to + 1024 → to < from + 1024 → reaches from to ≡ true
 reach_from from to p q = grind (arith, nat_tests)
 
-near_close : (base : ℕ → ℕ) (f : Frame) (all : List Addressed) (first second : List ℕ) (end i here : ℕ) (items : List Item) → ArePlaces f all first second end → AllByRecursion (LeadsBelow (length first)) all → Emitting base f all i here items
+near_close : (base : ℕ → ℕ) (f : Frame) (all : List Addressed) (first second : List ℕ) (end i here : ℕ) (items : List PieceItem) → ArePlaces f all first second end → AllByRecursion (LeadsBelow (length first)) all → Emitting base f all i here items
     → (l : ℕ) → l < length second → near_behind first here l ≡ true → IsClose (length items) (place_from second end l)
 near_close base f all first second end i here items p leads o l lt near =
     let long = p.of_second.long in
     let ll : l < length first = omega arith in
     subst (IsClose (length items)) (sym (place_is f all first second end l p leads ll)) (stays_near f all (drop i all) o.long (length items) l o.seen (sym (near_same f all first o.long here l p.of_first o.sum ll) ∙ near))
 
-pub near_reaches : (base : ℕ → ℕ) (f : Frame) (all : List Addressed) (first second : List ℕ) (end i here : ℕ) (items : List Item) → ArePlaces f all first second end → AllByRecursion (LeadsBelow (length first)) all → Emitting base f all i here items
+pub near_reaches : (base : ℕ → ℕ) (f : Frame) (all : List Addressed) (first second : List ℕ) (end i here : ℕ) (items : List PieceItem) → ArePlaces f all first second end → AllByRecursion (LeadsBelow (length first)) all → Emitting base f all i here items
     → (l : ℕ) → l < length second → near_behind first here l ≡ true → reaches (length items) (place_from second end l) ≡ true
 near_reaches base f all first second end i here items p leads o l lt near =
     let n = close_nears (length items) (place_from second end l) (near_close base f all first second end i here items p leads o l lt near) in
     reach_from (length items) (place_from second end l) n.0 n.1
 
 -- from the next place too
-pub next_reaches : (base : ℕ → ℕ) (f : Frame) (all : List Addressed) (first second : List ℕ) (end i here : ℕ) (items : List Item) → ArePlaces f all first second end → AllByRecursion (LeadsBelow (length first)) all → Emitting base f all i here items
+pub next_reaches : (base : ℕ → ℕ) (f : Frame) (all : List Addressed) (first second : List ℕ) (end i here : ℕ) (items : List PieceItem) → ArePlaces f all first second end → AllByRecursion (LeadsBelow (length first)) all → Emitting base f all i here items
     → (l : ℕ) → l < length second → near_behind first here l ≡ true → reaches (length items + 1) (place_from second end l) ≡ true
 next_reaches base f all first second end i here items p leads o l lt near =
     let n = next_nears (length items) (place_from second end l) (near_close base f all first second end i here items p leads o l lt near) in
@@ -252,7 +252,7 @@ contained_below n [] l (k, lt, is) all = absurd (omega arith)
 contained_below n (x ∷ ls) l (zero, lt, is) all = (let p = all.0 in let e : x ≡ l = is in omega arith)
 contained_below n (x ∷ ls) l (suc k, lt, is) all = contained_below n ls l (k, omega arith, is) all.1
 
-leads_one : (count slots functions : ℕ) (ls : List ℕ) (i : linear.Item) → AllByRecursion (λ label. label < count) ls → IsItem slots functions ls i → StepLeadsBelow count (One i)
+leads_one : (count slots functions : ℕ) (ls : List ℕ) (i : LinearItem) → AllByRecursion (λ label. label < count) ls → IsItem slots functions ls i → StepLeadsBelow count (One i)
 leads_one count slots functions ls (Jump to) all fits = contained_below count ls to fits all
 leads_one count slots functions ls (IfNonzero from to) all fits = contained_below count ls to fits.1 all
 leads_one count slots functions ls (IfZero from to) all fits = contained_below count ls to fits.1 all

@@ -13,7 +13,7 @@ use Rattle.cc_ltl.specs.declared.operation.Move.{Move}
 use Rattle.cc_ltl.specs.declared.operation.Move.TheVariants.{Between, Reload, Spill}
 use Rattle.cc_ltl.specs.Registers.{IsAllocatable}
 use Rattle.cc_ltl.specs.Ltl.{Locations, put}
-use Rattle.cc_linear_language.specs.declared.item.Item.TheVariants.{Jump, IfNonzero, IfZero, Copy, Const, Unary, Binary, Load, Store, Read, Write}
+use Rattle.cc_linear_language.specs.declared.item.LinearItem.TheVariants.{Jump, IfNonzero, IfZero, Copy, Const, Unary, Binary, Load, Store, Read, Write}
 use Rattle.cc_select.specs.declared.step.Step.{Step}
 use Rattle.cc_select.specs.declared.step.Step.TheVariants.{One}
 use Rattle.cc_select.specs.Selected.{at_steps, led, place, selected_move}
@@ -23,7 +23,7 @@ use Rattle.cc_rv32.specs.declared.instr.Instr.TheVariants.{Branch, Ecall, Lui, O
 use Rattle.cc_rv32.specs.declared.instr.BranchOperation.TheVariants.{Bne}
 use Rattle.cc_rv32.specs.declared.instr.ImmediateOperation.TheVariants.{Addi, Sltiu}
 use Rattle.cc_rv32.specs.declared.instr.ShiftOperation.TheVariants.{Slli}
-use Rattle.cc_rv32.specs.declared.instr.Operation.TheVariants as operations
+use Rattle.cc_rv32.specs.declared.instr.RegisterOperation.TheVariants as operations
 use Rattle.cc_rv32.specs.Machine as machine
 use Rattle.cc_rv32.specs.declared.instr.LoadOperation.TheVariants.{Lw}
 use Rattle.cc_rv32.specs.declared.instr.StoreOperation.TheVariants.{Sw}
@@ -31,8 +31,8 @@ use Rattle.cc_rv32.specs.Machine.{Continues, State, Traps, branches, computed, e
 use Rattle.cc_words.specs.declared.operators.Width.{Width}
 use Rattle.cc_words.specs.declared.operators.Width.TheVariants.{Byte, Word}
 use Rattle.cc_words.specs.Widths.{bytes, kept}
-use Rattle.cc_emit.specs.declared.item.Item.{Item}
-use Rattle.cc_emit.specs.declared.item.Item.TheVariants.{Go, Plain}
+use Rattle.cc_emit.specs.declared.item.PieceItem.{PieceItem}
+use Rattle.cc_emit.specs.declared.item.PieceItem.TheVariants.{Go, Plain}
 use Rattle.cc_emit.specs.declared.condition.Condition.{Condition}
 use Rattle.cc_emit.specs.Contract.{Code, IsPlace, Path, element_place, filled, load_of, store_of}
 use Rattle.cc_emit.specs.Frames.{Frame}
@@ -454,7 +454,7 @@ within_element x ElementByPointer l h width s i b known ui w = within_as x _ l h
 
 -- ---- the machine comes there
 
-pub uppered_reaches : (x : Site) (next : List Step) (k : Locations) (g : World) (known : Remembered) (s : State) (p b : ℕ) (items : List Item) → s.pc ≡ p → Stands x p (upper_items known b ++ items)
+pub uppered_reaches : (x : Site) (next : List Step) (k : Locations) (g : World) (known : Remembered) (s : State) (p b : ℕ) (items : List PieceItem) → s.pc ≡ p → Stands x p (upper_items known b ++ items)
     → (Stands x (p + 4 * upper_before known) items → (uppered known s b).pc ≡ p + 4 * upper_before known → Reaches x next k g (uppered known s b)) → Reaches x next k g s
 uppered_reaches x next k g Nothing s p b items e f go =
     let four : p + 4 ≡ p + 4 * 1 = omega arith in
@@ -465,10 +465,10 @@ uppered_reaches x next k g ByPointer s p b items e f go = (let none : p ≡ p + 
 uppered_reaches x next k g ElementByPointer s p b items e f go = (let none : p ≡ p + 4 * 0 = omega arith in go (subst (λ n. Stands x n items) none f) (e ∙ none))
 
 -- the item behind those before an access, and the machine there
-abbrev Arrives : (x : Site) (next : List Step) (k : Locations) (g : World) (p n : ℕ) (item : Item) (t : State) → Type 0
+abbrev Arrives : (x : Site) (next : List Step) (k : Locations) (g : World) (p n : ℕ) (item : PieceItem) (t : State) → Type 0
 Arrives x next k g p n item t = x.code (p + 4 * n) ≡ Some (filled x.places x.place (p + 4 * n) item) → t.pc ≡ p + 4 * n → Reaches x next k g t
 
-based_reaches : (x : Site) (next : List Step) (k : Locations) (g : World) (known : Remembered) (s : State) (p r b : ℕ) (item : Item) → s.pc ≡ p → Stands x p (based known b r (item ∷ [])) → Arrives x next k g p (upper_before known + 1) item (added (uppered known s b) (base_register known) r)
+based_reaches : (x : Site) (next : List Step) (k : Locations) (g : World) (known : Remembered) (s : State) (p r b : ℕ) (item : PieceItem) → s.pc ≡ p → Stands x p (based known b r (item ∷ [])) → Arrives x next k g p (upper_before known + 1) item (added (uppered known s b) (base_register known) r)
     → Reaches x next k g s
 based_reaches x next k g known s p r b item e f go =
     uppered_reaches x next k g known s p b (Plain (Op operations.Add 5 r (base_register known)) ∷ item ∷ []) e f
@@ -478,7 +478,7 @@ based_reaches x next k g known s p r b item e f go =
     let four : q + 4 ≡ p + 4 * (upper_before known + 1) = omega arith in
     reach_more x next k g u (added u (base_register known) r) (step_at x.code u q (Op operations.Add 5 r (base_register known)) at stands.0) (go (subst (λ n. x.code n ≡ Some (filled x.places x.place n item)) four stands.1.0) (ap (λ n. n + 4) at ∙ four)))
 
-shifted_reaches : (x : Site) (next : List Step) (k : Locations) (g : World) (known : Remembered) (s : State) (p i b : ℕ) (item : Item) → s.pc ≡ p → Stands x p (Plain (Shift Slli 5 i 2) ∷ based known b 5 (item ∷ []))
+shifted_reaches : (x : Site) (next : List Step) (k : Locations) (g : World) (known : Remembered) (s : State) (p i b : ℕ) (item : PieceItem) → s.pc ≡ p → Stands x p (Plain (Shift Slli 5 i 2) ∷ based known b 5 (item ∷ []))
     → Arrives x next k g p (upper_before known + 2) item (added (uppered known (shifted s i) b) (base_register known) 5) → Reaches x next k g s
 shifted_reaches x next k g known s p i b item e f go =
     let t = shifted s i in
@@ -489,7 +489,7 @@ shifted_reaches x next k g known s p i b item e f go =
     go (subst (λ n. x.code n ≡ Some (filled x.places x.place n item)) long stands) (at ∙ long)))
 
 -- before a load or a store
-pub element_reaches : (x : Site) (next : List Step) (k : Locations) (g : World) (known : Remembered) (w : Width) (s : State) (p i b : ℕ) (item : Item) → s.pc ≡ p → Stands x p (indexed known w b i (item ∷ [])) → Arrives x next k g p (before known w) item (at_element known w s i b)
+pub element_reaches : (x : Site) (next : List Step) (k : Locations) (g : World) (known : Remembered) (w : Width) (s : State) (p i b : ℕ) (item : PieceItem) → s.pc ≡ p → Stands x p (indexed known w b i (item ∷ [])) → Arrives x next k g p (before known w) item (at_element known w s i b)
     → Reaches x next k g s
 element_reaches x next k g Nothing Byte s p i b item e f go = based_reaches x next k g Nothing s p i b item e f go
 element_reaches x next k g Upper Byte s p i b item e f go = based_reaches x next k g Upper s p i b item e f go

@@ -7,8 +7,8 @@ use Rattle.cc_ltl.specs.declared.operation.Move.{Move}
 use Rattle.cc_ltl.specs.declared.operation.Move.TheVariants.{Between, Reload, Spill}
 use Rattle.cc_ltl.specs.Registers.{IsAllocatable, most_slots}
 use Rattle.cc_ltl.specs.Ltl.{IsMove}
-use Rattle.cc_linear_language.specs.declared.item.Item as linear
-use Rattle.cc_linear_language.specs.declared.item.Item.TheVariants.{Label, Jump, IfNonzero, IfZero, Copy, Const, Unary, Binary, Load, Store, Call, Read, Write, Return}
+use Rattle.cc_linear_language.specs.declared.item.LinearItem.{LinearItem}
+use Rattle.cc_linear_language.specs.declared.item.LinearItem.TheVariants.{Label, Jump, IfNonzero, IfZero, Copy, Const, Unary, Binary, Load, Store, Call, Read, Write, Return}
 use Rattle.cc_linear_language.specs.Linear.{IsItem}
 use Rattle.cc_select.specs.declared.step.Step.{Step}
 use Rattle.cc_select.specs.declared.step.Step.TheVariants.{One, Immediate, LoadAt, StoreAt, Branch, BranchImmediate}
@@ -91,7 +91,7 @@ fine_move sets_pointer slots all (Between to from) of u = (target sets_pointer s
 fine_move sets_pointer slots all (Reload to slot) of u = (target sets_pointer slots all to u.0 (of.writes to (eqb_yes to to refl)), u.1)
 fine_move sets_pointer slots all (Spill slot from) of u = u
 
-fine_item : (meaning : Meaning) (labels : List ℕ) (sets_pointer : Bool) (slots : ℕ) (all : List Step) (i : linear.Item) → ((g : ℕ) → meaning.arity g ≤ 8) → IsOf all (One i) → IsItem slots meaning.functions labels i → IsFine meaning (frame_of sets_pointer slots all) i
+fine_item : (meaning : Meaning) (labels : List ℕ) (sets_pointer : Bool) (slots : ℕ) (all : List Step) (i : LinearItem) → ((g : ℕ) → meaning.arity g ≤ 8) → IsOf all (One i) → IsItem slots meaning.functions labels i → IsFine meaning (frame_of sets_pointer slots all) i
 fine_item meaning labels sets_pointer slots all (Label label) few of u = tt
 fine_item meaning labels sets_pointer slots all (Jump to) few of u = tt
 fine_item meaning labels sets_pointer slots all (IfNonzero from to) few of u = u.0

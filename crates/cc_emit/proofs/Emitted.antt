@@ -13,12 +13,12 @@ use Rattle.cc_simulation.specs.Unknown.{survives}
 use Rattle.cc_ltl.specs.declared.location.Location.{Location}
 use Rattle.cc_ltl.specs.declared.location.Location.TheVariants.{Register, Slot}
 use Rattle.cc_ltl.specs.Ltl.{Locations, put, words_from, after_call, at_entry}
-use Rattle.cc_linear_language.specs.declared.item.Item.TheVariants.{Label, Jump, IfNonzero, IfZero, Copy, Const, Unary, Binary, Load, Store, Call, Read, Write, Return}
+use Rattle.cc_linear_language.specs.declared.item.LinearItem.TheVariants.{Label, Jump, IfNonzero, IfZero, Copy, Const, Unary, Binary, Load, Store, Call, Read, Write, Return}
 use Rattle.cc_select.specs.declared.step.Step.{Step}
 use Rattle.cc_select.specs.declared.step.Step.TheVariants.{One, Immediate, LoadAt, StoreAt, Branch, BranchImmediate}
 use Rattle.cc_select.specs.Selected.{Configuration, at_steps, steps_after_answer, selected_move, selected_output, selected_start}
 use Rattle.cc_rv32.specs.Machine.{Continues, State, stack_from}
-use Rattle.cc_emit.specs.Contract.{CallsMeet, Code, ComesBack, Enters, IsPlace, IsSound, Layout, Meets, Path, PieceMeets, Placed}
+use Rattle.cc_emit.specs.Contract.{CallsMeet, Code, ComesBack, Enters, IsPlace, IsSound, ObjectLayout, Meets, Path, PieceMeets, Placed}
 use Rattle.cc_emit.specs.Frames.{Frame, frame_size}
 use Rattle.cc_emit.specs.Emission.{pointer_items, emitted, framed_items, prologue, prologue_size, saving, stack_moved}
 use Rattle.cc_emit.specs.declared.scratch.Scratch.{Scratch}
@@ -32,23 +32,23 @@ use Rattle.cc_emit.proofs.Cases.{Stepped, Case, StandsWhole, jump_case, if_zero_
 use Rattle.cc_emit.proofs.Steps.{immediate_case, load_at_case, store_at_case, branch_case, branch_immediate_case}
 use Rattle.cc_emit.proofs.Returning.{return_path, called, called_step, enters_callee, return_place, regained, within_behind, framed, prologue_path, framed_pc, found, framed_within}
 
-abbrev pub DoesBy : {b : List Size} (y : Layout b) (code : Code) (rate : ℕ) (from s : State) → Stop Answer → List ℕ → ℕ → Type 0
+abbrev pub DoesBy : {b : List Size} (y : ObjectLayout b) (code : Code) (rate : ℕ) (from s : State) → Stop Answer → List ℕ → ℕ → Type 0
 DoesBy y code rate from s Going o done = (m : ℕ) × (t : State) × Path code m s t × (t.output ≡ o) × (done ≤ rate * m)
 DoesBy y code rate from s (Ended r) o done = (m : ℕ) × (t : State) × Path code m s t × ComesBack y from r t × (done ≤ rate * m)
 DoesBy y code rate from s Wrong o done = Unit {0}
 
 -- what the machine does, of a run with this much work
-abbrev pub Does : {b : List Size} (y : Layout b) (code : Code) (rate : ℕ) (from s : State) → Outcome Answer → ℕ → Type 0
+abbrev pub Does : {b : List Size} (y : ObjectLayout b) (code : Code) (rate : ℕ) (from s : State) → Outcome Answer → ℕ → Type 0
 Does y code rate from s z done = DoesBy y code rate from s z.stop z.output done
 
 -- more is done where a path leads on
-does_then : {b : List Size} (y : Layout b) (code : Code) (rate : ℕ) (from s t : State) (stop : Stop Answer) (o : List ℕ) (v m more : ℕ) → Path code m s t → more ≤ rate * m → DoesBy y code rate from t stop o v → DoesBy y code rate from s stop o (more + v)
+does_then : {b : List Size} (y : ObjectLayout b) (code : Code) (rate : ℕ) (from s t : State) (stop : Stop Answer) (o : List ℕ) (v m more : ℕ) → Path code m s t → more ≤ rate * m → DoesBy y code rate from t stop o v → DoesBy y code rate from s stop o (more + v)
 does_then y code rate from s t Going o v m more p b (k, u, q, e, c) = (m + k, u, path_then code m k s t u p q, e, (let f = mul-add rate m k in omega arith))
 does_then y code rate from s t (Ended r) o v m more p b (k, u, q, e, c) = (m + k, u, path_then code m k s t u p q, e, (let f = mul-add rate m k in omega arith))
 does_then y code rate from s t Wrong o v m more p b x = tt
 
 -- one move, paid by an instruction at least
-one_move : {b : List Size} (y : Layout b) (code : Code) (rate : ℕ) (from s t : State) (z : Outcome Answer) (v m : ℕ) → 1 ≤ rate → Path code (suc m) s t → Does y code rate from t z v → Does y code rate from s z (suc v)
+one_move : {b : List Size} (y : ObjectLayout b) (code : Code) (rate : ℕ) (from s t : State) (z : Outcome Answer) (v m : ℕ) → 1 ≤ rate → Path code (suc m) s t → Does y code rate from t z v → Does y code rate from s z (suc v)
 one_move y code rate from s t z v m one p x =
     let f : 1 + v ≡ suc v = omega arith in
     let g : 1 ≤ rate * suc m = let h = mul-suc rate m in omega arith in
@@ -281,7 +281,7 @@ rate_paid r c v p m n left one a b =
     let y : r * 1 ≡ r = omega arith in
     omega arith
 
-meets_of : {b : List Size} (y : Layout b) (code : Code) (r c p n : ℕ) (s t : State) (e : Effect) (v : ℕ) (z : Outcome Answer) → 1 ≤ c → Path code p s t → Keeps r n e v z → Does y code (c + c) s t z v → Meets y code ((r + r) * c) ((r + r) * c) n s e
+meets_of : {b : List Size} (y : ObjectLayout b) (code : Code) (r c p n : ℕ) (s t : State) (e : Effect) (v : ℕ) (z : Outcome Answer) → 1 ≤ c → Path code p s t → Keeps r n e v z → Does y code (c + c) s t z v → Meets y code ((r + r) * c) ((r + r) * c) n s e
 meets_of y code r c p n s t (Gives a left) v z one path (e, b) does =
     let does' = subst (λ x. Does y code (c + c) s t x v) e does in
     (p + does'.0, does'.1, path_then code p does'.0 s t does'.1 path does'.2, does'.3, rate_paid r c v p does'.0 n left one b does'.4)
@@ -319,7 +319,7 @@ enough_room : (d n top : ℕ) → d < 1024 → n ≤ 508 → stack_from + 2032 *
 enough_room d n top below small room = omega arith
 
 -- what is emitted in a frame meets a piece's contract
-pub framed_meets : (meaning : Meaning) (layout : Layout meaning.objects) (f rate : ℕ) (frame : Frame) (ops : List Step) → TracksForAll meaning f rate (selected_move meaning.arity ops) selected_output (selected_start frame.slots ops) → IsFrame frame → AreFine meaning frame ops
+pub framed_meets : (meaning : Meaning) (layout : ObjectLayout meaning.objects) (f rate : ℕ) (frame : Frame) (ops : List Step) → TracksForAll meaning f rate (selected_move meaning.arity ops) selected_output (selected_start frame.slots ops) → IsFrame frame → AreFine meaning frame ops
     → PieceMeets meaning layout f (rate + rate) (framed_items layout.base frame (addressed layout.base frame.sets_pointer nothing ops))
 framed_meets meaning layout f rate frame ops keeps is_frame fine code places place from to placed all_places d c below one calls ws h s n enters =
     let small = is_frame.small in

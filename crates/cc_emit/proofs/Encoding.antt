@@ -9,17 +9,17 @@ use Rattle.cc_words.specs.declared.operators.Unary.TheVariants.{Neg, Complement,
 use Rattle.cc_simulation.specs.Meaning.{Meaning}
 use Rattle.cc_ltl.specs.declared.operation.Move.{Move}
 use Rattle.cc_ltl.specs.declared.operation.Move.TheVariants.{Between, Reload, Spill}
-use Rattle.cc_linear_language.specs.declared.item.Item as linear
-use Rattle.cc_linear_language.specs.declared.item.Item.TheVariants.{Label, Jump, IfNonzero, IfZero, Copy, Const, Unary, Binary, Load, Store, Call, Read, Write, Return}
-use Rattle.cc_select.specs.declared.step.Immediate as immediate
-use Rattle.cc_select.specs.declared.step.Immediate.TheVariants as immediates
+use Rattle.cc_linear_language.specs.declared.item.LinearItem.{LinearItem}
+use Rattle.cc_linear_language.specs.declared.item.LinearItem.TheVariants.{Label, Jump, IfNonzero, IfZero, Copy, Const, Unary, Binary, Load, Store, Call, Read, Write, Return}
+use Rattle.cc_select.specs.declared.step.WordOperator.{WordOperator}
+use Rattle.cc_select.specs.declared.step.WordOperator.TheVariants as immediates
 use Rattle.cc_select.specs.declared.step.Step.{Step}
 use Rattle.cc_select.specs.declared.step.Step.TheVariants.{One, Immediate, LoadAt, StoreAt, Branch, BranchImmediate}
 use Rattle.cc_rv32.specs.declared.instr.Instr.TheVariants.{Lui, Op}
-use Rattle.cc_rv32.specs.declared.instr.Operation.TheVariants as operation
+use Rattle.cc_rv32.specs.declared.instr.RegisterOperation.TheVariants as operation
 use Rattle.cc_rv32.specs.declared.instr.ImmediateOperation.TheVariants.{Addi, Slti, Sltiu}
 use Rattle.cc_rv32.specs.declared.instr.ImmediateOperation.{ImmediateOperation}
-use Rattle.cc_rv32.specs.declared.instr.Operation as machine
+use Rattle.cc_rv32.specs.declared.instr.RegisterOperation.{RegisterOperation}
 use Rattle.cc_rv32.specs.declared.instr.BranchOperation.TheVariants.{Beq, Bne, Blt, Bge}
 use Rattle.cc_rv32.specs.Fields.{IsImmediate}
 use Rattle.cc_rv32.specs.Table.{IsEncodable}
@@ -27,8 +27,8 @@ use Rattle.cc_words.specs.declared.operators.Binary as binary
 use Rattle.cc_words.specs.declared.operators.Binary.TheVariants as operators
 use Rattle.cc_emit.specs.declared.condition.Condition.{Condition}
 use Rattle.cc_emit.specs.Branches.{compares, opposed, turned, comparison, immediate_against_zero, operation_on_zero, against_zero, asked_of}
-use Rattle.cc_emit.specs.declared.item.Item.{Item}
-use Rattle.cc_emit.specs.declared.item.Item.TheVariants.{Plain}
+use Rattle.cc_emit.specs.declared.item.PieceItem.{PieceItem}
+use Rattle.cc_emit.specs.declared.item.PieceItem.TheVariants.{Plain}
 use Rattle.cc_words.specs.declared.operators.Width.{Width}
 use Rattle.cc_words.specs.declared.operators.Width.TheVariants.{Byte, Word}
 use Rattle.cc_emit.specs.declared.addressed.Addressed.{Addressed}
@@ -108,7 +108,7 @@ immediate_registers Sltiu n a c p e = by_part (n == 1) e
     by_part false f = none_registers c f
 immediate_registers _ n a c p e = none_registers c e
 
-operation_registers : (i : machine.Operation) (a : ℕ) (c : Condition) → a < 32 → operation_on_zero i a ≡ Some c → AreRegisters c
+operation_registers : (i : RegisterOperation) (a : ℕ) (c : Condition) → a < 32 → operation_on_zero i a ≡ Some c → AreRegisters c
 operation_registers operation.Slt a c p e = some_registers (compares Blt 0 a) c (omega arith, p) e
 operation_registers operation.Sltu a c p e = some_registers (compares Bne a 0) c (p, omega arith) e
 operation_registers _ a c p e = none_registers c e
@@ -127,10 +127,10 @@ against_registers (NonzeroOfImmediate i n) a c p e = none_registers c e
 -- ---- items
 
 module _ (functions long : ℕ) where
-  abbrev Fit : List Item → Type 0
+  abbrev Fit : List PieceItem → Type 0
   Fit items = AreFit functions long items
 
-  append_fit : (xs ys : List Item) → Fit xs → Fit ys → Fit (xs ++ ys)
+  append_fit : (xs ys : List PieceItem) → Fit xs → Fit ys → Fit (xs ++ ys)
   append_fit [] ys p q = q
   append_fit (x ∷ xs) ys p q = (p.0, append_fit xs ys p.1 q)
 
@@ -191,14 +191,14 @@ module _ (functions long : ℕ) where
   move_encodable f (Reload to slot) is u = (let t = u.0.0 in let lt = u.1 in let small = is.small in ((omega arith, omega arith, (omega arith, omega arith)), tt))
   move_encodable f (Spill slot from) is u = (let p = u.1 in let lt = u.0 in let small = is.small in ((omega arith, omega arith, (omega arith, omega arith)), tt))
 
-  upper_fit : (k : Remembered) (b : ℕ) (items : List Item) → Fit items → Fit (upper_items k b ++ items)
+  upper_fit : (k : Remembered) (b : ℕ) (items : List PieceItem) → Fit items → Fit (upper_items k b ++ items)
   upper_fit Nothing b items p = ((omega arith, omega arith), p)
   upper_fit Upper b items p = p
   upper_fit Element b items p = p
   upper_fit ByPointer b items p = p
   upper_fit ElementByPointer b items p = p
 
-  access_fit : (k : Remembered) (width : Width) (b i : ℕ) (item : Item) → i < 32 → IsFit functions long item → Fit (indexed k width b i (item ∷ []))
+  access_fit : (k : Remembered) (width : Width) (b i : ℕ) (item : PieceItem) → i < 32 → IsFit functions long item → Fit (indexed k width b i (item ∷ []))
   access_fit Nothing Byte b i item p q = upper_fit Nothing b (Plain (Op operation.Add 5 i 6) ∷ item ∷ []) ((omega arith, p, omega arith), (q, tt))
   access_fit Upper Byte b i item p q = upper_fit Upper b (Plain (Op operation.Add 5 i 6) ∷ item ∷ []) ((omega arith, p, omega arith), (q, tt))
   access_fit Nothing Word b i item p q = ((omega arith, p, omega arith), upper_fit Nothing b (Plain (Op operation.Add 5 5 6) ∷ item ∷ []) ((omega arith, omega arith, omega arith), (q, tt)))
@@ -208,7 +208,7 @@ module _ (functions long : ℕ) where
   access_fit ByPointer Word b i item p q = ((omega arith, p, omega arith), upper_fit ByPointer b (Plain (Op operation.Add 5 5 3) ∷ item ∷ []) ((omega arith, omega arith, omega arith), (q, tt)))
   access_fit ElementByPointer width b i item p q = (q, tt)
 
-  one_fit : (meaning : Meaning) (base : ℕ → ℕ) (f : Frame) (near : ℕ → Bool) (labels : ℕ → ℕ) (a : ℕ) (k : Remembered) (i : linear.Item) → meaning.functions ≡ functions → IsFrame f → IsFine meaning f i → ((l : ℕ) → near l ≡ true → IsClose a (labels l)) → ((l : ℕ) → labels l ≤ long) → Fit (items_of_one base f near labels a k i)
+  one_fit : (meaning : Meaning) (base : ℕ → ℕ) (f : Frame) (near : ℕ → Bool) (labels : ℕ → ℕ) (a : ℕ) (k : Remembered) (i : LinearItem) → meaning.functions ≡ functions → IsFrame f → IsFine meaning f i → ((l : ℕ) → near l ≡ true → IsClose a (labels l)) → ((l : ℕ) → labels l ≤ long) → Fit (items_of_one base f near labels a k i)
   one_fit meaning base f near labels a k (Label label) e is u n le = tt
   one_fit meaning base f near labels a k (Jump to) e is u n le = (le to, tt)
   one_fit meaning base f near labels a k (IfNonzero from to) e is u n le = branch_fit (near to) (compares Bne from 0) a (labels to) (u.1, omega arith) (λ q. close_nears a (labels to) (n to q)) (le to)
@@ -228,7 +228,7 @@ module _ (functions long : ℕ) where
   room_if true j k p q = p
   room_if false j k p q = q
 
-  has_room : (o : immediate.Immediate) (w : ℕ) → HasRoom (word_recipe o w)
+  has_room : (o : WordOperator) (w : ℕ) → HasRoom (word_recipe o w)
   has_room immediates.Add w = low_fits w
   has_room immediates.Sub w = low_fits _
   has_room immediates.Shl w = omega arith

@@ -6,8 +6,8 @@ use Rattle.cc_ltl.specs.declared.operation.Move.{Move}
 use Rattle.cc_ltl.specs.declared.operation.Move.TheVariants.{Between, Reload, Spill}
 use Rattle.cc_ltl.specs.Registers.{IsAllocatable}
 use Rattle.cc_ltl.specs.Ltl.{IsWord}
-use Rattle.cc_linear_language.specs.declared.item.Item as linear
-use Rattle.cc_linear_language.specs.declared.item.Item.TheVariants.{Label, Jump, IfNonzero, IfZero, Copy, Const, Unary, Binary, Load, Store, Call, Read, Write, Return}
+use Rattle.cc_linear_language.specs.declared.item.LinearItem.{LinearItem}
+use Rattle.cc_linear_language.specs.declared.item.LinearItem.TheVariants.{Label, Jump, IfNonzero, IfZero, Copy, Const, Unary, Binary, Load, Store, Call, Read, Write, Return}
 use Rattle.cc_select.specs.declared.step.Step.{Step}
 use Rattle.cc_select.specs.declared.step.Step.TheVariants.{One, Immediate, LoadAt, StoreAt, Branch, BranchImmediate}
 use Rattle.cc_select.specs.Immediates.{has_word, is_comparison}
@@ -40,7 +40,7 @@ IsFineMove f (Reload to slot) = IsTarget f to × (slot < f.slots)
 IsFineMove f (Spill slot from) = (slot < f.slots) × IsAllocatable from
 
 -- a call is of a function with at most eight parameters, in a frame that saves x1
-abbrev pub IsFine : Meaning → Frame → linear.Item → Type 0
+abbrev pub IsFine : Meaning → Frame → LinearItem → Type 0
 IsFine meaning f (Label label) = Unit {0}
 IsFine meaning f (Jump to) = Unit {0}
 IsFine meaning f (IfNonzero from to) = IsAllocatable from

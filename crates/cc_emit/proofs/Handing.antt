@@ -11,7 +11,7 @@ use Rattle.cc_select.specs.declared.step.Step.{Step}
 use Rattle.cc_select.specs.Selected.{labels, IsStep, IsSelected}
 use Rattle.cc_select.specs.Selection.{selected}
 use Rattle.cc_select.specs.Pair as above
-use Rattle.cc_emit.specs.declared.item.Item.{Item}
+use Rattle.cc_emit.specs.declared.item.PieceItem.{PieceItem}
 use Rattle.cc_emit.specs.Objects.{object_address}
 use Rattle.cc_emit.specs.Function.{pair_items, function_items}
 use Rattle.cc_emit.specs.Piece.{IsPieceOfUnit}
@@ -21,7 +21,7 @@ use Rattle.cc_emit.proofs.Pieces.{items_for}
 pub fit_handed : (p : above.Pair) (n slots : ℕ) (code : List Step) → slots ≡ p.ltl.slots → code ≡ p.code → IsSelected p.ltl.slots n p.code → (functions : ℕ) × AllByRecursion (IsStep slots functions (labels code)) code
 fit_handed p n slots code es ec is = (n, subst (λ s. AllByRecursion (IsStep s n (labels code)) code) (sym es) (subst (λ steps. AllByRecursion (IsStep p.ltl.slots n (labels steps)) steps) (sym ec) is.fit))
 
-pub items_handed : (p : above.Pair) (bases : List ℕ) (slots : ℕ) (code : List Step) (items : List Item) (tree : List External) → tree ≡ above.tree_of p → ((g : ℕ) → base_in bases g ≡ object_address (objects_in tree) g) → slots ≡ p.ltl.slots → code ≡ p.code
+pub items_handed : (p : above.Pair) (bases : List ℕ) (slots : ℕ) (code : List Step) (items : List PieceItem) (tree : List External) → tree ≡ above.tree_of p → ((g : ℕ) → base_in bases g ≡ object_address (objects_in tree) g) → slots ≡ p.ltl.slots → code ≡ p.code
     → items ≡ function_items (base_in bases) slots code → items ≡ items_for p
 items_handed p bases slots code items tree et same es ec e =
     let base : base_in bases ≡ object_address (objects_in (above.tree_of p)) = λ i g. (same g ∙ ap (λ t. object_address (objects_in t) g) et) i in
@@ -34,7 +34,7 @@ items_selected q p eu el ec =
     ap (λ (u : parsed.Unit). function_items (object_address (objects_in (source u).externals)) p.ltl.slots p.code) eu ∙ ap (λ (k : Ltl). function_items (object_address (objects_in (linear.tree_of q))) k.slots p.code) el
     ∙ ap (function_items (object_address (objects_in (linear.tree_of q))) q.ltl.slots) ec
 
-pub piece_handed : (p : above.Pair) (u : parsed.Unit) (f : ℕ) (ltl : Ltl) (items : List Item) → u ≡ p.unit → f ≡ p.function → ltl ≡ p.ltl → items ≡ items_for p
+pub piece_handed : (p : above.Pair) (u : parsed.Unit) (f : ℕ) (ltl : Ltl) (items : List PieceItem) → u ≡ p.unit → f ≡ p.function → ltl ≡ p.ltl → items ≡ items_for p
     → IsPieceOfUnit (record { unit = p.unit; function = p.function; ltl = p.ltl; items = items_for p }) → IsPieceOfUnit (record { unit = u; function = f; ltl = ltl; items = items })
 piece_handed p u f ltl items eu ef el ei is =
     let same : record { unit = u; function = f; ltl = ltl; items = items } ≡ record { unit = p.unit; function = p.function; ltl = p.ltl; items = items_for p } = λ i. record { unit = eu i; function = ef i; ltl = el i; items = ei i } in

@@ -14,7 +14,7 @@ use Rattle.cc_ltl.specs.Ltl.{IsLtl}
 use Rattle.cc_linear_language.specs.Pair.{most_blocks, LtlKeepsUp}
 use Rattle.cc_select.specs.Selected.{labels, IsStep, IsSelected}
 use Rattle.cc_select.specs.Pair as above
-use Rattle.cc_emit.specs.declared.item.Item.{Item}
+use Rattle.cc_emit.specs.declared.item.PieceItem.{PieceItem}
 use Rattle.cc_emit.specs.Contract.{IsPiece}
 use Rattle.cc_emit.specs.Objects.{object_address}
 use Rattle.cc_emit.specs.Frames.{frame_of}
@@ -60,7 +60,7 @@ few_parameters unit limits g = few_in unit first_file_scope g (prefix_none (exte
 -- ---- the piece
 
 -- the items of a pair's steps
-abbrev pub items_for : above.Pair → List Item
+abbrev pub items_for : above.Pair → List PieceItem
 items_for p = function_items (object_address (objects_in (above.tree_of p))) p.ltl.slots p.code
 
 items_do : (p : above.Pair) → IsWithinLimits (above.tree_of p) → IsSelected p.ltl.slots (length (functions (above.tree_of p))) p.code → above.KeepsUp (above.tree_of p) p.function p.ltl.slots p.code

@@ -4,16 +4,16 @@ use Rattle.std.proofs.Common.{◌≡◌, ℕ, suc, ◌+◌, ◌-◌, ◌*◌, �
 use Rattle.std.specs.Prelude.{if◌then◌else◌, ◌==◌}
 use Rattle.std.proofs.lemmas.Bool.Decides.{nat_tests}
 use Rattle.std.proofs.lemmas.List.{length-append}
-use Rattle.cc_linear_language.specs.declared.item.Item as linear
-use Rattle.cc_linear_language.specs.declared.item.Item.TheVariants.{Label, Jump, IfNonzero, IfZero, Copy, Const, Unary, Binary, Load, Store, Call, Read, Write, Return}
+use Rattle.cc_linear_language.specs.declared.item.LinearItem.{LinearItem}
+use Rattle.cc_linear_language.specs.declared.item.LinearItem.TheVariants.{Label, Jump, IfNonzero, IfZero, Copy, Const, Unary, Binary, Load, Store, Call, Read, Write, Return}
 use Rattle.cc_select.specs.declared.step.Step.{Step}
 use Rattle.cc_select.specs.declared.step.Step.TheVariants.{One, Immediate, LoadAt, StoreAt, Branch, BranchImmediate}
 use Rattle.cc_rv32.specs.Fields.{IsBranchOffset}
 use Rattle.cc_rv32.specs.declared.instr.Instr.TheVariants.{Jalr}
 use Rattle.cc_emit.specs.declared.condition.Condition.{Condition}
 use Rattle.cc_emit.specs.Branches.{compares, turned, against_zero, asked_of}
-use Rattle.cc_emit.specs.declared.item.Item.{Item}
-use Rattle.cc_emit.specs.declared.item.Item.TheVariants.{Plain}
+use Rattle.cc_emit.specs.declared.item.PieceItem.{PieceItem}
+use Rattle.cc_emit.specs.declared.item.PieceItem.TheVariants.{Plain}
 use Rattle.cc_words.specs.declared.operators.Width.{Width}
 use Rattle.cc_words.specs.declared.operators.Width.TheVariants.{Byte, Word}
 use Rattle.cc_emit.specs.declared.addressed.Addressed.{Addressed}
@@ -36,7 +36,7 @@ pub length_restoring : (o : ℕ) (rs : List ℕ) → length (restoring o rs) ≡
 length_restoring o [] = refl
 length_restoring o (r ∷ rs) = ap suc (length_restoring (o + 4) rs)
 
-long_if : (b : Bool) (xs ys : List Item) (m n : ℕ) → length xs ≡ m → length ys ≡ n → length (if b then xs else ys) ≡ (if b then m else n)
+long_if : (b : Bool) (xs ys : List PieceItem) (m n : ℕ) → length xs ≡ m → length ys ≡ n → length (if b then xs else ys) ≡ (if b then m else n)
 long_if true xs ys m n p q = p
 long_if false xs ys m n p q = q
 
@@ -50,7 +50,7 @@ length_epilogue : (f : Frame) → length (epilogue f) ≡ length f.saved + stack
 length_epilogue f =
     let back = restoring (4 * f.slots) f.saved in
     let move = stack_moved f (frame_size f) in
-    let rest : List Item = move ++ Plain (Jalr 0 1 0) ∷ [] in
+    let rest : List PieceItem = move ++ Plain (Jalr 0 1 0) ∷ [] in
     let p : length (back ++ rest) ≡ length back + length rest = length-append back rest in
     let q : length rest ≡ length move + 1 = length-append move (Plain (Jalr 0 1 0) ∷ []) in
     let r : length back ≡ length f.saved = length_restoring (4 * f.slots) f.saved in
@@ -82,7 +82,7 @@ word_branch_size_is None k near nonzero r a to =
 pub const_size_is : (to w : ℕ) → length (const_items to w) ≡ const_size w
 const_size_is to w = long_if (high w == 0) _ _ 1 (if low w == 0 then 1 else 2) refl (long_if (low w == 0) _ _ 1 2 refl refl)
 
-access_size_is : (k : Remembered) (width : Width) (b i : ℕ) (item : Item) → length (indexed k width b i (item ∷ [])) ≡ access_size k width
+access_size_is : (k : Remembered) (width : Width) (b i : ℕ) (item : PieceItem) → length (indexed k width b i (item ∷ [])) ≡ access_size k width
 access_size_is Nothing Byte b i item = refl
 access_size_is Nothing Word b i item = refl
 access_size_is Upper Byte b i item = refl
@@ -92,14 +92,14 @@ access_size_is ByPointer Byte b i item = refl
 access_size_is ByPointer Word b i item = refl
 access_size_is ElementByPointer width b i item = refl
 
-known_access_size_is : (k : Remembered) (b : ℕ) (item : Item) → length (upper_items k b ++ item ∷ []) ≡ known_access_size k
+known_access_size_is : (k : Remembered) (b : ℕ) (item : PieceItem) → length (upper_items k b ++ item ∷ []) ≡ known_access_size k
 known_access_size_is Nothing b item = refl
 known_access_size_is Upper b item = refl
 known_access_size_is Element b item = refl
 known_access_size_is ByPointer b item = refl
 known_access_size_is ElementByPointer b item = refl
 
-one_size_is : (base : ℕ → ℕ) (f : Frame) (near : ℕ → Bool) (labels : ℕ → ℕ) (a : ℕ) (k : Remembered) (i : linear.Item) → length (items_of_one base f near labels a k i) ≡ size_of_one f near k i
+one_size_is : (base : ℕ → ℕ) (f : Frame) (near : ℕ → Bool) (labels : ℕ → ℕ) (a : ℕ) (k : Remembered) (i : LinearItem) → length (items_of_one base f near labels a k i) ≡ size_of_one f near k i
 one_size_is base f near labels a k (Label n) = refl
 one_size_is base f near labels a k (Jump n) = refl
 one_size_is base f near labels a k (IfNonzero r n) = branch_size_is (near n) _ a (labels n)
@@ -135,7 +135,7 @@ word_branch_size_le (Some c) near = branch_size_le near
 word_branch_size_le None near = let le = branch_size_le near in omega arith
 
 -- in its long form a step is no shorter
-one_size_le : (f : Frame) (near : ℕ → Bool) (k : Remembered) (i : linear.Item) → size_of_one f near k i ≤ size_of_one f (λ label. false) k i
+one_size_le : (f : Frame) (near : ℕ → Bool) (k : Remembered) (i : LinearItem) → size_of_one f near k i ≤ size_of_one f (λ label. false) k i
 one_size_le f near k (Label n) = omega arith
 one_size_le f near k (Jump n) = omega arith
 one_size_le f near k (IfNonzero r n) = branch_size_le (near n)

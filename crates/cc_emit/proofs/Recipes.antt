@@ -11,11 +11,11 @@ use Rattle.cc_words.specs.declared.operators.Unary.TheVariants.{Neg, Complement,
 use Rattle.cc_words.specs.declared.operators.Binary as binary
 use Rattle.cc_words.specs.declared.operators.Binary.TheVariants.{Add, Sub, Mul, DivS, DivU, RemS, RemU, Shl, ShrS, ShrU, And, Or, Xor, Eq, Ne, LtS, LtU, LeS, LeU}
 use Rattle.cc_words.proofs.Laws.{is_zero-lt_u, sub_is, eq-sub, ne-sub, le_s-lt_s, le_u-lt_u, complement-xor, IsWord-add, IsWord-sub, IsWord-mul, IsWord-neg, IsWord-div_s, IsWord-div_u, IsWord-rem_s, IsWord-rem_u, IsWord-shl, IsWord-shr_s, IsWord-shr_u, IsWord-and, IsWord-or, IsWord-xor, IsWord-eq, IsWord-ne, IsWord-lt_s, IsWord-lt_u, IsWord-le_s, IsWord-le_u, IsWord-is_zero, IsWord-complement}
-use Rattle.cc_rv32.specs.declared.instr.Operation.TheVariants as operation
+use Rattle.cc_rv32.specs.declared.instr.RegisterOperation.TheVariants as operation
 use Rattle.cc_rv32.specs.declared.instr.ImmediateOperation.TheVariants.{Addi, Sltiu}
 use Rattle.cc_rv32.specs.Machine.{State, computed, execute, immediate_operation, puts, shift_operation}
-use Rattle.cc_select.specs.declared.step.Immediate as immediate
-use Rattle.cc_select.specs.declared.step.Immediate.TheVariants as immediates
+use Rattle.cc_select.specs.declared.step.WordOperator.{WordOperator}
+use Rattle.cc_select.specs.declared.step.WordOperator.TheVariants as immediates
 use Rattle.cc_select.specs.Immediates.{is_exchanged, operator_of, applied, apply_immediate, is_short, has_word}
 use Rattle.cc_emit.specs.Emission.{low, recipe, unary_instr, word_recipe}
 use Rattle.cc_emit.specs.declared.recipe.Recipe.{Recipe}
@@ -185,15 +185,15 @@ ne_by a w false p q e z = (IsWord-add a _, ap (lt_u 0) (sym (minus a w p q e)) �
 -- ---- what the operators give
 
 -- an operator on a register's word and a word has a value, and its instructions give it
-pub record Gives (o : immediate.Immediate) (a w : ℕ) : Type 0 where
+pub record Gives (o : WordOperator) (a w : ℕ) : Type 0 where
   pub value : ℕ
   pub applied : apply_immediate o a w ≡ Some value
   pub right : IsRightWord (word_recipe o w) a value
 
-gives : (o : immediate.Immediate) (a w v : ℕ) → apply_immediate o a w ≡ Some v → IsRightWord (word_recipe o w) a v → Gives o a w
+gives : (o : WordOperator) (a w v : ℕ) → apply_immediate o a w ≡ Some v → IsRightWord (word_recipe o w) a v → Gives o a w
 gives o a w v e r = record { value = v; applied = e; right = r }
 
-pub immediate_gives : (o : immediate.Immediate) (a w : ℕ) → IsWord a → IsWord w → has_word o w ≡ true → Gives o a w
+pub immediate_gives : (o : WordOperator) (a w : ℕ) → IsWord a → IsWord w → has_word o w ≡ true → Gives o a w
 immediate_gives immediates.Add a w p q e = gives immediates.Add a w (add a w) refl (ap (add a) (low_short w q e))
 immediate_gives immediates.Sub a w p q e = gives immediates.Sub a w (sub a w) refl (sym (minus a w p q e))
 immediate_gives immediates.Shl a w p q e = gives immediates.Shl a w _ (shl_by a w e) refl
@@ -216,7 +216,7 @@ immediate_gives immediates.GeU a w p q e =
     gives immediates.GeU a w (le_u w a) refl (IsWord-lt_u a (low w), turned _ ∙ ap (λ n. 1 - lt_u a n) (low_short w q e) ∙ sym (le_u-lt_u w a))
 
 -- and the value is a word
-pub gives_word : (o : immediate.Immediate) (a w v : ℕ) → IsWord a → IsWord w → apply_immediate o a w ≡ Some v → IsWord v
+pub gives_word : (o : WordOperator) (a w v : ℕ) → IsWord a → IsWord w → apply_immediate o a w ≡ Some v → IsWord v
 gives_word o a w v p q e = by_side (is_exchanged o) (operator_of o) e
   where
     by_side : (x : Bool) (b : binary.Binary) → applied x b a w ≡ Some v → IsWord v

@@ -9,10 +9,10 @@ use Rattle.cc_simulation.specs.Unknown.{survives}
 use Rattle.cc_ltl.specs.declared.location.Location.TheVariants.{Register, Slot}
 use Rattle.cc_ltl.specs.Registers.{IsAllocatable}
 use Rattle.cc_ltl.specs.Ltl.{Locations, put, words_from}
-use Rattle.cc_linear_language.specs.declared.item.Item.TheVariants.{Return}
+use Rattle.cc_linear_language.specs.declared.item.LinearItem.TheVariants.{Return}
 use Rattle.cc_rv32.specs.declared.instr.Instr.TheVariants.{Jal, Jalr, Lui, OpImm}
 use Rattle.cc_rv32.specs.declared.instr.ImmediateOperation.TheVariants.{Addi}
-use Rattle.cc_emit.specs.declared.item.Item.TheVariants.{Plain}
+use Rattle.cc_emit.specs.declared.item.PieceItem.TheVariants.{Plain}
 use Rattle.cc_rv32.specs.Machine.{Continues, State, Traps, jumps, puts, stack_from, stack_to, with_register}
 use Rattle.cc_select.specs.declared.step.Step.{Step}
 use Rattle.cc_select.specs.declared.step.Step.TheVariants.{One}

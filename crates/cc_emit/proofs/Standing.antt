@@ -8,12 +8,12 @@ use Rattle.cc_rv32.specs.Machine.{Continues, State, Traps, Turn, execute, execut
 use Rattle.cc_words.specs.declared.operators.Width.TheVariants.{Word}
 use Rattle.cc_simulation.specs.World.{Object, Size, World, object_of, size_in, size_of}
 use Rattle.cc_simulation.specs.Meaning.{Meaning}
-use Rattle.cc_linear_language.specs.declared.item.Item.TheVariants.{Label}
+use Rattle.cc_linear_language.specs.declared.item.LinearItem.TheVariants.{Label}
 use Rattle.cc_select.specs.declared.step.Step.{Step}
 use Rattle.cc_select.specs.declared.step.Step.TheVariants.{One}
 use Rattle.cc_select.specs.Selected as selected
-use Rattle.cc_emit.specs.declared.item.Item.{Item}
-use Rattle.cc_emit.specs.Contract.{Code, IsPlace, Layout, Path, Placed}
+use Rattle.cc_emit.specs.declared.item.PieceItem.{PieceItem}
+use Rattle.cc_emit.specs.Contract.{Code, IsPlace, ObjectLayout, Path, Placed}
 use Rattle.cc_emit.specs.Frames.{Frame, frame_size}
 use Rattle.cc_emit.specs.declared.addressed.Addressed.{Addressed}
 use Rattle.cc_emit.specs.declared.scratch.Scratch.{Scratch}
@@ -38,7 +38,7 @@ path_then code (suc m) k s t u p q =
 -- a function's code at its place, entered by a call
 pub record Site : Type 0 where
   pub meaning : Meaning
-  pub layout : Layout meaning.objects
+  pub layout : ObjectLayout meaning.objects
   pub frame : Frame
   pub steps : List Step
   pub code : Code
@@ -81,13 +81,13 @@ near x = is_near x.frame (all_addressed x)
 abbrev pub labels : Site → ℕ → ℕ
 labels x = short_place x.frame (near x) 0 (prologue_size x.frame) (all_addressed x)
 
-abbrev pub items_at : Site → Scratch → (w a : ℕ) → List Step → List Item
+abbrev pub items_at : Site → Scratch → (w a : ℕ) → List Step → List PieceItem
 items_at x held w a ops = emitted x.layout.base x.frame (near x) (labels x) w a (addressed_at x held ops)
 
-abbrev pub items_for : Site → Scratch → (w a : ℕ) → Step → List Item
+abbrev pub items_for : Site → Scratch → (w a : ℕ) → Step → List PieceItem
 items_for x held w a op = items_of x.layout.base x.frame (near x w) (labels x) a (one_addressed x held op)
 
-abbrev pub Stands : Site → ℕ → List Item → Type 0
+abbrev pub Stands : Site → ℕ → List PieceItem → Type 0
 Stands x p items = Placed x.code x.places x.place p items
 
 -- the items of these steps stand from an item of the piece on, w in the first pass, where so much is known
@@ -98,7 +98,7 @@ pub record Standing (x : Site) (held : Scratch) (w a : ℕ) (ops : List Step) : 
   pub fine : AreFine x.meaning x.frame ops
   pub seen : AreSeen x.frame (all_addressed x) (addressed_at x held ops) w a
 
-pub placed_append : (code : Code) (places : ℕ → ℕ) (place a : ℕ) (xs ys : List Item) → Placed code places place a (xs ++ ys) → Placed code places place a xs × Placed code places place (a + 4 * length xs) ys
+pub placed_append : (code : Code) (places : ℕ → ℕ) (place a : ℕ) (xs ys : List PieceItem) → Placed code places place a (xs ++ ys) → Placed code places place a xs × Placed code places place (a + 4 * length xs) ys
 placed_append code places place a [] ys p = (tt, subst (λ n. Placed code places place n ys) (let e : a ≡ a + 4 * 0 = omega arith in e) p)
 placed_append code places place a (x ∷ xs) ys p =
     let q = placed_append code places place (a + 4) xs ys p.1 in

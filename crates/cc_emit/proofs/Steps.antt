@@ -12,12 +12,12 @@ use Rattle.cc_simulation.specs.Run.{Goes, tried}
 use Rattle.cc_ltl.specs.declared.location.Location.TheVariants.{Register}
 use Rattle.cc_ltl.specs.Registers.{IsAllocatable}
 use Rattle.cc_ltl.specs.Ltl.{Locations, put}
-use Rattle.cc_select.specs.declared.step.Immediate as immediate
+use Rattle.cc_select.specs.declared.step.WordOperator.{WordOperator}
 use Rattle.cc_select.specs.declared.step.Step.{Step}
 use Rattle.cc_select.specs.declared.step.Step.TheVariants.{Immediate, LoadAt, StoreAt, Branch, BranchImmediate}
 use Rattle.cc_select.specs.Selected.{at_steps, led, place}
 use Rattle.cc_rv32.specs.declared.instr.Instr.TheVariants.{Op, OpImm, Shift}
-use Rattle.cc_rv32.specs.declared.instr.Operation.TheVariants as operations
+use Rattle.cc_rv32.specs.declared.instr.RegisterOperation.TheVariants as operations
 use Rattle.cc_rv32.specs.declared.instr.ImmediateOperation.TheVariants.{Sltiu}
 use Rattle.cc_rv32.specs.Machine.{Continues, State, computed, globals_to, immediate_operation, is_taken, loaded, puts, shift_operation, stored, with_register}
 use Rattle.cc_emit.specs.declared.condition.Condition.{Condition}
@@ -58,7 +58,7 @@ word_recipe_reaches x w a to b v (ZeroOfImmediate i n) rest l h s e st inside it
 word_recipe_reaches x w a to b v (NonzeroOfImmediate i n) rest l h s e st inside items u ub right lt =
     asked x w a to v (computed (immediate_operation i) (l (Register b)) n) (OpImm i 5 b n) (Op operations.Sltu to 0 5) rest l h s e st inside items (ap (λ m. puts 5 (computed (immediate_operation i) m n) s) (sym (inside.same b ub))) right.0 (λ t p z. ap₂ (λ m k. puts to (lt_u k m) t) p z ∙ ap (λ m. puts to m t) right.1) u lt
 
-pub immediate_case : (x : Site) {held : Scratch} (w a : ℕ) (o : immediate.Immediate) (to b word : ℕ) (rest : List Step) (l : Locations) (h : World) (s : State) → Given x held w a (Immediate o to b word ∷ rest) l h s → Stepped x (Immediate o to b word ∷ rest) l h s
+pub immediate_case : (x : Site) {held : Scratch} (w a : ℕ) (o : WordOperator) (to b word : ℕ) (rest : List Step) (l : Locations) (h : World) (s : State) → Given x held w a (Immediate o to b word ∷ rest) l h s → Stepped x (Immediate o to b word ∷ rest) l h s
 immediate_case x w a o to b word rest l h s (e, st, inside) =
     let fine = st.fine.0 in
     let n = l (Register b) in
@@ -189,7 +189,7 @@ word_branch_reaches x {held} v a b n k word None nonzero is rest l h s alone e i
     (told_reaches x v (a + 1) n rest l h t (compares (asked_of k) 5 0) word nonzero is (ap (λ q. q + 4) e ∙ there) wt next (subst (λ q. Standing x (without_address held) v q rest) long st) all (λ q. next_nears a (labels x n) (close q))
     (subst (λ q. Stands x q (branch_items is (turned nonzero (compares (asked_of k) 5 0)) (a + 1) (labels x n))) there f.1) tells)
 
-pub branch_immediate_case : (x : Site) {held : Scratch} (w a : ℕ) (o : immediate.Immediate) (nonzero : Bool) (b word n : ℕ) (rest : List Step) (l : Locations) (h : World) (s : State) → Given x held w a (BranchImmediate o nonzero b word n ∷ rest) l h s → StandsWhole x → Stepped x (BranchImmediate o nonzero b word n ∷ rest) l h s
+pub branch_immediate_case : (x : Site) {held : Scratch} (w a : ℕ) (o : WordOperator) (nonzero : Bool) (b word n : ℕ) (rest : List Step) (l : Locations) (h : World) (s : State) → Given x held w a (BranchImmediate o nonzero b word n ∷ rest) l h s → StandsWhole x → Stepped x (BranchImmediate o nonzero b word n ∷ rest) l h s
 branch_immediate_case x {held} w a o nonzero b word n rest l h s (e, st, inside) all =
     let ops : List Step = BranchImmediate o nonzero b word n ∷ rest in
     let fine = st.fine.0 in

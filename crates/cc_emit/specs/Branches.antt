@@ -2,8 +2,8 @@
 use Rattle.std.specs.Prelude.{ℕ, Bool, ◌==◌, if◌then◌else◌, Option, Some, None, option_map}
 use Rattle.cc_words.specs.declared.operators.Binary as binary
 use Rattle.cc_words.specs.declared.operators.Binary.TheVariants.{Eq, LtS, LtU, LeS, LeU}
-use Rattle.cc_rv32.specs.declared.instr.Operation as machine
-use Rattle.cc_rv32.specs.declared.instr.Operation.TheVariants.{Slt, Sltu}
+use Rattle.cc_rv32.specs.declared.instr.RegisterOperation.{RegisterOperation}
+use Rattle.cc_rv32.specs.declared.instr.RegisterOperation.TheVariants.{Slt, Sltu}
 use Rattle.cc_rv32.specs.declared.instr.ImmediateOperation.{ImmediateOperation}
 use Rattle.cc_rv32.specs.declared.instr.ImmediateOperation.TheVariants.{Slti, Sltiu}
 use Rattle.cc_rv32.specs.declared.instr.BranchOperation.{BranchOperation}
@@ -53,7 +53,7 @@ immediate_against_zero Sltiu n a = if n == 1 then Some (compares Beq a 0) else N
 immediate_against_zero operation n a = None
 
 -- the same of an instruction on 0 and a register: more than 0; more than 0, as unsigned, and so not equal to it
-abbrev pub operation_on_zero : machine.Operation → (from : ℕ) → Option Condition
+abbrev pub operation_on_zero : RegisterOperation → (from : ℕ) → Option Condition
 operation_on_zero Slt a = Some (compares Blt 0 a)
 operation_on_zero Sltu a = Some (compares Bne a 0)
 operation_on_zero operation a = None

@@ -2,8 +2,8 @@
 use Rattle.std.specs.Prelude.{◌≡◌, ℕ, zero, suc, ◌+◌, ◌-◌, ◌*◌, ◌%◌, ◌^◌, ◌<◌, ◌≤◌, ◌⊎◌, List, [], ◌∷◌, Option, Some, length, get_or, map}
 use Rattle.cc_rv32.specs.declared.instr.Instr.{Instr}
 use Rattle.cc_rv32.specs.declared.instr.Instr.TheVariants.{Jal}
-use Rattle.cc_emit.specs.declared.item.Item.{Item}
-use Rattle.cc_emit.specs.declared.item.Item.TheVariants.{Plain, Call, Go}
+use Rattle.cc_emit.specs.declared.item.PieceItem.{PieceItem}
+use Rattle.cc_emit.specs.declared.item.PieceItem.TheVariants.{Plain, Call, Go}
 use Rattle.cc_rv32.specs.declared.instr.LoadOperation.{LoadOperation}
 use Rattle.cc_rv32.specs.declared.instr.LoadOperation.TheVariants.{Lbu, Lw}
 use Rattle.cc_rv32.specs.declared.instr.StoreOperation.{StoreOperation}
@@ -44,7 +44,7 @@ abbrev pub words_in : (objects : List Size) → (number : ℕ) → ℕ
 words_in objects g = size_words (size_in objects g)
 
 -- where each object lies, by its number: at a multiple of 4, and no word belongs to two of them
-pub record Layout (objects : List Size) : Type 0 where
+pub record ObjectLayout (objects : List Size) : Type 0 where
   pub base : ℕ → ℕ
   pub from : (g : ℕ) → globals_from ≤ base g
   pub to : (g : ℕ) → base g + 4 * words_in objects g ≤ globals_to
@@ -63,13 +63,13 @@ Path code zero s t = s ≡ t
 Path code (suc m) s t = (u : State) × (executed (code s.pc) s ≡ Continues u) × Path code m u t
 
 -- the instruction that an item becomes at the address a, in a piece at `place`
-abbrev pub filled : (places : ℕ → ℕ) → (place a : ℕ) → Item → Instr
+abbrev pub filled : (places : ℕ → ℕ) → (place a : ℕ) → PieceItem → Instr
 filled places place a (Plain i) = i
 filled places place a (Call g) = Jal 1 ((places g + (2 ^ 32 - a)) % 2 ^ 32)
 filled places place a (Go n) = Jal 0 ((place + 4 * n + (2 ^ 32 - a)) % 2 ^ 32)
 
 -- the items stand at this address
-abbrev pub Placed : Code → (places : ℕ → ℕ) → (place a : ℕ) → List Item → Type 0
+abbrev pub Placed : Code → (places : ℕ → ℕ) → (place a : ℕ) → List PieceItem → Type 0
 Placed code places place a [] = Unit {0}
 Placed code places place a (item ∷ items) = (code a ≡ Some (filled places place a item)) × Placed code places place (a + 4) items
 
@@ -81,7 +81,7 @@ pub record IsSound (s : State) : Type 0 where
   pub input : AreWords s.input
 
 -- the machine's state has what the functions share
-pub record Shares {objects : List Size} (layout : Layout objects) (s : State) (h : World) : Type 0 where
+pub record Shares {objects : List Size} (layout : ObjectLayout objects) (s : State) (h : World) : Type 0 where
   pub sizes : map size_of h.globals ≡ objects
   pub globals : (g i : ℕ) → i < (size_in objects g).elements → element_at (size_in objects g) s.memory (layout.base g) i ≡ get_or (object_words h g) i 0
   pub input : s.input ≡ h.input
@@ -104,7 +104,7 @@ abbrev pub most_open : ℕ
 most_open = 1024
 
 -- the machine at a function's first word, called where `opened` calls are open
-pub record Enters (meaning : Meaning) (layout : Layout meaning.objects) (f opened place : ℕ) (ws : List ℕ) (h : World) (s : State) : Type 0 where
+pub record Enters (meaning : Meaning) (layout : ObjectLayout meaning.objects) (f opened place : ℕ) (ws : List ℕ) (h : World) (s : State) : Type 0 where
   pub is_call : IsCall meaning f ws h
   pub at : s.pc ≡ place
   pub sound : IsSound s
@@ -125,7 +125,7 @@ abbrev pub IsKeptOrPointer : (before after : ℕ) → Type 0
 IsKeptOrPointer before after = (after ≡ before) ⊎ (after ≡ global_pointer)
 
 -- the machine behind the return
-pub record ComesBack {objects : List Size} (layout : Layout objects) (s : State) (a : Answer) (t : State) : Type 0 where
+pub record ComesBack {objects : List Size} (layout : ObjectLayout objects) (s : State) (a : Answer) (t : State) : Type 0 where
   pub at : t.pc ≡ s.registers 1
   pub sound : IsSound t
   pub value : t.registers 10 ≡ a.value
@@ -138,13 +138,13 @@ pub record ComesBack {objects : List Size} (layout : Layout objects) (s : State)
 -- The machine from s does what the source does within n steps, of which `left` are left where it gives an answer. Of the steps taken each c
 -- are paid by one of the m instructions, but for `spare` steps, which are paid elsewhere. So at a greater n more instructions are executed, and
 -- a run that never ends is matched by one that never does.
-abbrev pub Meets : {objects : List Size} (layout : Layout objects) → Code → (c spare n : ℕ) → State → Effect → Type 0
+abbrev pub Meets : {objects : List Size} (layout : ObjectLayout objects) → Code → (c spare n : ℕ) → State → Effect → Type 0
 Meets layout code c spare n s (Gives a left) = (m : ℕ) × (t : State) × Path code m s t × ComesBack layout s a t × (n ≤ left + spare + c * m)
 Meets layout code c spare n s (Unfinished o) = (m : ℕ) × (t : State) × Path code m s t × (t.output ≡ o) × (n ≤ spare + c * m)
 Meets layout code c spare n s (Failed o) = Unit {0}
 
 -- each call from `opened` open calls does what the source's does; the jump to it pays the c steps that are spare
-abbrev pub CallsMeet : (meaning : Meaning) → Layout meaning.objects → Code → (ℕ → ℕ) → (c opened : ℕ) → Type 0
+abbrev pub CallsMeet : (meaning : Meaning) → ObjectLayout meaning.objects → Code → (ℕ → ℕ) → (c opened : ℕ) → Type 0
 CallsMeet meaning layout code places c opened =
     (g : ℕ) (ws : List ℕ) (h : World) (s : State) (n : ℕ) → g < meaning.functions → Enters meaning layout g opened (places g) ws h s → Meets layout code c c n s (meaning.call n opened g ws h)
 
@@ -158,25 +158,25 @@ pub record IsPlace (a : ℕ) : Type 0 where
 -- instruction, its body does what the source's body does. Of the two `rate * c` below the first is how many steps an instruction pays
 -- then. The second is what is spare: the steps of one instruction more, which is left to the jump that called the function. For a function
 -- without a frame has nothing to execute on entry, so where the source's body has begun the machine may still stand at its first word.
-abbrev pub PieceMeets : (meaning : Meaning) → Layout meaning.objects → (function rate : ℕ) → List Item → Type 0
+abbrev pub PieceMeets : (meaning : Meaning) → ObjectLayout meaning.objects → (function rate : ℕ) → List PieceItem → Type 0
 PieceMeets meaning layout f rate items =
     (code : Code) (places : ℕ → ℕ) (place : ℕ) → IsPlace place → IsPlace (place + 4 * length items) → Placed code places place place items → ((g : ℕ) → g < meaning.functions → IsPlace (places g))
     → (opened c : ℕ) → opened < most_open → 1 ≤ c → CallsMeet meaning layout code places c (suc opened)
     → (ws : List ℕ) (h : World) (s : State) (n : ℕ) → Enters meaning layout f opened place ws h s → Meets layout code (rate * c) (rate * c) n s (meaning.body n opened f ws h)
 
 -- an item that has a word, wherever the piece stands
-abbrev pub IsFit : (functions long : ℕ) → Item → Type 0
+abbrev pub IsFit : (functions long : ℕ) → PieceItem → Type 0
 IsFit functions long (Plain i) = IsEncodable i
 IsFit functions long (Call g) = g < functions
 IsFit functions long (Go n) = n ≤ long
 
-abbrev pub AreFit : (functions long : ℕ) → List Item → Type 0
+abbrev pub AreFit : (functions long : ℕ) → List PieceItem → Type 0
 AreFit functions long [] = Unit {0}
 AreFit functions long (i ∷ is) = IsFit functions long i × AreFit functions long is
 
 -- The items of a function's code do what it does. A pair of Linear and those above it keep `follows`, which is their promise, and `keeps_up`,
 -- which only serves to go on from there; a selected pair and a piece keep what serves to go on alone, and the promise is that of the linked image.
-pub record IsPiece (meaning : Meaning) (layout : Layout meaning.objects) (f : ℕ) (items : List Item) : Type 0 where
+pub record IsPiece (meaning : Meaning) (layout : ObjectLayout meaning.objects) (f : ℕ) (items : List PieceItem) : Type 0 where
   pub rate : ℕ
   pub meets : PieceMeets meaning layout f rate items
   pub fit : AreFit meaning.functions (length items) items

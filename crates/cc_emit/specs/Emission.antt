@@ -9,27 +9,27 @@ use Rattle.cc_words.specs.declared.operators.Binary as binary
 use Rattle.cc_words.specs.declared.operators.Binary.TheVariants.{Add, Sub, Mul, DivS, DivU, RemS, RemU, Shl, ShrS, ShrU, And, Or, Xor, Eq, Ne, LtS, LtU, LeS, LeU}
 use Rattle.cc_ltl.specs.declared.operation.Move.{Move}
 use Rattle.cc_ltl.specs.declared.operation.Move.TheVariants.{Between, Reload, Spill}
-use Rattle.cc_linear_language.specs.declared.item.Item as linear
-use Rattle.cc_linear_language.specs.declared.item.Item.TheVariants.{Label, Jump, IfNonzero, IfZero, Copy, Const, Unary, Binary, Load, Store, Call, Read, Write, Return}
+use Rattle.cc_linear_language.specs.declared.item.LinearItem.{LinearItem}
+use Rattle.cc_linear_language.specs.declared.item.LinearItem.TheVariants.{Label, Jump, IfNonzero, IfZero, Copy, Const, Unary, Binary, Load, Store, Call, Read, Write, Return}
 use Rattle.cc_rv32.specs.declared.instr.Instr.{Instr}
 use Rattle.cc_rv32.specs.declared.instr.Instr.TheVariants as instr
-use Rattle.cc_rv32.specs.declared.instr.Operation.TheVariants as operation
+use Rattle.cc_rv32.specs.declared.instr.RegisterOperation.TheVariants as operation
 use Rattle.cc_rv32.specs.declared.instr.ImmediateOperation.TheVariants.{Addi, Slti, Sltiu, Xori, Ori, Andi}
 use Rattle.cc_rv32.specs.declared.instr.ShiftOperation.TheVariants.{Slli, Srli, Srai}
 use Rattle.cc_words.specs.declared.operators.Width.{Width}
 use Rattle.cc_words.specs.declared.operators.Width.TheVariants.{Byte, Word}
 use Rattle.cc_rv32.specs.declared.instr.BranchOperation.TheVariants.{Beq, Bne}
-use Rattle.cc_select.specs.declared.step.Immediate as immediate
-use Rattle.cc_select.specs.declared.step.Immediate.TheVariants as immediates
+use Rattle.cc_select.specs.declared.step.WordOperator.{WordOperator}
+use Rattle.cc_select.specs.declared.step.WordOperator.TheVariants as immediates
 use Rattle.cc_select.specs.declared.step.Step.{Step}
 use Rattle.cc_select.specs.declared.step.Step.TheVariants.{One, Immediate, LoadAt, StoreAt, Branch, BranchImmediate}
 use Rattle.cc_emit.specs.declared.addressed.Addressed.{Addressed}
 use Rattle.cc_emit.specs.declared.addressed.Remembered.{Remembered}
 use Rattle.cc_emit.specs.declared.addressed.Remembered.TheVariants.{Nothing, Upper, Element, ByPointer, ElementByPointer}
 use Rattle.cc_emit.specs.declared.condition.Condition.{Condition}
-use Rattle.cc_emit.specs.declared.item.Item.{Item}
-use Rattle.cc_emit.specs.declared.item.Item.TheVariants as item
-use Rattle.cc_emit.specs.declared.item.Item.TheVariants.{Plain, Go}
+use Rattle.cc_emit.specs.declared.item.PieceItem.{PieceItem}
+use Rattle.cc_emit.specs.declared.item.PieceItem.TheVariants as item
+use Rattle.cc_emit.specs.declared.item.PieceItem.TheVariants.{Plain, Go}
 use Rattle.cc_emit.specs.declared.recipe.Recipe.{Recipe}
 use Rattle.cc_emit.specs.declared.recipe.Recipe.TheVariants.{Direct, ZeroOf, ZeroOfExchanged, NonzeroOf}
 use Rattle.cc_emit.specs.declared.recipe.WordRecipe.{WordRecipe}
@@ -41,21 +41,21 @@ use Rattle.cc_emit.specs.Branches.{compares, opposite, turned, comparison, again
 -- ---- instructions
 
 -- to = from + the immediate
-abbrev pub addi : (to from immediate : ℕ) → Item
+abbrev pub addi : (to from immediate : ℕ) → PieceItem
 addi to from immediate = Plain (instr.OpImm Addi to from immediate)
 
 -- an element at address + offset, loaded and stored
-abbrev pub load_element : Width → (to address offset : ℕ) → Item
+abbrev pub load_element : Width → (to address offset : ℕ) → PieceItem
 load_element width to address offset = Plain (instr.Load (load_of width) to address offset)
 
-abbrev pub store_element : Width → (address from offset : ℕ) → Item
+abbrev pub store_element : Width → (address from offset : ℕ) → PieceItem
 store_element width address from offset = Plain (instr.Store (store_of width) address from offset)
 
 -- a word
-abbrev pub load_word : (to address offset : ℕ) → Item
+abbrev pub load_word : (to address offset : ℕ) → PieceItem
 load_word to address offset = load_element Word to address offset
 
-abbrev pub store_word : (address from offset : ℕ) → Item
+abbrev pub store_word : (address from offset : ℕ) → PieceItem
 store_word address from offset = store_element Word address from offset
 
 -- the lower twelve bits of a word, which the machine extends with their sign, and what the upper twenty then have to be
@@ -68,37 +68,37 @@ high w = (w + 2 ^ 11) / 2 ^ 12 % 2 ^ 20
 -- ---- entry and return
 
 -- x2 moves by a frame's size, given as a word; a function without a frame does not move it
-abbrev pub stack_moved : Frame → (by : ℕ) → List Item
+abbrev pub stack_moved : Frame → (by : ℕ) → List PieceItem
 stack_moved f by = if frame_size f == 0 then [] else addi 2 2 by ∷ []
 
-abbrev pub saving : (offset : ℕ) → List ℕ → List Item
+abbrev pub saving : (offset : ℕ) → List ℕ → List PieceItem
 saving offset [] = []
 saving offset (r ∷ rs) = store_word 2 r offset ∷ saving (offset + 4) rs
 
-abbrev pub restoring : (offset : ℕ) → List ℕ → List Item
+abbrev pub restoring : (offset : ℕ) → List ℕ → List PieceItem
 restoring offset [] = []
 restoring offset (r ∷ rs) = load_word r 2 offset ∷ restoring (offset + 4) rs
 
 -- x3 becomes the global pointer, where the function sets it
-abbrev pub pointer_items : Frame → List Item
+abbrev pub pointer_items : Frame → List PieceItem
 pointer_items f = if f.sets_pointer then Plain (instr.Lui 3 (high global_pointer)) ∷ addi 3 3 (low global_pointer) ∷ [] else []
 
-abbrev pub prologue : Frame → List Item
+abbrev pub prologue : Frame → List PieceItem
 prologue f = pointer_items f ++ (stack_moved f (2 ^ 32 - frame_size f) ++ saving (4 * f.slots) f.saved)
 
-abbrev pub epilogue : Frame → List Item
+abbrev pub epilogue : Frame → List PieceItem
 epilogue f = restoring (4 * f.slots) f.saved ++ (stack_moved f (frame_size f) ++ Plain (instr.Jalr 0 1 0) ∷ [])
 
 -- ---- what stands for an item of Linear; x5 and x6 alone are between
 
 -- a move
-abbrev pub move_item : Move → Item
+abbrev pub move_item : Move → PieceItem
 move_item (Between to from) = addi to from 0
 move_item (Reload to slot) = load_word to 2 (4 * slot)
 move_item (Spill slot from) = store_word 2 from (4 * slot)
 
 -- a word: its lower part alone, its upper part alone, or both
-abbrev pub const_items : (to word : ℕ) → List Item
+abbrev pub const_items : (to word : ℕ) → List PieceItem
 const_items to w =
     if high w == 0 then addi to 0 (low w) ∷ []
     else if low w == 0 then Plain (instr.Lui to (high w)) ∷ []
@@ -133,14 +133,14 @@ recipe LtU = Direct operation.Sltu
 recipe LeS = ZeroOfExchanged operation.Slt
 recipe LeU = ZeroOfExchanged operation.Sltu
 
-abbrev pub recipe_items : Recipe → (to left right : ℕ) → List Item
+abbrev pub recipe_items : Recipe → (to left right : ℕ) → List PieceItem
 recipe_items (Direct o) to a b = Plain (instr.Op o to a b) ∷ []
 recipe_items (ZeroOf o) to a b = Plain (instr.Op o 5 a b) ∷ Plain (instr.OpImm Sltiu to 5 1) ∷ []
 recipe_items (ZeroOfExchanged o) to a b = Plain (instr.Op o 5 b a) ∷ Plain (instr.OpImm Sltiu to 5 1) ∷ []
 recipe_items (NonzeroOf o) to a b = Plain (instr.Op o 5 a b) ∷ Plain (instr.Op operation.Sltu to 0 5) ∷ []
 
 -- x6 becomes the upper part of an address, where it is needed and not there
-abbrev pub upper_items : Remembered → (address : ℕ) → List Item
+abbrev pub upper_items : Remembered → (address : ℕ) → List PieceItem
 upper_items Nothing address = Plain (instr.Lui 6 (high address)) ∷ []
 upper_items known address = []
 
@@ -161,18 +161,18 @@ part_of ElementByPointer a = from_pointer a
 part_of known a = low a
 
 -- before the access to an element: x5 becomes its address, less the object's part of it, from how many bytes it lies behind the first one
-abbrev pub based : Remembered → (base distance : ℕ) → List Item → List Item
+abbrev pub based : Remembered → (base distance : ℕ) → List PieceItem → List PieceItem
 based known base distance items = upper_items known base ++ Plain (instr.Op operation.Add 5 distance (base_register known)) ∷ items
 
 -- from its number, where it is not that address
-abbrev pub indexed : Remembered → Width → (base index : ℕ) → List Item → List Item
+abbrev pub indexed : Remembered → Width → (base index : ℕ) → List PieceItem → List PieceItem
 indexed Element width base index items = items
 indexed ElementByPointer width base index items = items
 indexed known Byte base index items = based known base index items
 indexed known Word base index items = Plain (instr.Shift Slli 5 index 2) ∷ based known base 5 items
 
 -- a service of the machine
-abbrev pub service : (number : ℕ) → List Item
+abbrev pub service : (number : ℕ) → List PieceItem
 service number = addi 17 0 number ∷ Plain instr.Ecall ∷ []
 
 -- from one place to another, in bytes, as a word
@@ -180,14 +180,14 @@ abbrev pub distance : (from to : ℕ) → ℕ
 distance from to = if nat_le from to then 4 * (to - from) else 2 ^ 32 - 4 * (from - to)
 
 -- a branch: where it is near, one instruction, else the opposite one over a jump
-abbrev pub branch_items : (near : Bool) → Condition → (place to : ℕ) → List Item
+abbrev pub branch_items : (near : Bool) → Condition → (place to : ℕ) → List PieceItem
 branch_items near c place to =
     if near then Plain (instr.Branch c.operation c.left c.right (distance place to)) ∷ []
     else Plain (instr.Branch (opposite c.operation) c.left c.right 8) ∷ Go to ∷ []
 
 -- the items of one item of Linear at a place, of whose address so much is known; `base` has the objects' addresses, `labels` the labels'
 -- places, `near` says whether a branch from here to a label is near
-abbrev pub items_of_one : (base : ℕ → ℕ) → Frame → (near : ℕ → Bool) → (labels : ℕ → ℕ) → (place : ℕ) → Remembered → linear.Item → List Item
+abbrev pub items_of_one : (base : ℕ → ℕ) → Frame → (near : ℕ → Bool) → (labels : ℕ → ℕ) → (place : ℕ) → Remembered → LinearItem → List PieceItem
 items_of_one base f near labels place known (Label label) = []
 items_of_one base f near labels place known (Jump to) = Go (labels to) ∷ []
 items_of_one base f near labels place known (IfNonzero from to) = branch_items (near to) (compares Bne from 0) place (labels to)
@@ -207,7 +207,7 @@ items_of_one base f near labels place known Return = epilogue f
 
 -- how an operator on a register and a word is made: by one instruction with an immediate, by a shift, or by one instruction on 0 and the
 -- register; or by asking whether the word that an instruction with an immediate gives is zero, or whether it is not
-abbrev pub word_recipe : immediate.Immediate → (word : ℕ) → WordRecipe
+abbrev pub word_recipe : WordOperator → (word : ℕ) → WordRecipe
 word_recipe immediates.Add w = WithImmediate Addi (low w)
 word_recipe immediates.Sub w = WithImmediate Addi (low (neg w))
 word_recipe immediates.Shl w = ShiftBy Slli (w % 32)
@@ -240,14 +240,14 @@ first_instr (OnZero o) to a = instr.Op o to 0 a
 first_instr (ZeroOfImmediate o n) to a = instr.OpImm o to a n
 first_instr (NonzeroOfImmediate o n) to a = instr.OpImm o to a n
 
-abbrev pub word_recipe_items : WordRecipe → (to from : ℕ) → List Item
+abbrev pub word_recipe_items : WordRecipe → (to from : ℕ) → List PieceItem
 word_recipe_items (ZeroOfImmediate o n) to a = Plain (first_instr (ZeroOfImmediate o n) 5 a) ∷ Plain (instr.OpImm Sltiu to 5 1) ∷ []
 word_recipe_items (NonzeroOfImmediate o n) to a = Plain (first_instr (NonzeroOfImmediate o n) 5 a) ∷ Plain (instr.Op operation.Sltu to 0 5) ∷ []
 word_recipe_items recipe to a = Plain (first_instr recipe to a) ∷ []
 
 -- a branch on a register and a word, by the recipe of the comparison: on x0 alone, where that says the same, else on x5 behind the recipe's
 -- first instruction
-abbrev pub word_branch_items : (alone : Option Condition) → WordRecipe → (near nonzero : Bool) → (from place to : ℕ) → List Item
+abbrev pub word_branch_items : (alone : Option Condition) → WordRecipe → (near nonzero : Bool) → (from place to : ℕ) → List PieceItem
 word_branch_items (Some c) recipe near nonzero a place to = branch_items near (turned nonzero c) place to
 word_branch_items None recipe near nonzero a place to = Plain (first_instr recipe 5 a) ∷ branch_items near (turned nonzero (compares (asked_of recipe) 5 0)) (place + 1) to
 
@@ -255,14 +255,14 @@ word_branch_items None recipe near nonzero a place to = Plain (first_instr recip
 abbrev pub known_place : Width → (base number : ℕ) → ℕ
 known_place width base number = element_place width base number % 2 ^ 32
 
-abbrev pub load_at : Remembered → Width → (to address : ℕ) → List Item
+abbrev pub load_at : Remembered → Width → (to address : ℕ) → List PieceItem
 load_at known width to address = upper_items known address ++ load_element width to (base_register known) (part_of known address) ∷ []
 
-abbrev pub store_at : Remembered → Width → (from address : ℕ) → List Item
+abbrev pub store_at : Remembered → Width → (from address : ℕ) → List PieceItem
 store_at known width from address = upper_items known address ++ store_element width (base_register known) from (part_of known address) ∷ []
 
 -- the items of a step at a place, of whose address so much is known
-abbrev pub items_of_step : (base : ℕ → ℕ) → Frame → (near : ℕ → Bool) → (labels : ℕ → ℕ) → (place : ℕ) → Remembered → Step → List Item
+abbrev pub items_of_step : (base : ℕ → ℕ) → Frame → (near : ℕ → Bool) → (labels : ℕ → ℕ) → (place : ℕ) → Remembered → Step → List PieceItem
 items_of_step base f near labels place known (One item) = items_of_one base f near labels place known item
 items_of_step base f near labels place known (Immediate operator to from word) = word_recipe_items (word_recipe operator word) to from
 items_of_step base f near labels place known (LoadAt width object to number) = load_at known width to (known_place width (base object) number)
@@ -271,7 +271,7 @@ items_of_step base f near labels place known (Branch operator nonzero left right
 items_of_step base f near labels place known (BranchImmediate operator nonzero from word to) =
     word_branch_items (against_zero (word_recipe operator word) from) (word_recipe operator word) (near to) nonzero from place (labels to)
 
-abbrev pub items_of : (base : ℕ → ℕ) → Frame → (near : ℕ → Bool) → (labels : ℕ → ℕ) → (place : ℕ) → Addressed → List Item
+abbrev pub items_of : (base : ℕ → ℕ) → Frame → (near : ℕ → Bool) → (labels : ℕ → ℕ) → (place : ℕ) → Addressed → List PieceItem
 items_of base f near labels place s = items_of_step base f near labels place s.known s.step
 
 -- ---- how many items that are
@@ -315,7 +315,7 @@ abbrev pub known_access_size : Remembered → ℕ
 known_access_size Nothing = 2
 known_access_size known = 1
 
-abbrev pub size_of_one : Frame → (near : ℕ → Bool) → Remembered → linear.Item → ℕ
+abbrev pub size_of_one : Frame → (near : ℕ → Bool) → Remembered → LinearItem → ℕ
 size_of_one f near known (Label label) = 0
 size_of_one f near known (Jump to) = 1
 size_of_one f near known (IfNonzero from to) = branch_size (near to)
@@ -389,12 +389,12 @@ short_place f near long place (s ∷ steps) label =
 -- ---- the code
 
 -- what stands for steps from these places on
-abbrev pub emitted : (base : ℕ → ℕ) → Frame → (near : (long label : ℕ) → Bool) → (labels : ℕ → ℕ) → (long place : ℕ) → List Addressed → List Item
+abbrev pub emitted : (base : ℕ → ℕ) → Frame → (near : (long label : ℕ) → Bool) → (labels : ℕ → ℕ) → (long place : ℕ) → List Addressed → List PieceItem
 emitted base f near labels long place [] = []
 emitted base f near labels long place (s ∷ steps) =
     items_of base f (near long) labels place s ++ emitted base f near labels (long + long_size f s) (place + size f (near long) s) steps
 
 -- in a frame
-abbrev pub framed_items : (base : ℕ → ℕ) → Frame → List Addressed → List Item
+abbrev pub framed_items : (base : ℕ → ℕ) → Frame → List Addressed → List PieceItem
 framed_items base f steps =
     prologue f ++ emitted base f (is_near f steps) (short_place f (is_near f steps) 0 (prologue_size f) steps) 0 (prologue_size f) steps

@@ -2,8 +2,8 @@
 use Rattle.std.specs.Prelude.{ℕ, ◌+◌, ◌*◌, Bool, true, false, ◌||◌, if◌then◌else◌, ◌==◌, List, [], ◌∷◌, length}
 use Rattle.cc_ltl.specs.declared.location.Location.TheVariants.{Register}
 use Rattle.cc_ltl.specs.Ltl.{target, same_location}
-use Rattle.cc_linear_language.specs.declared.item.Item as linear
-use Rattle.cc_linear_language.specs.declared.item.Item.TheVariants.{Copy, Const, Unary, Binary, Load, Call}
+use Rattle.cc_linear_language.specs.declared.item.LinearItem.{LinearItem}
+use Rattle.cc_linear_language.specs.declared.item.LinearItem.TheVariants.{Copy, Const, Unary, Binary, Load, Call}
 use Rattle.cc_select.specs.declared.step.Step.{Step}
 use Rattle.cc_select.specs.declared.step.Step.TheVariants.{One, Immediate, LoadAt}
 
@@ -22,7 +22,7 @@ abbrev pub kept_registers : List ℕ
 kept_registers = 8 ∷ 9 ∷ 18 ∷ 19 ∷ 20 ∷ 21 ∷ 22 ∷ 23 ∷ 24 ∷ 25 ∷ 26 ∷ 27 ∷ []
 
 -- whether an item of Linear writes a register, other than one that a call destroys
-abbrev pub item_writes : (register : ℕ) → linear.Item → Bool
+abbrev pub item_writes : (register : ℕ) → LinearItem → Bool
 item_writes r (Copy m) = same_location (target m) (Register r)
 item_writes r (Const to word) = to == r
 item_writes r (Unary operator to from) = to == r

@@ -2,7 +2,7 @@
 use Rattle.std.specs.Prelude.{◌≡◌, ℕ, zero, suc, ◌+◌, ◌*◌, List, [], ◌∷◌}
 use Rattle.cc_rv32.specs.Machine.{globals_from}
 use Rattle.cc_simulation.specs.World.{Size}
-use Rattle.cc_emit.specs.Contract.{Layout, size_words}
+use Rattle.cc_emit.specs.Contract.{ObjectLayout, size_words}
 
 -- the words of the objects before one of that number
 abbrev pub words_before : (objects : List Size) → (number : ℕ) → ℕ
@@ -15,5 +15,5 @@ abbrev pub object_address : (objects : List Size) → (number : ℕ) → ℕ
 object_address objects number = globals_from + 4 * words_before objects number
 
 -- a layout that puts them there
-abbrev pub IsInOrder : {objects : List Size} → Layout objects → Type 0
+abbrev pub IsInOrder : {objects : List Size} → ObjectLayout objects → Type 0
 IsInOrder {objects} layout = (number : ℕ) → layout.base number ≡ object_address objects number

@@ -9,8 +9,8 @@ use Rattle.cc_c_laws.specs.Numbered.{IsMeaningOf}
 use Rattle.cc_simulation.specs.Meaning.{Meaning}
 use Rattle.cc_ltl.specs.Ltl.{Ltl, IsLtl}
 use Rattle.cc_linear_language.specs.Pair.{most_blocks, LtlKeepsUp}
-use Rattle.cc_emit.specs.declared.item.Item.{Item}
-use Rattle.cc_emit.specs.Contract.{Layout, IsPiece}
+use Rattle.cc_emit.specs.declared.item.PieceItem.{PieceItem}
+use Rattle.cc_emit.specs.Contract.{ObjectLayout, IsPiece}
 use Rattle.cc_emit.specs.Objects.{IsInOrder}
 
 -- a piece as contracts see it: the unit, the function's number in the order of definitions, its LTL, and the items of its code
@@ -18,15 +18,15 @@ pub record Piece : Type 0 where
   pub unit : parsed.Unit
   pub function : ℕ
   pub ltl : Ltl
-  pub items : List Item
+  pub items : List PieceItem
 
 -- the unit's tree
 abbrev pub tree_of : Piece → List External
 tree_of p = (source p.unit).externals
 
 -- items that do what a function of a unit does, with the unit's objects in order
-abbrev pub AreOf : List External → (function : ℕ) → List Item → Type 0
-AreOf unit f items = (meaning : Meaning) → IsMeaningOf unit meaning → (layout : Layout meaning.objects) → IsInOrder layout → IsPiece meaning layout f items
+abbrev pub AreOf : List External → (function : ℕ) → List PieceItem → Type 0
+AreOf unit f items = (meaning : Meaning) → IsMeaningOf unit meaning → (layout : ObjectLayout meaning.objects) → IsInOrder layout → IsPiece meaning layout f items
 
 -- what a piece's type keeps
 pub record IsPieceOfUnit (p : Piece) : Type 0 where

@@ -10,8 +10,8 @@ use Rattle.cc_words.specs.declared.operators.Width.{Width}
 use Rattle.cc_words.specs.Widths.{same_width}
 use Rattle.cc_ltl.specs.declared.operation.Move.{Move}
 use Rattle.cc_ltl.specs.declared.operation.Move.TheVariants.{Between, Reload, Spill}
-use Rattle.cc_linear_language.specs.declared.item.Item as linear
-use Rattle.cc_linear_language.specs.declared.item.Item.TheVariants.{Label, Jump, IfNonzero, IfZero, Copy, Const, Unary, Binary, Load, Store, Call, Read, Write, Return}
+use Rattle.cc_linear_language.specs.declared.item.LinearItem.{LinearItem}
+use Rattle.cc_linear_language.specs.declared.item.LinearItem.TheVariants.{Label, Jump, IfNonzero, IfZero, Copy, Const, Unary, Binary, Load, Store, Call, Read, Write, Return}
 use Rattle.cc_select.specs.declared.step.Step.{Step}
 use Rattle.cc_select.specs.declared.step.Step.TheVariants.{One, Immediate, LoadAt, StoreAt, Branch, BranchImmediate}
 use Rattle.cc_rv32.specs.Machine.{globals_from}
@@ -134,7 +134,7 @@ abbrev pub behind_at : Remembered → Scratch → (address : ℕ) → Scratch
 behind_at known k address = record { upper = upper_behind known k.upper address; address = k.address }
 
 -- an item of Linear: a jump may lead to a label, and a call destroys both registers
-abbrev pub behind_one : (base : ℕ → ℕ) → (sets_pointer : Bool) → linear.Item → Scratch → Scratch
+abbrev pub behind_one : (base : ℕ → ℕ) → (sets_pointer : Bool) → LinearItem → Scratch → Scratch
 behind_one base sets_pointer (Label label) k = nothing
 behind_one base sets_pointer (Jump to) k = nothing
 behind_one base sets_pointer (IfNonzero from to) k = k

@@ -10,7 +10,7 @@ ghost use Rattle.cc_emit.specs.internal.Room.{HasRoom};
 
 use crate::condition::Condition;
 use crate::instructions::{SCRATCH, ZERO, branch, put, put_item};
-use crate::item::Item;
+use crate::item::PieceItem;
 use crate::recipe::WordRecipe;
 use crate::tables::Places;
 use std::alloc::AllocError;
@@ -30,7 +30,7 @@ fn distance(from: usize, to: usize) -> u32
 
 // Puts a branch to the item of that number.
 fn put_branch(
-    items: &mut Vec<Item>,
+    items: &mut Vec<PieceItem>,
     near: bool,
     condition: Condition,
     to: usize,
@@ -43,13 +43,13 @@ fn put_branch(
         put(items, branch(condition, offset))
     } else {
         put(items, branch(condition.opposite(), 8))?;
-        put_item(items, Item::Go(to))
+        put_item(items, PieceItem::Go(to))
     }
 }
 
 // Puts a branch on a register and a word to the item of that number, by the recipe of their comparison.
 fn put_word_branch(
-    items: &mut Vec<Item>,
+    items: &mut Vec<PieceItem>,
     near: bool,
     recipe: WordRecipe,
     nonzero: bool,
@@ -74,7 +74,7 @@ fn put_word_branch(
 
 /// Puts a branch to a label, for a step that has this many items from it on, with each branch long.
 pub(crate) fn put_branch_to(
-    items: &mut Vec<Item>,
+    items: &mut Vec<PieceItem>,
     places: &Places,
     here: usize,
     condition: Condition,
@@ -91,7 +91,7 @@ pub(crate) fn put_branch_to(
 
 /// The same on a register and a word.
 pub(crate) fn put_word_branch_to(
-    items: &mut Vec<Item>,
+    items: &mut Vec<PieceItem>,
     places: &Places,
     here: usize,
     recipe: WordRecipe,

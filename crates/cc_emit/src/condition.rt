@@ -6,7 +6,7 @@ ghost use Rattle.cc_emit.specs.Branches.{opposite, compares, opposed, turned, co
 
 use crate::instructions::ZERO;
 use crate::recipe::WordRecipe;
-use cc_rv32::instr::{BranchOperation, ImmediateOperation, Operation};
+use cc_rv32::instr::{BranchOperation, ImmediateOperation, RegisterOperation};
 use cc_rv32::operand::Register;
 use cc_words::Binary;
 
@@ -115,13 +115,13 @@ fn immediate_against_zero(operation: ImmediateOperation, part: u32, from: u8) ->
 }
 
 // The same of an instruction on 0 and a register.
-fn operation_on_zero(operation: Operation, from: u8) -> Option<Condition>
+fn operation_on_zero(operation: RegisterOperation, from: u8) -> Option<Condition>
     requires { from < 32 }
     ensures { result ≡ operation_on_zero operation from }
 {
     match operation {
-        Operation::Slt => Some(Condition::new(BranchOperation::Blt, ZERO, from)),
-        Operation::Sltu => Some(Condition::new(BranchOperation::Bne, from, ZERO)),
+        RegisterOperation::Slt => Some(Condition::new(BranchOperation::Blt, ZERO, from)),
+        RegisterOperation::Sltu => Some(Condition::new(BranchOperation::Bne, from, ZERO)),
         _ => None,
     }
 }

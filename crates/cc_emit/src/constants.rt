@@ -4,7 +4,7 @@ ghost use Rattle.std.specs.Prelude.{◌≡◌, ◌≤◌, ◌<◌, ◌++◌, OnO
 ghost use Rattle.cc_emit.specs.Emission.{const_items, const_size};
 
 use crate::instructions::{SCRATCH, ZERO, add_immediate, high, load_upper, low, put};
-use crate::item::Item;
+use crate::item::PieceItem;
 use std::alloc::AllocError;
 
 /// How many items a constant takes: 1 or 2.
@@ -20,7 +20,7 @@ pub(crate) fn constant_size(word: u32) -> usize
 }
 
 /// Puts the items of a constant.
-pub(crate) fn put_constant(items: &mut Vec<Item>, to: u8, word: u32) -> Result<(), AllocError>
+pub(crate) fn put_constant(items: &mut Vec<PieceItem>, to: u8, word: u32) -> Result<(), AllocError>
     requires { to < 32 }
     ensures { OnOk result (items.new.items ≡ items.old.items ++ const_items to word) }
 {

@@ -10,7 +10,7 @@ ghost use Rattle.cc_rv32.specs.declared.instr.Instr.TheVariants.{Load, Store};
 ghost use Rattle.cc_emit.specs.Contract.{load_of, store_of};
 ghost use Rattle.cc_emit.specs.Emission.{low, items_of_one, items_of_step, move_item, upper_items, base_register, part_of, based, indexed, known_place, load_at, store_at, service, prologue, framed_items};
 ghost use Rattle.cc_emit.specs.Function.{function_items};
-ghost use Rattle.cc_emit.specs.declared.item.Item.TheVariants.{Plain};
+ghost use Rattle.cc_emit.specs.declared.item.PieceItem.TheVariants.{Plain};
 ghost use Rattle.cc_emit.specs.internal.Bases.{base_in};
 ghost use Rattle.cc_emit.specs.internal.Behind.{reaches, near_behind, place_from, behind, ArePlaces, StepLeadsBelow, LeadsBelow};
 
@@ -25,14 +25,14 @@ use crate::instructions::{
     high, known_place, load, load_element, load_upper, low, operate, put, put_item, serve, store,
     store_element,
 };
-use crate::item::Item;
+use crate::item::PieceItem;
 use crate::operators::{put_binary, put_immediate, unary};
 use crate::recipe::WordRecipe;
 use crate::scratch::addressed;
 use crate::tables::{Places, label_count, long_size};
-use cc_linear_language::Item as LinearItem;
+use cc_linear_language::LinearItem;
 use cc_ltl::Move;
-use cc_rv32::instr::{BranchOperation, Instr, Operation};
+use cc_rv32::instr::{BranchOperation, Instr, RegisterOperation};
 use cc_select::Step;
 use cc_words::Width;
 use std::alloc::{AllocError, Global};
@@ -54,7 +54,7 @@ fn move_word(between: Move) -> Instr
 }
 
 // Puts the upper part of an address into x6, where it is needed and not there.
-fn put_upper(items: &mut Vec<Item>, known: Remembered, address: u32) -> Result<(), AllocError>
+fn put_upper(items: &mut Vec<PieceItem>, known: Remembered, address: u32) -> Result<(), AllocError>
     ensures { OnOk result (items.new.items ≡ items.old.items ++ upper_items known address) }
 {
     match known {
@@ -93,7 +93,7 @@ fn part_of(known: Remembered, address: u32) -> u32
 
 // Puts an access to an element that lies this many bytes behind the first: x5 becomes its address, less the object's part of it.
 fn put_based(
-    items: &mut Vec<Item>,
+    items: &mut Vec<PieceItem>,
     known: Remembered,
     base: u32,
     distance: u8,
@@ -105,14 +105,14 @@ fn put_based(
     put_upper(items, known, base)?;
     put(
         items,
-        operate(Operation::Add, SCRATCH, distance, base_register(known)),
+        operate(RegisterOperation::Add, SCRATCH, distance, base_register(known)),
     )?;
     put(items, access)
 }
 
 // Puts an access to an element of that number.
 fn put_indexed(
-    items: &mut Vec<Item>,
+    items: &mut Vec<PieceItem>,
     known: Remembered,
     width: Width,
     base: u32,
@@ -134,7 +134,7 @@ fn put_indexed(
 
 // Puts a load of an element of an object whose address is `base`.
 fn put_load(
-    items: &mut Vec<Item>,
+    items: &mut Vec<PieceItem>,
     known: Remembered,
     width: Width,
     base: u32,
@@ -151,7 +151,7 @@ fn put_load(
 
 // Puts a store into one.
 fn put_store(
-    items: &mut Vec<Item>,
+    items: &mut Vec<PieceItem>,
     known: Remembered,
     width: Width,
     base: u32,
@@ -168,7 +168,7 @@ fn put_store(
 
 // Puts a load of the element of that number.
 fn put_load_at(
-    items: &mut Vec<Item>,
+    items: &mut Vec<PieceItem>,
     known: Remembered,
     width: Width,
     base: u32,
@@ -186,7 +186,7 @@ fn put_load_at(
 
 // Puts a store into the element of that number.
 fn put_store_at(
-    items: &mut Vec<Item>,
+    items: &mut Vec<PieceItem>,
     known: Remembered,
     width: Width,
     base: u32,
@@ -203,7 +203,7 @@ fn put_store_at(
 }
 
 // Puts a call of one of the machine's services.
-fn put_service(items: &mut Vec<Item>, number: u32) -> Result<(), AllocError>
+fn put_service(items: &mut Vec<PieceItem>, number: u32) -> Result<(), AllocError>
     requires { number < 2048 }
     ensures { OnOk result (items.new.items ≡ items.old.items ++ service number) }
 {
@@ -214,7 +214,7 @@ fn put_service(items: &mut Vec<Item>, number: u32) -> Result<(), AllocError>
 // Puts the items of one item of Linear, of whose address so much is known, and which has this many from it on, with each branch long;
 // `bases` has the objects' addresses.
 fn put_items_of_one(
-    items: &mut Vec<Item>,
+    items: &mut Vec<PieceItem>,
     frame: &Frame,
     places: &Places,
     bases: &Bases,
@@ -229,7 +229,7 @@ fn put_items_of_one(
 {
     match item {
         LinearItem::Label { .. } => Ok(()),
-        LinearItem::Jump { to } => put_item(items, Item::Go(places.place(to))),
+        LinearItem::Jump { to } => put_item(items, PieceItem::Go(places.place(to))),
         LinearItem::IfNonzero { from, to } => {
             let condition = Condition::new(BranchOperation::Bne, from.number(), ZERO);
             put_branch_to(items, places, here, condition, to)
@@ -275,7 +275,7 @@ fn put_items_of_one(
             index.number(),
             from.number(),
         ),
-        LinearItem::Call { function } => put_item(items, Item::Call(function)),
+        LinearItem::Call { function } => put_item(items, PieceItem::Call(function)),
         LinearItem::Read => put_service(items, READ),
         LinearItem::Write => put_service(items, WRITE),
         LinearItem::Return => frame.put_epilogue(items),
@@ -285,7 +285,7 @@ fn put_items_of_one(
 // Puts the items of a step, of whose address so much is known, and which has this many from it on, with each branch long; `bases` has the
 // objects' addresses.
 fn put_items_of(
-    items: &mut Vec<Item>,
+    items: &mut Vec<PieceItem>,
     frame: &Frame,
     places: &Places,
     bases: &Bases,
@@ -344,7 +344,7 @@ fn put_items_of(
 
 // Puts the items of a function behind its prologue.
 fn put_code(
-    items: &mut Vec<Item>,
+    items: &mut Vec<PieceItem>,
     frame: &Frame,
     places: &Places,
     bases: &Bases,
@@ -370,7 +370,7 @@ pub(crate) fn function_items(
     slots: u16,
     code: &[Step],
     bases: &Bases,
-) -> Result<Vec<Item>, AllocError>
+) -> Result<Vec<PieceItem>, AllocError>
     requires slots { slots ≤ most_slots }
     requires fit { (functions : ℕ) × AllByRecursion (IsStep slots functions (labels code.now)) code.now }
     requires few { length code.now ≤ 2 ^ 59 }

@@ -10,8 +10,8 @@ use crate::instructions::{
     GLOBAL_POINTER, POINTER, RETURN_ADDRESS, STACK, add_immediate, go_back, high, load, load_upper,
     low, put, store,
 };
-use crate::item::Item;
-use cc_linear_language::Item as LinearItem;
+use crate::item::PieceItem;
+use cc_linear_language::LinearItem;
 use cc_ltl::Move;
 use cc_select::Step;
 use std::alloc::{AllocError, Global};
@@ -106,7 +106,7 @@ impl Frame {
     }
 
     /// `x3` is set, the stack pointer goes down by the frame's size, and the registers are saved.
-    pub(crate) fn put_prologue(&self, items: &mut Vec<Item>) -> Result<(), AllocError>
+    pub(crate) fn put_prologue(&self, items: &mut Vec<PieceItem>) -> Result<(), AllocError>
         ensures { OnOk result (items.new.items ≡ items.old.items ++ prologue self.now) }
     {
         if self.sets_pointer {
@@ -121,7 +121,7 @@ impl Frame {
     }
 
     /// The registers are restored, the stack pointer goes up, and the function returns.
-    pub(crate) fn put_epilogue(&self, items: &mut Vec<Item>) -> Result<(), AllocError>
+    pub(crate) fn put_epilogue(&self, items: &mut Vec<PieceItem>) -> Result<(), AllocError>
         ensures { OnOk result (items.new.items ≡ items.old.items ++ epilogue self.now) }
     {
         put_restoring(items, 4 * u32::from(self.slots), self.saved.as_slice())?;
@@ -141,7 +141,7 @@ pub(crate) fn pointer_size(sets_pointer: bool) -> usize
     if sets_pointer { 2 } else { 0 }
 }
 
-fn put_saving(items: &mut Vec<Item>, offset: u32, saved: &[u8]) -> Result<(), AllocError>
+fn put_saving(items: &mut Vec<PieceItem>, offset: u32, saved: &[u8]) -> Result<(), AllocError>
     requires few { offset + 4 * length saved.now ≤ 2032 }
     requires registers { AllByRecursion (λ r. r < 32) saved.now }
     ensures { OnOk result (items.new.items ≡ items.old.items ++ saving offset saved.now) }
@@ -154,7 +154,7 @@ fn put_saving(items: &mut Vec<Item>, offset: u32, saved: &[u8]) -> Result<(), Al
     Ok(())
 }
 
-fn put_restoring(items: &mut Vec<Item>, offset: u32, saved: &[u8]) -> Result<(), AllocError>
+fn put_restoring(items: &mut Vec<PieceItem>, offset: u32, saved: &[u8]) -> Result<(), AllocError>
     requires few { offset + 4 * length saved.now ≤ 2032 }
     requires registers { AllByRecursion (λ r. r < 32) saved.now }
     ensures { OnOk result (items.new.items ≡ items.old.items ++ restoring offset saved.now) }

@@ -7,14 +7,14 @@ ghost use Rattle.cc_rv32.specs.declared.instr.ImmediateOperation.TheVariants.{Ad
 ghost use Rattle.cc_rv32.specs.declared.instr.ShiftOperation.TheVariants.{Slli};
 ghost use Rattle.cc_rv32.specs.declared.instr.LoadOperation.TheVariants.{Lw};
 ghost use Rattle.cc_rv32.specs.declared.instr.StoreOperation.TheVariants.{Sw};
-ghost use Rattle.cc_emit.specs.declared.item.Item.TheVariants.{Plain};
+ghost use Rattle.cc_emit.specs.declared.item.PieceItem.TheVariants.{Plain};
 ghost use Rattle.cc_emit.specs.Contract.{load_of, store_of};
 ghost use Rattle.cc_emit.specs.Emission.{low, high, from_pointer, known_place};
 
 use crate::condition::Condition;
-use crate::item::Item;
+use crate::item::PieceItem;
 use cc_rv32::instr::{
-    ImmediateOperation, Instr, LoadOperation, Operation, ShiftOperation, StoreOperation,
+    ImmediateOperation, Instr, LoadOperation, RegisterOperation, ShiftOperation, StoreOperation,
 };
 use cc_rv32::map::GLOBALS_FROM;
 use cc_rv32::operand::{BranchOffset, Immediate, Register, ShiftCount, UpperImmediate};
@@ -40,12 +40,12 @@ pub(crate) const OTHER_SCRATCH: u8 = 6;
 pub(crate) const SERVICE: u8 = 17;
 
 /// Puts an item behind the others.
-pub(crate) fn put_item(items: &mut Vec<Item>, item: Item) -> Result<(), AllocError>
+pub(crate) fn put_item(items: &mut Vec<PieceItem>, item: PieceItem) -> Result<(), AllocError>
     ensures { OnOk result (items.new.items ≡ items.old.items ++ item ∷ []) }
 {
     match item {
-        Item::Plain(instr) => put(items, instr),
-        Item::Call(_) | Item::Go(_) => {
+        PieceItem::Plain(instr) => put(items, instr),
+        PieceItem::Call(_) | PieceItem::Go(_) => {
             items.push(item)?;
             Ok(())
         }
@@ -53,16 +53,16 @@ pub(crate) fn put_item(items: &mut Vec<Item>, item: Item) -> Result<(), AllocErr
 }
 
 /// Puts an instruction behind the others.
-pub(crate) fn put(items: &mut Vec<Item>, instr: Instr) -> Result<(), AllocError>
+pub(crate) fn put(items: &mut Vec<PieceItem>, instr: Instr) -> Result<(), AllocError>
     ensures { OnOk result (items.new.items ≡ items.old.items ++ Plain instr ∷ []) }
 {
     items.reserve(1)?;
-    items.push_reserved(Item::Plain(instr));
+    items.push_reserved(PieceItem::Plain(instr));
     Ok(())
 }
 
 /// An instruction on two registers.
-pub(crate) fn operate(operation: Operation, to: u8, left: u8, right: u8) -> Instr
+pub(crate) fn operate(operation: RegisterOperation, to: u8, left: u8, right: u8) -> Instr
     requires to { to < 32 }
     requires left { left < 32 }
     requires right { right < 32 }

@@ -4,7 +4,7 @@ use cc_rv32::instr::Instr;
 
 /// One item, which becomes one word of an image.
 #[derive(Clone, Copy)]
-pub enum Item {
+pub enum PieceItem {
     /// An instruction.
     Plain(Instr),
     /// A call of the function of that number, in the order of definitions.

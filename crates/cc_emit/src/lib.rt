@@ -27,5 +27,5 @@ mod scratch;
 mod tables;
 
 pub use emitting::emit;
-pub use item::Item;
+pub use item::PieceItem;
 pub use piece::Piece;

@@ -3,14 +3,14 @@
 ghost use Rattle.std.specs.Prelude.{◌≡◌, ◌<◌, ◌≤◌, ◌%◌, ◌++◌, OnOk};
 ghost use Rattle.cc_emit.specs.Emission.{recipe, recipe_items, word_recipe, word_recipe_items, unary_instr};
 ghost use Rattle.cc_rv32.specs.declared.instr.Instr.TheVariants.{Op, OpImm};
-ghost use Rattle.cc_rv32.specs.declared.instr.Operation.TheVariants.{Sltu};
+ghost use Rattle.cc_rv32.specs.declared.instr.RegisterOperation.TheVariants.{Sltu};
 ghost use Rattle.cc_rv32.specs.declared.instr.ImmediateOperation.TheVariants.{Sltiu};
 
 use crate::instructions::{SCRATCH, ZERO, operate, operate_immediate, put};
-use crate::item::Item;
+use crate::item::PieceItem;
 use crate::recipe::{Recipe, WordRecipe};
-use cc_rv32::instr::{ImmediateOperation, Instr, Operation};
-use cc_select::Immediate;
+use cc_rv32::instr::{ImmediateOperation, Instr, RegisterOperation};
+use cc_select::WordOperator;
 use cc_words::{Binary, Unary};
 use std::alloc::AllocError;
 
@@ -21,7 +21,7 @@ pub(crate) fn unary(operator: Unary, to: u8, from: u8) -> Instr
     ensures { result ≡ unary_instr operator to from }
 {
     match operator {
-        Unary::Neg => operate(Operation::Sub, to, ZERO, from),
+        Unary::Neg => operate(RegisterOperation::Sub, to, ZERO, from),
         Unary::Complement => operate_immediate(ImmediateOperation::Xori, to, from, 0xffff_ffff),
         Unary::IsZero => operate_immediate(ImmediateOperation::Sltiu, to, from, 1),
     }
@@ -29,7 +29,7 @@ pub(crate) fn unary(operator: Unary, to: u8, from: u8) -> Instr
 
 /// Puts the items of an operator on two words.
 pub(crate) fn put_binary(
-    items: &mut Vec<Item>,
+    items: &mut Vec<PieceItem>,
     operator: Binary,
     to: u8,
     left: u8,
@@ -59,8 +59,8 @@ pub(crate) fn put_binary(
 
 /// Puts the items of an operator on a register and a word.
 pub(crate) fn put_immediate(
-    items: &mut Vec<Item>,
-    operator: Immediate,
+    items: &mut Vec<PieceItem>,
+    operator: WordOperator,
     to: u8,
     from: u8,
     word: u32,
@@ -98,5 +98,5 @@ fn is_nonzero(to: u8) -> Instr
     requires { to < 32 }
     ensures { result ≡ Op Sltu to 0 5 }
 {
-    operate(Operation::Sltu, to, ZERO, SCRATCH)
+    operate(RegisterOperation::Sltu, to, ZERO, SCRATCH)
 }

@@ -7,7 +7,7 @@ ghost use Rattle.cc_ltl.specs.Ltl.{IsLtl};
 ghost use Rattle.cc_linear_language.specs.Pair.{most_blocks, LtlKeepsUp};
 ghost use Rattle.cc_emit.specs.Piece.{Piece as Shown, tree_of, IsPieceOfUnit};
 
-use crate::item::Item;
+use crate::item::PieceItem;
 use cc_ltl::Ltl;
 use cc_types::TypedUnit;
 use std::marker::Model;
@@ -20,7 +20,7 @@ pub struct Piece {
     unit: Arc<TypedUnit>,
     function: usize,
     ltl: Ltl,
-    items: Vec<Item>,
+    items: Vec<PieceItem>,
 }
 
 // By hand, so that crates above call it and do not prove anew how each part is dropped.
@@ -52,7 +52,7 @@ impl Model for Piece {
 
 impl Piece {
     // The one place where a piece is made.
-    pub(crate) fn new(unit: Arc<TypedUnit>, function: usize, ltl: Ltl, items: Vec<Item>) -> Piece
+    pub(crate) fn new(unit: Arc<TypedUnit>, function: usize, ltl: Ltl, items: Vec<PieceItem>) -> Piece
         requires { IsPieceOfUnit (record { unit = arc_value unit; function = function; ltl = ltl; items = items.items }) }
         ensures { result ≡ record { unit = arc_value unit; function = function; ltl = ltl; items = items.items } }
     {
@@ -91,7 +91,7 @@ impl Piece {
 
     /// The items of its code, one for each word. Each call is of a function of the unit, and each jump goes to an item of the piece or
     /// to its end. Wherever they stand, the machine does with them what the function does.
-    pub fn items(&self) -> &[Item]
+    pub fn items(&self) -> &[PieceItem]
         ensures items { result.now ≡ self.now.items }
         ensures piece { IsPieceOfUnit self.now }
     {

@@ -4,24 +4,24 @@ ghost use Rattle.std.specs.Prelude.{◌≡◌, ◌<◌, ◌≤◌};
 ghost use Rattle.cc_emit.specs.Branches.{asked_of};
 ghost use Rattle.cc_emit.specs.Emission.{recipe, recipe_size, word_recipe, word_recipe_size, first_instr};
 ghost use Rattle.cc_emit.specs.internal.Room.{HasRoom};
-ghost use Rattle.cc_select.specs.declared.step.Immediate.TheVariants.{Eq, Ne};
+ghost use Rattle.cc_select.specs.declared.step.WordOperator.TheVariants.{Eq, Ne};
 
 use crate::instructions::{ZERO, low, operate, operate_immediate, shift};
-use cc_rv32::instr::{BranchOperation, ImmediateOperation, Instr, Operation, ShiftOperation};
-use cc_select::Immediate;
+use cc_rv32::instr::{BranchOperation, ImmediateOperation, Instr, RegisterOperation, ShiftOperation};
+use cc_select::WordOperator;
 use cc_words::{Binary, add, sub};
 
 /// How an operator on two words is made.
 #[derive(Clone, Copy)]
 pub(crate) enum Recipe {
     /// By one instruction.
-    Direct(Operation),
+    Direct(RegisterOperation),
     /// By asking whether the word that an instruction gives is 0.
-    ZeroOf(Operation),
+    ZeroOf(RegisterOperation),
     /// The same, with the operands exchanged.
-    ZeroOfExchanged(Operation),
+    ZeroOfExchanged(RegisterOperation),
     /// By asking whether that word is not 0.
-    NonzeroOf(Operation),
+    NonzeroOf(RegisterOperation),
 }
 
 impl Recipe {
@@ -30,25 +30,25 @@ impl Recipe {
         ensures { result ≡ recipe operator }
     {
         match operator {
-            Binary::Add => Recipe::Direct(Operation::Add),
-            Binary::Sub => Recipe::Direct(Operation::Sub),
-            Binary::Mul => Recipe::Direct(Operation::Mul),
-            Binary::DivS => Recipe::Direct(Operation::Div),
-            Binary::DivU => Recipe::Direct(Operation::Divu),
-            Binary::RemS => Recipe::Direct(Operation::Rem),
-            Binary::RemU => Recipe::Direct(Operation::Remu),
-            Binary::Shl => Recipe::Direct(Operation::Sll),
-            Binary::ShrS => Recipe::Direct(Operation::Sra),
-            Binary::ShrU => Recipe::Direct(Operation::Srl),
-            Binary::And => Recipe::Direct(Operation::And),
-            Binary::Or => Recipe::Direct(Operation::Or),
-            Binary::Xor => Recipe::Direct(Operation::Xor),
-            Binary::Eq => Recipe::ZeroOf(Operation::Sub),
-            Binary::Ne => Recipe::NonzeroOf(Operation::Sub),
-            Binary::LtS => Recipe::Direct(Operation::Slt),
-            Binary::LtU => Recipe::Direct(Operation::Sltu),
-            Binary::LeS => Recipe::ZeroOfExchanged(Operation::Slt),
-            Binary::LeU => Recipe::ZeroOfExchanged(Operation::Sltu),
+            Binary::Add => Recipe::Direct(RegisterOperation::Add),
+            Binary::Sub => Recipe::Direct(RegisterOperation::Sub),
+            Binary::Mul => Recipe::Direct(RegisterOperation::Mul),
+            Binary::DivS => Recipe::Direct(RegisterOperation::Div),
+            Binary::DivU => Recipe::Direct(RegisterOperation::Divu),
+            Binary::RemS => Recipe::Direct(RegisterOperation::Rem),
+            Binary::RemU => Recipe::Direct(RegisterOperation::Remu),
+            Binary::Shl => Recipe::Direct(RegisterOperation::Sll),
+            Binary::ShrS => Recipe::Direct(RegisterOperation::Sra),
+            Binary::ShrU => Recipe::Direct(RegisterOperation::Srl),
+            Binary::And => Recipe::Direct(RegisterOperation::And),
+            Binary::Or => Recipe::Direct(RegisterOperation::Or),
+            Binary::Xor => Recipe::Direct(RegisterOperation::Xor),
+            Binary::Eq => Recipe::ZeroOf(RegisterOperation::Sub),
+            Binary::Ne => Recipe::NonzeroOf(RegisterOperation::Sub),
+            Binary::LtS => Recipe::Direct(RegisterOperation::Slt),
+            Binary::LtU => Recipe::Direct(RegisterOperation::Sltu),
+            Binary::LeS => Recipe::ZeroOfExchanged(RegisterOperation::Slt),
+            Binary::LeU => Recipe::ZeroOfExchanged(RegisterOperation::Sltu),
         }
     }
 
@@ -72,7 +72,7 @@ pub(crate) enum WordRecipe {
     /// By a shift.
     ShiftBy(ShiftOperation, u8),
     /// By one instruction on 0 and the register.
-    OnZero(Operation),
+    OnZero(RegisterOperation),
     /// By asking whether the word that an instruction with an immediate gives is 0.
     ZeroOfImmediate(ImmediateOperation, u32),
     /// By asking whether that word is not 0.
@@ -81,38 +81,38 @@ pub(crate) enum WordRecipe {
 
 impl WordRecipe {
     /// That of an operator and a word.
-    pub(crate) fn of(operator: Immediate, word: u32) -> WordRecipe
+    pub(crate) fn of(operator: WordOperator, word: u32) -> WordRecipe
         ensures answer { result ≡ word_recipe operator word }
         ensures fits { HasRoom result }
     {
         match operator {
-            Immediate::Add => WordRecipe::WithImmediate(ImmediateOperation::Addi, low(word)),
-            Immediate::Sub => WordRecipe::WithImmediate(
+            WordOperator::Add => WordRecipe::WithImmediate(ImmediateOperation::Addi, low(word)),
+            WordOperator::Sub => WordRecipe::WithImmediate(
                 ImmediateOperation::Addi,
                 low(sub(0, word)),
             ),
-            Immediate::Shl => WordRecipe::ShiftBy(ShiftOperation::Slli, (word % 32) as u8),
-            Immediate::ShrS => WordRecipe::ShiftBy(ShiftOperation::Srai, (word % 32) as u8),
-            Immediate::ShrU => WordRecipe::ShiftBy(ShiftOperation::Srli, (word % 32) as u8),
-            Immediate::And => WordRecipe::WithImmediate(ImmediateOperation::Andi, low(word)),
-            Immediate::Or => WordRecipe::WithImmediate(ImmediateOperation::Ori, low(word)),
-            Immediate::Xor => WordRecipe::WithImmediate(ImmediateOperation::Xori, low(word)),
-            Immediate::Eq => equal_to(word),
-            Immediate::Ne => unequal_to(word),
-            Immediate::LtS => WordRecipe::WithImmediate(ImmediateOperation::Slti, low(word)),
-            Immediate::LtU => WordRecipe::WithImmediate(ImmediateOperation::Sltiu, low(word)),
-            Immediate::LeS => WordRecipe::WithImmediate(
+            WordOperator::Shl => WordRecipe::ShiftBy(ShiftOperation::Slli, (word % 32) as u8),
+            WordOperator::ShrS => WordRecipe::ShiftBy(ShiftOperation::Srai, (word % 32) as u8),
+            WordOperator::ShrU => WordRecipe::ShiftBy(ShiftOperation::Srli, (word % 32) as u8),
+            WordOperator::And => WordRecipe::WithImmediate(ImmediateOperation::Andi, low(word)),
+            WordOperator::Or => WordRecipe::WithImmediate(ImmediateOperation::Ori, low(word)),
+            WordOperator::Xor => WordRecipe::WithImmediate(ImmediateOperation::Xori, low(word)),
+            WordOperator::Eq => equal_to(word),
+            WordOperator::Ne => unequal_to(word),
+            WordOperator::LtS => WordRecipe::WithImmediate(ImmediateOperation::Slti, low(word)),
+            WordOperator::LtU => WordRecipe::WithImmediate(ImmediateOperation::Sltiu, low(word)),
+            WordOperator::LeS => WordRecipe::WithImmediate(
                 ImmediateOperation::Slti,
                 low(add(word, 1)),
             ),
-            Immediate::LeU => WordRecipe::WithImmediate(
+            WordOperator::LeU => WordRecipe::WithImmediate(
                 ImmediateOperation::Sltiu,
                 low(add(word, 1)),
             ),
-            Immediate::GtS => WordRecipe::OnZero(Operation::Slt),
-            Immediate::GtU => WordRecipe::OnZero(Operation::Sltu),
-            Immediate::GeS => WordRecipe::ZeroOfImmediate(ImmediateOperation::Slti, low(word)),
-            Immediate::GeU => WordRecipe::ZeroOfImmediate(ImmediateOperation::Sltiu, low(word)),
+            WordOperator::GtS => WordRecipe::OnZero(RegisterOperation::Slt),
+            WordOperator::GtU => WordRecipe::OnZero(RegisterOperation::Sltu),
+            WordOperator::GeS => WordRecipe::ZeroOfImmediate(ImmediateOperation::Slti, low(word)),
+            WordOperator::GeU => WordRecipe::ZeroOfImmediate(ImmediateOperation::Sltiu, low(word)),
         }
     }
 
@@ -175,7 +175,7 @@ fn unequal_to(word: u32) -> WordRecipe
     ensures fits { HasRoom result }
 {
     if word == 0 {
-        WordRecipe::OnZero(Operation::Sltu)
+        WordRecipe::OnZero(RegisterOperation::Sltu)
     } else {
         WordRecipe::NonzeroOfImmediate(ImmediateOperation::Addi, low(sub(0, word)))
     }

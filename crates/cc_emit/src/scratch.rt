@@ -19,7 +19,7 @@ use crate::frame::pointer_size;
 use crate::instructions::{GLOBAL_POINTER, SERVICE, high, known_place, low};
 use crate::recipe::{Recipe, WordRecipe};
 use crate::tables::{access_size, known_access_size};
-use cc_linear_language::Item as LinearItem;
+use cc_linear_language::LinearItem;
 use cc_ltl::Move;
 use cc_rv32::map::GLOBALS_FROM;
 use cc_select::Step;

@@ -15,7 +15,7 @@ use crate::condition::Condition;
 use crate::constants::constant_size;
 use crate::frame::Frame;
 use crate::recipe::{Recipe, WordRecipe};
-use cc_linear_language::Item as LinearItem;
+use cc_linear_language::LinearItem;
 use cc_select::Step;
 use cc_words::Width;
 use std::alloc::{AllocError, Global};

@@ -6,7 +6,7 @@ ghost use Rattle.cc_headline.specs.internal.Law.{sources_are_planned, whole_unit
 
 use crate::refusal::refusal;
 use cc_core::build::Build;
-use cc_core::fault::BuildFault;
+use cc_core::fault::BuildRefusal;
 use cc_emit::Piece;
 use cc_link::{link_lent, linked_units_agree, typed_unit};
 use cc_unit::StoredUnit;
@@ -30,7 +30,7 @@ impl Build for CcBuild {
 
     ghost is_right = { is_right };
 
-    fn plan(&self, alloc: Global, source: &[u8]) -> Result<u32, BuildFault> {
+    fn plan(&self, alloc: Global, source: &[u8]) -> Result<u32, BuildRefusal> {
         match typed_unit(alloc, source) {
             Ok(unit) => {
                 let functions = unit.functions() as u32;
@@ -53,12 +53,12 @@ impl Build for CcBuild {
         alloc: Global,
         source: &[u8],
         pieces: &[&Piece],
-    ) -> Result<Arc<StoredUnit>, BuildFault> {
+    ) -> Result<Arc<StoredUnit>, BuildRefusal> {
         let [first, ..] = pieces else {
-            return Err(BuildFault::Refused(26));
+            return Err(BuildRefusal::Refused(26));
         };
         if first.unit().text() != source {
-            return Err(BuildFault::Refused(28));
+            return Err(BuildRefusal::Refused(28));
         }
         match link_lent(alloc, first.unit(), pieces) {
             Ok(compiled) => Ok(Arc::try_clone(compiled.stored())?),

@@ -2,15 +2,15 @@
 ghost use Rattle.std.specs.Prelude.{◌≡◌};
 ghost use Rattle.cc_headline.specs.internal.Refusals.{refused_by};
 
-use cc_core::fault::BuildFault;
+use cc_core::fault::BuildRefusal;
 
 // By its number.
-pub(crate) fn refusal(number: u32) -> BuildFault
+pub(crate) fn refusal(number: u32) -> BuildRefusal
     ensures { result ≡ refused_by number }
 {
     if number == 40 {
-        BuildFault::OutOfMemory
+        BuildRefusal::OutOfMemory
     } else {
-        BuildFault::Refused(number)
+        BuildRefusal::Refused(number)
     }
 }

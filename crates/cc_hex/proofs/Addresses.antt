@@ -2,11 +2,11 @@
 use Rattle.std.proofs.Common.{◌≡◌, ℕ, zero, suc, ◌+◌, ◌-◌, ◌*◌, ◌/◌, ◌%◌, ◌^◌, ◌<◌, ◌≤◌, eqb, leb, ltb, ◌&&◌, Bool, cond, true, false, List, [], ◌∷◌, ◌++◌, length, get_or, Option, Some, refl, ap, sym, subst, ◌∙◌, arith, append_assoc, inl, inr}
 use Rattle.std.proofs.lemmas.Bool.{cases_lt}
 use Rattle.std.proofs.lemmas.Bool.Decides.{nat_tests}
-use Rattle.cc_hex.specs.Format.{Cell, cells_from, read}
+use Rattle.cc_hex.specs.Format.{AddressedByte, cells_from, read}
 use Rattle.cc_hex.specs.Contents.{byte_of_words, bytes_at, bytes_of_words, GivesAt}
 use Rattle.cc_hex.proofs.Whole.{long}
 
-bytes_at-append : (xs ys : List Cell) (a : ℕ) → bytes_at (xs ++ ys) a ≡ bytes_at xs a ++ bytes_at ys a
+bytes_at-append : (xs ys : List AddressedByte) (a : ℕ) → bytes_at (xs ++ ys) a ≡ bytes_at xs a ++ bytes_at ys a
 bytes_at-append [] ys a = refl
 bytes_at-append (x ∷ xs) ys a =
     let here : List ℕ = cond (eqb x.address a) (x.byte ∷ []) [] in
@@ -109,9 +109,9 @@ pub held : (code globals text : List ℕ) → length code ≤ 131072 → length 
     read text ≡ Some (cells_from 65536 (bytes_of_words code) ++ cells_from 2097152 (bytes_of_words globals)) →
     (a : ℕ) → GivesAt (read text) a (byte_of_words 65536 code a ++ byte_of_words 2097152 globals a)
 held code globals text few_code few_globals e a =
-    let code_cells : List Cell = cells_from 65536 (bytes_of_words code) in
-    let globals_cells : List Cell = cells_from 2097152 (bytes_of_words globals) in
-    subst (λ (found : Option (List Cell)). GivesAt found a (byte_of_words 65536 code a ++ byte_of_words 2097152 globals a)) (sym e)
+    let code_cells : List AddressedByte = cells_from 65536 (bytes_of_words code) in
+    let globals_cells : List AddressedByte = cells_from 2097152 (bytes_of_words globals) in
+    subst (λ (found : Option (List AddressedByte)). GivesAt found a (byte_of_words 65536 code a ++ byte_of_words 2097152 globals a)) (sym e)
     (bytes_at-append code_cells globals_cells a
     ∙ ap (λ bs. bs ++ bytes_at globals_cells a) (block_at 65536 code a (omega arith))
     ∙ ap (λ bs. byte_of_words 65536 code a ++ bs) (block_at 2097152 globals a (omega arith)))

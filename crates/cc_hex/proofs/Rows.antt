@@ -4,14 +4,14 @@ use Rattle.std.proofs.lemmas.Bool.{cases_eq}
 use Rattle.std.specs.Int.{w16, to_be_bytes}
 use Rattle.std.proofs.lemmas.List.{length-drop, length-take, nil_from_length}
 use Rattle.cc_hex.specs.internal.Reading.{◌>>=◌}
-use Rattle.cc_hex.specs.Format.{Record, Data, ExtendedLinearAddress, Cell, cells_from, contents_of}
+use Rattle.cc_hex.specs.Format.{Record, Data, ExtendedLinearAddress, AddressedByte, cells_from, contents_of}
 use Rattle.cc_hex.specs.Layout.{base_line, record_line, row, rows}
 use Rattle.cc_hex.proofs.Digits.{AreBytes, more_bytes, no_bytes, front_bytes, back_bytes}
 use Rattle.cc_hex.proofs.Bases.{base_line_is, no_base_line}
 use Rattle.cc_hex.proofs.Lines.{AreRecords, record_first}
 
 -- a text says these cells at a base address
-pub record Tells (base : ℕ) (text : List ℕ) (cells : List Cell) : Type 0 where
+pub record Tells (base : ℕ) (text : List ℕ) (cells : List AddressedByte) : Type 0 where
   pub records : List Record
   pub are : AreRecords text records
   pub contents : contents_of base records ≡ Some cells
@@ -26,7 +26,7 @@ cells_cut (suc k) a (b ∷ bs) =
     ∙ ap (λ cells. record { address = a % 2 ^ 32; byte = b } ∷ cells) (cells_cut k (a + 1) bs)
 
 -- a record of data before a text
-data_first : (base offset : ℕ) (bytes text : List ℕ) (cells : List Cell) → AreBytes bytes → length bytes < 256 → offset < 65536 → Tells base text cells →
+data_first : (base offset : ℕ) (bytes text : List ℕ) (cells : List AddressedByte) → AreBytes bytes → length bytes < 256 → offset < 65536 → Tells base text cells →
     Tells base (record_line 0 offset bytes ++ text) (cells_from (base + offset) bytes ++ cells)
 data_first base offset bytes text cells h few low others = record {
   records = Data offset bytes ∷ others.records;
@@ -35,7 +35,7 @@ data_first base offset bytes text cells h few low others = record {
 }
 
 -- a base address before a text
-base_first : (base upper : ℕ) (text : List ℕ) (cells : List Cell) → upper < 65536 → Tells (65536 * upper) text cells →
+base_first : (base upper : ℕ) (text : List ℕ) (cells : List AddressedByte) → upper < 65536 → Tells (65536 * upper) text cells →
     Tells base (record_line 4 0 (to_be_bytes w16 upper) ++ text) cells
 base_first base upper text cells low others =
     let same : 256 * (upper / 256 % 256) + upper % 256 ≡ upper = omega arith in
@@ -47,7 +47,7 @@ base_first base upper text cells low others =
     }
 
 -- a row's base line before a text
-base_line_first : (base a : ℕ) (text : List ℕ) (cells : List Cell) → a < 2 ^ 32 → (a % 65536 ≡ 0) ⊎ (base ≡ a - a % 65536) →
+base_line_first : (base a : ℕ) (text : List ℕ) (cells : List AddressedByte) → a < 2 ^ 32 → (a % 65536 ≡ 0) ⊎ (base ≡ a - a % 65536) →
     Tells (a - a % 65536) text cells → Tells base (base_line a ++ text) cells
 base_line_first base a text cells low set others =
     elim (cases_eq (a % 65536) 0) [
@@ -60,7 +60,7 @@ base_line_first base a text cells low set others =
           subst (λ (line : List ℕ). Tells base (line ++ text) cells) (sym (no_base_line a ne)) (subst (λ (b : ℕ). Tells b text cells) (sym same) others)
     ]
 
-row_first : (base a : ℕ) (bytes text : List ℕ) (cells : List Cell) → AreBytes bytes → length bytes ≤ 16 → a < 2 ^ 32 → (a % 65536 ≡ 0) ⊎ (base ≡ a - a % 65536) →
+row_first : (base a : ℕ) (bytes text : List ℕ) (cells : List AddressedByte) → AreBytes bytes → length bytes ≤ 16 → a < 2 ^ 32 → (a % 65536 ≡ 0) ⊎ (base ≡ a - a % 65536) →
     Tells (a - a % 65536) text cells → Tells base (row a bytes ++ text) (cells_from a bytes ++ cells)
 unfolding row
 row_first base a bytes text cells h few low set others =
@@ -79,7 +79,7 @@ next_base a aligned =
       | inr ne ↦ inr (omega arith)
     ]
 
-pub rows_first : (n base a : ℕ) (bytes text : List ℕ) (cells : List Cell) → AreBytes bytes → length bytes ≤ 16 * n → a % 16 ≡ 0 → a + 16 * n ≤ 2 ^ 32 → (a % 65536 ≡ 0) ⊎ (base ≡ a - a % 65536) →
+pub rows_first : (n base a : ℕ) (bytes text : List ℕ) (cells : List AddressedByte) → AreBytes bytes → length bytes ≤ 16 * n → a % 16 ≡ 0 → a + 16 * n ≤ 2 ^ 32 → (a % 65536 ≡ 0) ⊎ (base ≡ a - a % 65536) →
     ((b : ℕ) → Tells b text cells) → Tells base (rows n a bytes ++ text) (cells_from a bytes ++ cells)
 rows_first zero base a bytes text cells h few aligned within set others =
     let none : bytes ≡ [] = nil_from_length bytes (omega arith) in
@@ -96,4 +96,4 @@ rows_first (suc n) base a bytes text cells h few aligned within set others =
     let cut : cells_from a (take 16 bytes) ++ (cells_from (a + 16) (drop 16 bytes) ++ cells) ≡ cells_from a bytes ++ cells =
     sym (append_assoc (cells_from a (take 16 bytes)) (cells_from (a + 16) (drop 16 bytes)) cells) ∙ ap (λ cs. cs ++ cells) (cells_cut 16 a bytes) in
     subst (λ (t : List ℕ). Tells base t (cells_from a bytes ++ cells)) (sym grouped)
-    (subst (λ (cs : List Cell). Tells base (first ++ (rest ++ text)) cs) cut all)
+    (subst (λ (cs : List AddressedByte). Tells base (first ++ (rest ++ text)) cs) cut all)

@@ -3,7 +3,7 @@ use Rattle.std.proofs.Common.{◌≡◌, ℕ, ◌+◌, ◌*◌, ◌/◌, ◌%◌
 use Rattle.std.specs.Int.{w32, to_le_bytes}
 use Rattle.std.proofs.lemmas.List.{append-nil}
 use Rattle.cc_hex.specs.internal.Reading.{◌>>=◌}
-use Rattle.cc_hex.specs.Format.{EndOfFile, Cell, records_of, cells_from, contents_of, read}
+use Rattle.cc_hex.specs.Format.{EndOfFile, AddressedByte, records_of, cells_from, contents_of, read}
 use Rattle.cc_hex.specs.Contents.{bytes_of_words}
 use Rattle.cc_hex.specs.Layout.{record_line, block}
 use Rattle.cc_hex.proofs.Digits.{AreBytes, more_bytes, no_bytes, appended_bytes}
@@ -32,7 +32,7 @@ end_tells base = record {
   contents = refl;
 }
 
-block_first : (base a : ℕ) (words text : List ℕ) (cells : List Cell) → length words ≤ 131072 → a ≤ 0x00200000 → a % 65536 ≡ 0 →
+block_first : (base a : ℕ) (words text : List ℕ) (cells : List AddressedByte) → length words ≤ 131072 → a ≤ 0x00200000 → a % 65536 ≡ 0 →
     ((b : ℕ) → Tells b text cells) → Tells base (block a (bytes_of_words words) ++ text) (cells_from a (bytes_of_words words) ++ cells)
 block_first base a words text cells few low begins others =
     let bytes : List ℕ = bytes_of_words words in
@@ -40,7 +40,7 @@ block_first base a words text cells few low begins others =
     rows_first ((length bytes + 15) / 16) base a bytes text cells (words_bytes words) (omega arith) (omega arith) (omega arith) (inl begins) others
 
 -- what a text tells at the first base address is what it says
-told : (text : List ℕ) (cells : List Cell) → Tells 0 text cells → read text ≡ Some cells
+told : (text : List ℕ) (cells : List AddressedByte) → Tells 0 text cells → read text ≡ Some cells
 unfolding read
 told text cells h =
     ap (λ found. found >>= λ lines. records_of lines >>= λ records. contents_of 0 records) h.are.split
@@ -53,7 +53,7 @@ pub said : (code globals text : List ℕ) → length code ≤ 131072 → length 
 said code globals text few_code few_globals e =
     let code_text : List ℕ = block 65536 (bytes_of_words code) in
     let globals_text : List ℕ = block 2097152 (bytes_of_words globals) in
-    let globals_cells : List Cell = cells_from 2097152 (bytes_of_words globals) in
+    let globals_cells : List AddressedByte = cells_from 2097152 (bytes_of_words globals) in
     let all : Tells 0 (code_text ++ (globals_text ++ record_line 1 0 [])) (cells_from 65536 (bytes_of_words code) ++ (globals_cells ++ [])) =
     block_first 0 65536 code (globals_text ++ record_line 1 0 []) (globals_cells ++ []) few_code (omega arith) refl
     (λ b. block_first b 2097152 globals (record_line 1 0 []) [] few_globals (omega arith) refl end_tells) in

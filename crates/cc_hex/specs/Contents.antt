@@ -4,7 +4,7 @@ use Rattle.std.specs.List.{flat_map}
 use Rattle.std.specs.Int.{w32, to_le_bytes}
 use Rattle.cc_rv32.specs.declared.image.Image.{Image}
 use Rattle.cc_rv32.specs.Machine.{code_from, globals_from}
-use Rattle.cc_hex.specs.Format.{Cell, cells_from, read}
+use Rattle.cc_hex.specs.Format.{AddressedByte, cells_from, read}
 
 -- ---- address by address
 
@@ -19,12 +19,12 @@ abbrev pub image_byte : Image → (a : ℕ) → List ℕ
 image_byte image a = byte_of_words code_from image.code a ++ byte_of_words globals_from image.globals a
 
 -- the bytes that cells have at an address
-abbrev pub bytes_at : List Cell → (a : ℕ) → List ℕ
+abbrev pub bytes_at : List AddressedByte → (a : ℕ) → List ℕ
 bytes_at [] a = []
 bytes_at (cell ∷ cells) a = (if cell.address == a then cell.byte ∷ [] else []) ++ bytes_at cells a
 
 -- a text says something, and at this address it gives these bytes
-abbrev pub GivesAt : Option (List Cell) → (a : ℕ) (bytes : List ℕ) → Type 0
+abbrev pub GivesAt : Option (List AddressedByte) → (a : ℕ) (bytes : List ℕ) → Type 0
 GivesAt None a bytes = ⊥
 GivesAt (Some cells) a bytes = bytes_at cells a ≡ bytes
 
@@ -39,7 +39,7 @@ abbrev pub bytes_of_words : List ℕ → List ℕ
 bytes_of_words words = flat_map (to_le_bytes w32) words
 
 -- each byte of the code and of the globals' first values, with its address
-abbrev pub image_cells : Image → List Cell
+abbrev pub image_cells : Image → List AddressedByte
 image_cells image = cells_from code_from (bytes_of_words image.code) ++ cells_from globals_from (bytes_of_words image.globals)
 
 -- the text gives the image's bytes in order of address

@@ -87,17 +87,17 @@ records_of (line ∷ lines) = do
 -- ---- contents
 
 -- a byte at an address
-pub record Cell : Type 0 where
+pub record AddressedByte : Type 0 where
   pub address : ℕ
   pub byte : ℕ
 
 -- bytes from an address on; after the highest address of 32 bits comes 0
-abbrev pub cells_from : (a : ℕ) (bytes : List ℕ) → List Cell
+abbrev pub cells_from : (a : ℕ) (bytes : List ℕ) → List AddressedByte
 cells_from a [] = []
 cells_from a (b ∷ bs) = record { address = a % 2 ^ 32; byte = b } ∷ cells_from (a + 1) bs
 
 -- what records say at a base address: the last one is the end of file, and no other is
-abbrev pub contents_of : (base : ℕ) → List Record → Option (List Cell)
+abbrev pub contents_of : (base : ℕ) → List Record → Option (List AddressedByte)
 contents_of base [] = None
 contents_of base (Data offset bytes ∷ rs) = contents_of base rs >>= λ cells. Some (cells_from (base + offset) bytes ++ cells)
 contents_of base (EndOfFile ∷ []) = Some []
@@ -105,7 +105,7 @@ contents_of base (EndOfFile ∷ r ∷ rs) = None
 contents_of base (ExtendedLinearAddress upper ∷ rs) = contents_of (65536 * upper) rs
 
 -- what a text says: each byte that it gives, with its address, in its order; the base address is 0 at first
-unfoldable pub read : (text : List ℕ) → Option (List Cell)
+unfoldable pub read : (text : List ℕ) → Option (List AddressedByte)
 read text = do
   lines ← lines_of text
   records ← records_of lines

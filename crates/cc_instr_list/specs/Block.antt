@@ -1,7 +1,7 @@
 -- Items in their blocks, and the entries that a list shows of them.
 use Rattle.std.specs.Prelude.{ℕ}
 use denote.RawPtr.{Ptr}
-use Rattle.cc_instr_list.specs.declared.chain.Node.{Node}
+use Rattle.cc_instr_list.specs.declared.chain.ChainNode.{ChainNode}
 use Rattle.cc_instr_list.specs.List.{Entry, entry}
 
 -- a block: its label, where it lies, and the value in it
@@ -15,7 +15,7 @@ module _ {V : Type 0} where
   block label address value = record { label = label; address = address; value = value }
 
   -- a node's block, with the item alone
-  abbrev pub item_block : Block (Node V) → Block V
+  abbrev pub item_block : Block (ChainNode V) → Block V
   item_block b = block b.label b.address b.value.item
 
   -- the entry of a block

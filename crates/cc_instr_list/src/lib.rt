@@ -14,5 +14,5 @@ mod list;
 #[doc(hidden)]
 pub use blocks::{Blocks, Link};
 #[doc(hidden)]
-pub use chain::{Chain, Node};
+pub use chain::{Chain, ChainNode};
 pub use list::InstrList;

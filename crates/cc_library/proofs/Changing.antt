@@ -3,8 +3,8 @@ use Rattle.std.proofs.Common.{◌≡◌, ◌≢◌, Bool, true, false, cond, ref
 use Rattle.std.specs.Prelude.{Option, Some, None, Result, Ok, Err, IsOk, is_some}
 use Rattle.std.specs.Cmp.Lexicographic.{nat_list_cmp_total}
 use Rattle.std.specs.FinMap as map
-use Rattle.cc_library.specs.declared.command.Command.{Command}
-use Rattle.cc_library.specs.declared.command.Command.TheVariants.{Add, Replace, Withdraw}
+use Rattle.cc_library.specs.declared.command.LibraryCommand.{LibraryCommand}
+use Rattle.cc_library.specs.declared.command.LibraryCommand.TheVariants.{Add, Replace, Withdraw}
 use Rattle.cc_library.specs.Apply.{Units, apply, after, kept, refusal, exists, absent}
 use Rattle.cc_library.specs.internal.Halves.{begun, finished, undone}
 use Rattle.cc_library.proofs.Tables.{put_and_taken}
@@ -28,7 +28,7 @@ absent_where : (there : Bool) (made : Units) (number : ℕ) → Some number ≡ 
 absent_where true made number is = absurd (cc is)
 absent_where false made number is = refl
 
-pub refused_absent : (units : Units) (command : Command) (number : ℕ) → Some number ≡ refusal (apply units command) → number ≢ 31 → apply units command ≡ Err absent
+pub refused_absent : (units : Units) (command : LibraryCommand) (number : ℕ) → Some number ≡ refusal (apply units command) → number ≢ 31 → apply units command ≡ Err absent
 refused_absent units (Add name unit) number is other = exists_not (map.contains_key units name) (map.insert units name unit) number is other
   where
     exists_not : (there : Bool) (made : Units) (n : ℕ) → Some n ≡ refusal (cond there (Err exists) (Ok made)) → n ≢ 31 → cond there (Err exists) (Ok made) ≡ Err absent
@@ -50,7 +50,7 @@ withdrawn true units made ok = refl
 withdrawn false units made ok = absurd (cc ok)
 
 -- a change that is begun and finished is done
-pub finished_is : (units : Units) (command : Command) → IsOk (apply units command) → finished (begun units command) command ≡ after units command
+pub finished_is : (units : Units) (command : LibraryCommand) → IsOk (apply units command) → finished (begun units command) command ≡ after units command
 finished_is units (Add name unit) ok = added (map.contains_key units name) units (map.insert units name unit) ok
 finished_is units (Replace name unit) ok = replaced (map.contains_key units name) units (map.insert units name unit)
 finished_is units (Withdraw name) ok = withdrawn (map.contains_key units name) units (map.remove units name) ok
@@ -60,15 +60,15 @@ was_absent true made ok = absurd (cc ok)
 was_absent false made ok = refl
 
 -- one that is begun and undone leaves the map
-pub undone_is : (units : Units) (command : Command) → IsOk (apply units command) → undone (begun units command) command ≡ units
+pub undone_is : (units : Units) (command : LibraryCommand) → IsOk (apply units command) → undone (begun units command) command ≡ units
 undone_is units (Add name unit) ok =
     put_and_taken nat_list_cmp_total (map.slice_cmp-IsAntisymmetric map.nat_cmp-IsAntisymmetric) units name unit
     (was_absent (map.contains_key units name) (map.insert units name unit) ok)
 undone_is units (Replace name unit) ok = refl
 undone_is units (Withdraw name) ok = refl
 
-pub done_is : (units mid new : Units) (command : Command) → IsOk (apply units command) → mid ≡ begun units command → new ≡ finished mid command → new ≡ after units command
+pub done_is : (units mid new : Units) (command : LibraryCommand) → IsOk (apply units command) → mid ≡ begun units command → new ≡ finished mid command → new ≡ after units command
 done_is units mid new command ok begins ends = ends ∙ ap (λ (m : Units). finished m command) begins ∙ finished_is units command ok
 
-pub back_is : (units mid new : Units) (command : Command) → IsOk (apply units command) → mid ≡ begun units command → new ≡ undone mid command → new ≡ units
+pub back_is : (units mid new : Units) (command : LibraryCommand) → IsOk (apply units command) → mid ≡ begun units command → new ≡ undone mid command → new ≡ units
 back_is units mid new command ok begins ends = ends ∙ ap (λ (m : Units). undone m command) begins ∙ undone_is units command ok

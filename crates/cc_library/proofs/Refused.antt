@@ -10,7 +10,7 @@ use Rattle.cc_journal.specs.contracts.fault.JournalFault.{the_type}
 use Rattle.cc_journal.specs.declared.fault.JournalFault.{JournalFault}
 use Rattle.cc_journal.specs.declared.fault.JournalFault.TheVariants as journal
 use Rattle.cc_journal.specs.Journal as journals
-use Rattle.cc_library.specs.declared.command.Command.{Command}
+use Rattle.cc_library.specs.declared.command.LibraryCommand.{LibraryCommand}
 use Rattle.cc_library.specs.Fault.{fault_of}
 use Rattle.cc_library.specs.Apply.{Units, after, apply}
 use Rattle.cc_library.specs.Body.{body_of}
@@ -37,7 +37,7 @@ module _ {D : Type 0} where
       subst (λ (e : D). LeavesOnly moment left_since j.disk e (IsOldOrNew j.area j.bodies units (made v) (result v))) (sym d_is)
       (quiet moment left_since may_leave j.disk j.area j.bodies units (made v) (result v) (kept h (sym same ∙ not_closed)) (only_now h) stand))
 
-  pub quiet_change : (honest : Bool) (moment : D → ℕ) (left_since : D → ℕ → List ℕ → Type 0) (may_leave : D → List ℕ → Type 0) (j : journals.View D) (units : Units) (closed : Bool) (old : View D) (command : Command)
+  pub quiet_change : (honest : Bool) (moment : D → ℕ) (left_since : D → ℕ → List ℕ → Type 0) (may_leave : D → List ℕ → Type 0) (j : journals.View D) (units : Units) (closed : Bool) (old : View D) (command : LibraryCommand)
       → seen_as j units closed ≡ old → StandFor j.bodies units → closed ≡ j.closed
       → (IsTrue honest → j.closed ≡ false → (image : List ℕ) → may_leave j.disk image → HoldsAlone image j.area j.bodies)
       → (IsTrue honest → (image : List ℕ) → left_since j.disk (moment j.disk) image → may_leave j.disk image) → (d : D) → d ≡ j.disk
@@ -77,7 +77,7 @@ module _ {D : Type 0} where
       let c : is_fault ≡ closed = e ∙ sym was in
       λ i. seen_as (same i) (back i) (c i)
 
-  pub leaves_err : (fault : JournalFault) (command : Command) (old new : journals.View D) (units made : Units) (closed is_fault : Bool) → made ≡ units
+  pub leaves_err : (fault : JournalFault) (command : LibraryCommand) (old new : journals.View D) (units made : Units) (closed is_fault : Bool) → made ≡ units
       → (fault ≢ journal.DiskFault → new ≡ old) → new.bodies ≡ old.bodies → new.area ≡ old.area → is_fault ≡ sameb the_type fault journal.DiskFault → closed ≡ false
       → ChangeLeaves {T = Unit {0}} command (seen_as old units closed) (seen_as new made is_fault) (Err (fault_of fault))
   leaves_err journal.DiskFault command old new units made closed is_fault back untouched bodies area e was =
@@ -110,7 +110,7 @@ module _ {D : Type 0} where
   compact_refused journal.NotALibrary j units closed bodies before behind is same answers = absurd answers
 
   -- a refusal of the journal's `append`, or of the log where it would not take a record, is that of the change
-  pub change_refused : (fault : JournalFault) (j : journals.View D) (units : Units) (closed : Bool) (command : Command) (before behind : ℕ) → closed ≡ j.closed → IsOk (apply units command)
+  pub change_refused : (fault : JournalFault) (j : journals.View D) (units : Units) (closed : Bool) (command : LibraryCommand) (before behind : ℕ) → closed ≡ j.closed → IsOk (apply units command)
       → AppendAnswers {T = Unit {0}} j.closed j.area j.bodies (body_of command) before behind (Err fault) → ChangeAnswers {T = Unit {0}} (seen_as j units closed) command before behind (Err (fault_of fault))
   change_refused journal.Full j units closed command before behind same ok answers = ((same ∙ answers.0, ok), answers.1, answers.2)
   change_refused journal.DiskFault j units closed command before behind same ok answers = ((same ∙ answers.0, ok), answers.1, answers.2)
@@ -122,7 +122,7 @@ module _ {D : Type 0} where
   -- ---- what a `compact` would mend
 
   -- 34 refuses what the map accepts: the record does not fit
-  pub is_full : (fault : JournalFault) (full : Bool) (j : journals.View D) (units : Units) (closed : Bool) (command : Command) → full ≡ sameb the_type fault journal.Full → full ≡ true → closed ≡ j.closed → IsOk (apply units command)
+  pub is_full : (fault : JournalFault) (full : Bool) (j : journals.View D) (units : Units) (closed : Bool) (command : LibraryCommand) → full ≡ sameb the_type fault journal.Full → full ≡ true → closed ≡ j.closed → IsOk (apply units command)
       → AppendAnswers {T = Unit {0}} j.closed j.area j.bodies (body_of command) 0 0 (Err fault) → IsAsked (seen_as j units closed) command × (j.area < room_with (seen_as j units closed) command)
   is_full journal.Full full j units closed command e is same ok answers = ((same ∙ answers.0, ok), answers.1)
   is_full journal.DiskFault full j units closed command e is same ok answers = let no : true ≡ false = sym is ∙ e in absurd (cc)
@@ -132,7 +132,7 @@ module _ {D : Type 0} where
   is_full journal.NotALibrary full j units closed command e is same ok answers = absurd answers
 
   -- any other answer says that it fits, or that the journal is closed
-  pub not_full : (fault : JournalFault) (full : Bool) (j : journals.View D) (units : Units) (closed : Bool) (command : Command) → full ≡ sameb the_type fault journal.Full → full ≡ false → closed ≡ j.closed
+  pub not_full : (fault : JournalFault) (full : Bool) (j : journals.View D) (units : Units) (closed : Bool) (command : LibraryCommand) → full ≡ sameb the_type fault journal.Full → full ≡ false → closed ≡ j.closed
       → AppendAnswers {T = Unit {0}} j.closed j.area j.bodies (body_of command) 0 0 (Err fault) → IsMended (seen_as j units closed) command → ⊥
   not_full journal.Full full j units closed command e is same answers mended = let no : true ≡ false = sym e ∙ is in cc
   not_full journal.DiskFault full j units closed command e is same answers mended = omega (arith, answers.1, mended.1)
@@ -142,7 +142,7 @@ module _ {D : Type 0} where
   not_full journal.NotALibrary full j units closed command e is same answers mended = absurd answers
 
   -- it leaves all as it was: no device has failed
-  pub change_leaves : (fault : JournalFault) (closed : Bool) (area : ℕ) (bodies : List (List ℕ)) (body : List ℕ) (old : View D) (command : Command)
+  pub change_leaves : (fault : JournalFault) (closed : Bool) (area : ℕ) (bodies : List (List ℕ)) (body : List ℕ) (old : View D) (command : LibraryCommand)
       → AppendAnswers {T = Unit {0}} closed area bodies body 0 0 (Err fault) → ChangeLeaves {T = Unit {0}} command old old (Err (fault_of fault))
   change_leaves journal.Full closed area bodies body old command answers = refl
   change_leaves journal.DiskFault closed area bodies body old command answers = absurd (omega (arith, answers.2))
@@ -151,7 +151,7 @@ module _ {D : Type 0} where
   change_leaves journal.Damaged closed area bodies body old command answers = refl
   change_leaves journal.NotALibrary closed area bodies body old command answers = refl
 
-  pub change_writes_nothing : (seen : D → List ℕ) (may_leave : D → List ℕ → Type 0) (fault : JournalFault) (closed : Bool) (area : ℕ) (bodies : List (List ℕ)) (body : List ℕ) (old : View D) (command : Command)
+  pub change_writes_nothing : (seen : D → List ℕ) (may_leave : D → List ℕ → Type 0) (fault : JournalFault) (closed : Bool) (area : ℕ) (bodies : List (List ℕ)) (body : List ℕ) (old : View D) (command : LibraryCommand)
       → AppendAnswers {T = Unit {0}} closed area bodies body 0 0 (Err fault) → ChangesDisk {T = Unit {0}} seen may_leave command old old (Err (fault_of fault))
   change_writes_nothing seen may_leave journal.Full closed area bodies body old command answers = tt
   change_writes_nothing seen may_leave journal.DiskFault closed area bodies body old command answers = absurd (omega (arith, answers.2))

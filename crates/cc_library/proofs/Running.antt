@@ -3,7 +3,7 @@ use Rattle.std.proofs.Common.{◌≡◌, ◌≢◌, ◌⊎◌, inl, inr, ℕ, �
 use Rattle.std.specs.Prelude.{Result, Ok, Err}
 use Rattle.cc_disk.specs.Images.{LeavesOnly}
 use Rattle.cc_journal.specs.Format.{HasHeader, HoldsRecords}
-use Rattle.cc_library.specs.declared.command.Command.{Command}
+use Rattle.cc_library.specs.declared.command.LibraryCommand.{LibraryCommand}
 use Rattle.cc_library.specs.declared.command.Edit.{Edit}
 use Rattle.cc_library.specs.declared.command.Edit.TheVariants.{Change, Compact}
 use Rattle.cc_library.specs.declared.fault.LibraryFault.{LibraryFault}
@@ -159,7 +159,7 @@ module _ {D : Type 0} (honest : Bool) (failures : D → ℕ) where
 
   -- the map is the fold of the changes that were done
   pub folds : (old new : View D) (edits : List Edit) (numbers : List ℕ) → AreEdited honest failures old edits numbers new → IsTrue honest
-      → (done : List Command) × AreDone edits numbers done × (new.units ≡ after_all old.units done)
+      → (done : List LibraryCommand) × AreDone edits numbers done × (new.units ≡ after_all old.units done)
   folds old new [] [] run h = ([], refl, ap (λ (v : View D). v.units) run)
   folds old new [] (n ∷ numbers) run h = absurd run
   folds old new (e ∷ edits) [] run h = absurd run
@@ -186,18 +186,18 @@ mid_edit area bodies units made edit number image was (inl p) = inl p.1
 mid_edit area bodies units made edit number image was (inr p) = inr (was, p.1)
 
 -- one edit more that was done
-done_push : (edits : List Edit) (numbers : List ℕ) (done : List Command) (command : Command) (number : ℕ) → AreDone edits numbers done → (number ≡ 0) ⊎ (number ≡ 35)
+done_push : (edits : List Edit) (numbers : List ℕ) (done : List LibraryCommand) (command : LibraryCommand) (number : ℕ) → AreDone edits numbers done → (number ≡ 0) ⊎ (number ≡ 35)
     → AreDone (edits ++ Change command ∷ []) (numbers ++ number ∷ []) (done ++ command ∷ [])
-done_push [] [] done command number are was = inl ([], was, ap (λ (l : List Command). l ++ command ∷ []) are, refl)
+done_push [] [] done command number are was = inl ([], was, ap (λ (l : List LibraryCommand). l ++ command ∷ []) are, refl)
 done_push [] (n ∷ numbers) done command number are was = absurd are
 done_push (e ∷ edits) [] done command number are was = absurd are
 done_push (Change first ∷ edits) (n ∷ numbers) done command number are was = elim are [
-  | inl p ↦ inl (p.0 ++ command ∷ [], p.1, ap (λ (l : List Command). l ++ command ∷ []) p.2, done_push edits numbers p.0 command number p.3 was)
+  | inl p ↦ inl (p.0 ++ command ∷ [], p.1, ap (λ (l : List LibraryCommand). l ++ command ∷ []) p.2, done_push edits numbers p.0 command number p.3 was)
   | inr p ↦ inr (p.0, done_push edits numbers done command number p.1 was)
 ]
 done_push (Compact ∷ edits) (n ∷ numbers) done command number are was = done_push edits numbers done command number are was
 
-compact_push : (edits : List Edit) (numbers : List ℕ) (done : List Command) (number : ℕ) → AreDone edits numbers done → AreDone (edits ++ Compact ∷ []) (numbers ++ number ∷ []) done
+compact_push : (edits : List Edit) (numbers : List ℕ) (done : List LibraryCommand) (number : ℕ) → AreDone edits numbers done → AreDone (edits ++ Compact ∷ []) (numbers ++ number ∷ []) done
 compact_push [] [] done number are = are
 compact_push [] (n ∷ numbers) done number are = absurd are
 compact_push (e ∷ edits) [] done number are = absurd are
@@ -207,7 +207,7 @@ compact_push (Change first ∷ edits) (n ∷ numbers) done number are = elim are
 ]
 compact_push (Compact ∷ edits) (n ∷ numbers) done number are = compact_push edits numbers done number are
 
-after_push : (units : Units) (done : List Command) (command : Command) → after_all units (done ++ command ∷ []) ≡ after (after_all units done) command
+after_push : (units : Units) (done : List LibraryCommand) (command : LibraryCommand) → after_all units (done ++ command ∷ []) ≡ after (after_all units done) command
 after_push units [] command = refl
 after_push units (first ∷ done) command = after_push (after units first) done command
 
@@ -244,7 +244,7 @@ among_all units edits more all numbers shown image edits_are same p = record {
 }
 
 -- in the middle of one edit more
-pub among_next : (units now : Units) (edits : List Edit) (numbers : List ℕ) (edit : Edit) (number : ℕ) (image : List ℕ) → (done : List Command) × AreDone edits numbers done × (now ≡ after_all units done) → IsMidEdit now edit number image
+pub among_next : (units now : Units) (edits : List Edit) (numbers : List ℕ) (edit : Edit) (number : ℕ) (image : List ℕ) → (done : List LibraryCommand) × AreDone edits numbers done × (now ≡ after_all units done) → IsMidEdit now edit number image
     → RecoversAmong units (edits ++ edit ∷ []) (numbers ++ number ∷ []) image
 among_next units now edits numbers edit number image (done, are, is) (inl recovers) = record {
   prefix = edits;

@@ -5,7 +5,7 @@ use Rattle.std.specs.Prelude.{IsOk, Err}
 use Rattle.std.specs.FinMap.{empty}
 use Rattle.cc_disk.specs.Images.{LeavesOnly, OnlyReads}
 use Rattle.cc_journal.specs.Format.{HoldsAlone, HoldsOldOrNew, HoldsOneOf}
-use Rattle.cc_library.specs.declared.command.Command.{Command}
+use Rattle.cc_library.specs.declared.command.LibraryCommand.{LibraryCommand}
 use Rattle.cc_library.specs.declared.fault.LibraryFault.{LibraryFault}
 use Rattle.cc_library.specs.declared.fault.LibraryFault.TheVariants.{Exists, Absent, Full, DiskFault, Closed, Damaged, NotALibrary, OutOfMemory}
 use Rattle.cc_library.specs.Apply.{Units, apply, after, after_all, AreAccepted}
@@ -18,7 +18,7 @@ use Rattle.cc_library.proofs.Commands.{one_command, spells_as_written}
 
 -- one record leads from a map to the next
 abbrev pub IsStep : Units → List ℕ → Units → Type 0
-IsStep from body mid = (command : Command) × Spells body command × IsOk (apply from command) × (mid ≡ after from command)
+IsStep from body mid = (command : LibraryCommand) × Spells body command × IsOk (apply from command) × (mid ≡ after from command)
 
 pub step_before : (from mid : Units) (body : List ℕ) (bodies : List (List ℕ)) (to : Units) → IsStep from body mid → LeadTo mid bodies to → LeadTo from (body ∷ bodies) to
 step_before from mid body bodies to s l = record {
@@ -28,7 +28,7 @@ step_before from mid body bodies to s l = record {
   map_is = l.map_is ∙ ap (λ (m : Units). after_all m l.commands) s.3;
 }
 
-without_step : (from mid : Units) (body : List ℕ) (bodies : List (List ℕ)) (to : Units) (commands : List Command) → IsStep from body mid
+without_step : (from mid : Units) (body : List ℕ) (bodies : List (List ℕ)) (to : Units) (commands : List LibraryCommand) → IsStep from body mid
     → AreSpelled (body ∷ bodies) commands → AreAccepted from commands → to ≡ after_all from commands → LeadTo mid bodies to
 without_step from mid body bodies to [] s spelled accepted is = absurd spelled
 without_step from mid body bodies to (command ∷ commands) s spelled accepted is =
@@ -44,13 +44,13 @@ without_step from mid body bodies to (command ∷ commands) s spelled accepted i
 pub step_behind : (from mid : Units) (body : List ℕ) (bodies : List (List ℕ)) (to : Units) → IsStep from body mid → LeadTo from (body ∷ bodies) to → LeadTo mid bodies to
 step_behind from mid body bodies to s l = without_step from mid body bodies to l.commands s l.spelled l.accepted l.map_is
 
-no_step : (from : Units) (body : List ℕ) (bodies : List (List ℕ)) (commands : List Command) → ((command : Command) → Spells body command → IsOk (apply from command) → ⊥)
+no_step : (from : Units) (body : List ℕ) (bodies : List (List ℕ)) (commands : List LibraryCommand) → ((command : LibraryCommand) → Spells body command → IsOk (apply from command) → ⊥)
     → AreSpelled (body ∷ bodies) commands → AreAccepted from commands → ⊥
 no_step from body bodies [] none spelled accepted = spelled
 no_step from body bodies (command ∷ commands) none spelled accepted = none command spelled.0 accepted.0
 
 -- where the first record leads nowhere, all of them lead nowhere
-pub leads_nowhere : (from : Units) (body : List ℕ) (bodies : List (List ℕ)) (to : Units) → ((command : Command) → Spells body command → IsOk (apply from command) → ⊥) → LeadTo from (body ∷ bodies) to → ⊥
+pub leads_nowhere : (from : Units) (body : List ℕ) (bodies : List (List ℕ)) (to : Units) → ((command : LibraryCommand) → Spells body command → IsOk (apply from command) → ⊥) → LeadTo from (body ∷ bodies) to → ⊥
 leads_nowhere from body bodies to none l = no_step from body bodies l.commands none l.spelled l.accepted
 
 -- no records lead nowhere else
@@ -69,7 +69,7 @@ fails_here bodies units body behind Absent answer onward = answer
 fails_here bodies units body behind Full answer onward = answer
 fails_here bodies units body behind Closed answer onward = answer
 
-same_commands : (bodies : List (List ℕ)) (xs ys : List Command) → AreSpelled bodies xs → AreSpelled bodies ys → xs ≡ ys
+same_commands : (bodies : List (List ℕ)) (xs ys : List LibraryCommand) → AreSpelled bodies xs → AreSpelled bodies ys → xs ≡ ys
 same_commands [] [] [] p q = refl
 same_commands [] [] (y ∷ ys) p q = absurd q
 same_commands [] (x ∷ xs) ys p q = absurd p
@@ -78,13 +78,13 @@ same_commands (body ∷ bodies) (x ∷ xs) [] p q = absurd q
 same_commands (body ∷ bodies) (x ∷ xs) (y ∷ ys) p q =
     let first : x ≡ y = one_command body x y p.0 q.0 in
     let others : xs ≡ ys = same_commands bodies xs ys p.1 q.1 in
-    ap (λ (z : Command). z ∷ xs) first ∙ ap (λ (zs : List Command). y ∷ zs) others
+    ap (λ (z : LibraryCommand). z ∷ xs) first ∙ ap (λ (zs : List LibraryCommand). y ∷ zs) others
 
 -- records lead to one map at most
 pub one_map : (from : Units) (bodies : List (List ℕ)) (a b : Units) → LeadTo from bodies a → LeadTo from bodies b → a ≡ b
 one_map from bodies a b p q = p.map_is ∙ ap (after_all from) (same_commands bodies p.commands q.commands p.spelled q.spelled) ∙ sym q.map_is
 
-pushed : (from : Units) (bodies : List (List ℕ)) (commands : List Command) (body : List ℕ) (command : Command) → AreSpelled bodies commands → AreAccepted from commands
+pushed : (from : Units) (bodies : List (List ℕ)) (commands : List LibraryCommand) (body : List ℕ) (command : LibraryCommand) → AreSpelled bodies commands → AreAccepted from commands
     → Spells body command → IsOk (apply (after_all from commands) command) → LeadTo from (bodies ++ body ∷ []) (after (after_all from commands) command)
 pushed from [] [] body command spelled accepted s ok = record { commands = command ∷ []; spelled = (s, tt); accepted = (ok, tt); map_is = refl }
 pushed from [] (x ∷ xs) body command spelled accepted s ok = absurd spelled
@@ -93,12 +93,12 @@ pushed from (b ∷ bs) (x ∷ xs) body command spelled accepted s ok =
     step_before from (after from x) b (bs ++ body ∷ []) (after (after_all (after from x) xs) command) (x, spelled.0, accepted.0, refl) (pushed (after from x) bs xs body command spelled.1 accepted.1 s ok)
 
 -- one record more at the end
-pub one_more : (bodies : List (List ℕ)) (units : Units) (body : List ℕ) (command : Command) → StandFor bodies units → Spells body command → IsOk (apply units command) → StandFor (bodies ++ body ∷ []) (after units command)
+pub one_more : (bodies : List (List ℕ)) (units : Units) (body : List ℕ) (command : LibraryCommand) → StandFor bodies units → Spells body command → IsOk (apply units command) → StandFor (bodies ++ body ∷ []) (after units command)
 one_more bodies units body command l s ok =
     subst (λ (m : Units). LeadTo empty (bodies ++ body ∷ []) (after m command)) (sym l.map_is)
     (pushed empty bodies l.commands body command l.spelled l.accepted s (subst (λ (m : Units). IsOk (apply m command)) l.map_is ok))
 
-pub stands_after : (bodies : List (List ℕ)) (units : Units) (body : List ℕ) (command : Command) (more : List (List ℕ)) (new : Units) → StandFor bodies units → Spells body command → IsOk (apply units command)
+pub stands_after : (bodies : List (List ℕ)) (units : Units) (body : List ℕ) (command : LibraryCommand) (more : List (List ℕ)) (new : Units) → StandFor bodies units → Spells body command → IsOk (apply units command)
     → more ≡ bodies ++ body ∷ [] → new ≡ after units command → StandFor more new
 stands_after bodies units body command more new stand spelled ok added is =
     subst (λ (m : Units). StandFor more m) (sym is) (subst (λ (bs : List (List ℕ)). StandFor bs (after units command)) (sym added) (one_more bodies units body command stand spelled ok))
@@ -148,7 +148,7 @@ module _ {D : Type 0} (moment : D → ℕ) (left_since : D → ℕ → List ℕ 
       no_call (IsOldOrNew area bodies units made new) disk (λ image left. let h = kept image (only_now image left) in inl (h, holds_recovers image area bodies units h stand))
 
   -- during an `append`
-  pub appended : (old new : D) (area : ℕ) (bodies : List (List ℕ)) (body : List ℕ) (units : Units) (command : Command) → StandFor bodies units → body ≡ body_of command → IsCommand command → IsOk (apply units command)
+  pub appended : (old new : D) (area : ℕ) (bodies : List (List ℕ)) (body : List ℕ) (units : Units) (command : LibraryCommand) → StandFor bodies units → body ≡ body_of command → IsCommand command → IsOk (apply units command)
       → LeavesOnly moment left_since old new (HoldsOldOrNew area bodies body) → LeavesOnly moment left_since old new (IsOldOrNew area bodies units (bodies ++ body_of command ∷ []) (after units command))
   appended old new area bodies body units command stand is command_is ok run =
       let spelled = spells_as_written body command is command_is in

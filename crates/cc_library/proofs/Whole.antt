@@ -8,7 +8,7 @@ use Rattle.cc_journal.specs.Answers.{AppendAnswers}
 use Rattle.cc_journal.specs.Format.{HoldsAlone}
 use Rattle.cc_journal.specs.declared.fault.JournalFault.{JournalFault}
 use Rattle.cc_journal.specs.Journal as journals
-use Rattle.cc_library.specs.declared.command.Command.{Command}
+use Rattle.cc_library.specs.declared.command.LibraryCommand.{LibraryCommand}
 use Rattle.cc_library.specs.declared.fault.LibraryFault.{LibraryFault}
 use Rattle.cc_library.specs.declared.fault.LibraryFault.TheVariants.{Exists, Absent, Full, DiskFault, Closed, Damaged, NotALibrary, OutOfMemory}
 use Rattle.cc_library.specs.Fault.{fault_of}
@@ -28,7 +28,7 @@ module _ {Disk : Type 0} (D : Ghosts Disk) where
 
   -- ---- a change
 
-  pub changed_as : (command : Command) (old new : View Disk) (result : Result (Unit {0}) LibraryFault) (Holds : List ℕ → Type 0) → CountsNow new.disk
+  pub changed_as : (command : LibraryCommand) (old new : View Disk) (result : Result (Unit {0}) LibraryFault) (Holds : List ℕ → Type 0) → CountsNow new.disk
       → ChangeAnswers old command (D.failures old.disk) (D.failures new.disk) result → ChangeLeaves command old new result → D.size new.disk ≡ D.size old.disk
       → (IsTrue D.honest → ChangesDisk D.seen D.may_leave command old new result)
       → OnOk result (IsTrue D.honest → (image : List ℕ) → D.may_leave new.disk image → RecoversAlone image new.units)
@@ -43,7 +43,7 @@ module _ {Disk : Type 0} (D : Ghosts Disk) where
     images = λ h not_closed. of_now D.may_leave D.moment D.left_since old.disk new.disk Holds (moments h not_closed) (λ t image le now. counts t image h le now);
   }
 
-  still : (command : Command) (old : View Disk) (fault : LibraryFault) → fault ≢ DiskFault
+  still : (command : LibraryCommand) (old : View Disk) (fault : LibraryFault) → fault ≢ DiskFault
       → ChangeLeaves {T = Unit {0}} command old old (Err fault) × ChangesDisk {T = Unit {0}} D.seen D.may_leave command old old (Err fault)
   still command old DiskFault other = absurd (other refl)
   still command old Exists other = (refl, tt)
@@ -54,7 +54,7 @@ module _ {Disk : Type 0} (D : Ghosts Disk) where
   still command old Damaged other = (refl, tt)
   still command old NotALibrary other = (refl, tt)
 
-  pub quiet_changed : (j : journals.View Disk) (units : Units) (closed : Bool) (old : View Disk) (command : Command) (fault : LibraryFault)
+  pub quiet_changed : (j : journals.View Disk) (units : Units) (closed : Bool) (old : View Disk) (command : LibraryCommand) (fault : LibraryFault)
       → seen_as j units closed ≡ old → StandFor j.bodies units → closed ≡ j.closed
       → (IsTrue D.honest → j.closed ≡ false → (image : List ℕ) → D.may_leave j.disk image → HoldsAlone image j.area j.bodies)
       → (IsTrue D.honest → (image : List ℕ) → D.left_since j.disk (D.moment j.disk) image → D.may_leave j.disk image) → CountsNow old.disk
@@ -66,7 +66,7 @@ module _ {Disk : Type 0} (D : Ghosts Disk) where
       (quiet_change D.honest D.moment D.left_since D.may_leave j units closed old command is stand same kept only_now old.disk (sym (ap (λ (v : View Disk). v.disk) is)))
 
   -- where the log would not take the record
-  pub refused_changed : (j : journals.View Disk) (units : Units) (closed : Bool) (old : View Disk) (command : Command) (fault : JournalFault)
+  pub refused_changed : (j : journals.View Disk) (units : Units) (closed : Bool) (old : View Disk) (command : LibraryCommand) (fault : JournalFault)
       → seen_as j units closed ≡ old → StandFor j.bodies units → closed ≡ j.closed
       → (IsTrue D.honest → j.closed ≡ false → (image : List ℕ) → D.may_leave j.disk image → HoldsAlone image j.area j.bodies)
       → (IsTrue D.honest → (image : List ℕ) → D.left_since j.disk (D.moment j.disk) image → D.may_leave j.disk image) → CountsNow old.disk

@@ -5,7 +5,7 @@ use Rattle.cc_disk.specs.Images.{LeavesAlone, LeavesOnly}
 use Rattle.cc_disk.specs.declared.disk.Disk.{Ghosts}
 use Rattle.cc_journal.specs.Commit.{Commit, FailsIn, IsCommitted, append_commit, area_begin, rewrite_commit}
 use Rattle.cc_journal.specs.Format.{HasAreaByte, HasHeader, HoldsRecords, records, room_of}
-use Rattle.cc_library.specs.declared.command.Command.{Command}
+use Rattle.cc_library.specs.declared.command.LibraryCommand.{LibraryCommand}
 use Rattle.cc_library.specs.declared.fault.LibraryFault.{LibraryFault}
 use Rattle.cc_library.specs.declared.fault.LibraryFault.TheVariants.{Exists, Absent, Full, DiskFault, Closed, Damaged, NotALibrary, OutOfMemory}
 use Rattle.cc_library.specs.Apply.{Units, apply, after, exists, absent}
@@ -47,16 +47,16 @@ ReplayFaults bodies Closed = ⊥
 
 module _ {D : Type 0} where
   -- the call reaches the journal: the library is not closed, and the map accepts the command
-  abbrev pub IsAsked : View D → Command → Type 0
+  abbrev pub IsAsked : View D → LibraryCommand → Type 0
   IsAsked old command = (old.closed ≡ false) × IsOk (apply old.units command)
 
   -- how many bytes the records take with the command's
-  abbrev pub room_with : View D → Command → ℕ
+  abbrev pub room_with : View D → LibraryCommand → ℕ
   room_with old command = room_of (old.bodies ++ body_of command ∷ [])
 
   -- when a change has which answer: 36 exactly where the library was closed, then 31 or 32 exactly where the map refuses,
   -- then 34 exactly where the record does not fit, then 35 exactly where the device failed
-  abbrev pub ChangeAnswers : {T : Type 0} → View D → Command → (before after : ℕ) → Result T LibraryFault → Type 0
+  abbrev pub ChangeAnswers : {T : Type 0} → View D → LibraryCommand → (before after : ℕ) → Result T LibraryFault → Type 0
   ChangeAnswers old command before after (Ok done) = IsAsked old command × (room_with old command ≤ old.area) × (after ≡ before)
   ChangeAnswers old command before after (Err Closed) = (old.closed ≡ true) × (after ≡ before)
   ChangeAnswers old command before after (Err Exists) = (old.closed ≡ false) × (apply old.units command ≡ Err exists) × (after ≡ before)
@@ -69,7 +69,7 @@ module _ {D : Type 0} where
 
   -- what a change leaves, but for the disk: at Ok the map after the command; after 35 the old map, closed; after any other
   -- refusal everything is as before, the disk too
-  abbrev pub ChangeLeaves : {T : Type 0} → Command → (old new : View D) → Result T LibraryFault → Type 0
+  abbrev pub ChangeLeaves : {T : Type 0} → LibraryCommand → (old new : View D) → Result T LibraryFault → Type 0
   ChangeLeaves command old new (Ok done) = new ≡ record { disk = new.disk; area = old.area; bodies = old.bodies ++ body_of command ∷ []; units = after old.units command; closed = false }
   ChangeLeaves command old new (Err DiskFault) = new ≡ record old { disk = new.disk; closed = true }
   ChangeLeaves command old new (Err Closed) = new ≡ old
@@ -81,12 +81,12 @@ module _ {D : Type 0} where
   ChangeLeaves command old new (Err NotALibrary) = new ≡ old
 
   -- the journal's commit of a command's record, on a disk with this area byte
-  abbrev pub commit_of : (area_byte : ℕ) → View D → Command → Commit
+  abbrev pub commit_of : (area_byte : ℕ) → View D → LibraryCommand → Commit
   commit_of area_byte old command = append_commit (area_begin area_byte old.area + length (records old.bodies)) (body_of command)
 
   -- what a change does to the bytes of an honest disk: at Ok that commit is made, all is settled, and the records are the library's;
   -- after 35 it was left in its first write or in its last one
-  abbrev pub ChangesDisk : {T : Type 0} → (seen : D → List ℕ) (may_leave : D → List ℕ → Type 0) → Command → (old new : View D) → Result T LibraryFault → Type 0
+  abbrev pub ChangesDisk : {T : Type 0} → (seen : D → List ℕ) (may_leave : D → List ℕ → Type 0) → LibraryCommand → (old new : View D) → Result T LibraryFault → Type 0
   ChangesDisk seen may_leave command old new (Ok done) =
       HoldsRecords (seen new.disk) new.area new.bodies
       × ((area_byte : ℕ) → HasAreaByte (seen old.disk) area_byte old.area → IsCommitted (commit_of area_byte old command) (seen old.disk) (seen new.disk) × LeavesAlone (seen new.disk) (may_leave new.disk))
@@ -127,7 +127,7 @@ module _ {D : Type 0} where
   CompactLeaves old new (Err NotALibrary) = new ≡ old
 
   -- 34 refuses the change now, and would not behind a `compact`: the record does not fit, and fits behind the compacted records
-  abbrev pub IsMended : View D → Command → Type 0
+  abbrev pub IsMended : View D → LibraryCommand → Type 0
   IsMended old command = IsAsked old command × (old.area < room_with old command) × (room_compacted old.units command ≤ old.area)
 
   -- the journal's commit of the compacted records, on a disk with this area byte
@@ -150,7 +150,7 @@ module _ {D : Type 0} where
   CompactsDisk seen may_leave old new (Err NotALibrary) = Unit {0}
 
 -- What a change promises on this kind of disk, where each image of an honest disk has `Holds`.
-pub record IsChangedAs {Disk : Type 0} (D : Ghosts Disk) (command : Command) (old new : View Disk) (result : Result (Unit {0}) LibraryFault) (Holds : List ℕ → Type 0) : Type 0 where
+pub record IsChangedAs {Disk : Type 0} (D : Ghosts Disk) (command : LibraryCommand) (old new : View Disk) (result : Result (Unit {0}) LibraryFault) (Holds : List ℕ → Type 0) : Type 0 where
   pub answers : ChangeAnswers old command (D.failures old.disk) (D.failures new.disk) result
   pub leaves : ChangeLeaves command old new result
   pub size : D.size new.disk ≡ D.size old.disk
@@ -164,7 +164,7 @@ pub record IsChangedAs {Disk : Type 0} (D : Ghosts Disk) (command : Command) (ol
   pub images : IsTrue D.honest → old.closed ≡ false → (image : List ℕ) → D.may_leave new.disk image → Holds image
 
 -- what a change promises: a crash leaves the map before it or the map after it
-abbrev pub IsChanged : {Disk : Type 0} (D : Ghosts Disk) → Command → (old new : View Disk) → Result (Unit {0}) LibraryFault → Type 0
+abbrev pub IsChanged : {Disk : Type 0} (D : Ghosts Disk) → LibraryCommand → (old new : View Disk) → Result (Unit {0}) LibraryFault → Type 0
 IsChanged D command old new result = IsChangedAs D command old new result (RecoversOneOf old.units (after old.units command))
 
 -- What a compaction promises in the same way.

@@ -4,8 +4,8 @@ use Rattle.std.specs.Ordering.{nat_cmp}
 use Rattle.std.specs.Cmp.Lexicographic.{slice_cmp}
 use Rattle.std.specs.FinMap.{FinMap, empty, contains_key, insert, remove}
 use Rattle.cc_unit.specs.declared.unit.StoredUnit.{StoredUnit}
-use Rattle.cc_library.specs.declared.command.Command.{Command}
-use Rattle.cc_library.specs.declared.command.Command.TheVariants.{Add, Replace, Withdraw}
+use Rattle.cc_library.specs.declared.command.LibraryCommand.{LibraryCommand}
+use Rattle.cc_library.specs.declared.command.LibraryCommand.TheVariants.{Add, Replace, Withdraw}
 
 -- a finite map from names, in the order of their bytes, to units
 abbrev pub Units : Type 0
@@ -20,7 +20,7 @@ abbrev pub absent : ℕ
 absent = 32
 
 -- Add sets an absent name, Replace sets a present one, Withdraw removes a present one; else a number refuses
-abbrev pub apply : Units → Command → Result Units ℕ
+abbrev pub apply : Units → LibraryCommand → Result Units ℕ
 apply units (Add name unit) = if contains_key units name then Err exists else Ok (insert units name unit)
 apply units (Replace name unit) = if contains_key units name then Ok (insert units name unit) else Err absent
 apply units (Withdraw name) = if contains_key units name then Ok (remove units name) else Err absent
@@ -31,16 +31,16 @@ kept units (Ok made) = made
 kept units (Err number) = units
 
 -- the map after a command; a refused one leaves it
-abbrev pub after : Units → Command → Units
+abbrev pub after : Units → LibraryCommand → Units
 after units command = kept units (apply units command)
 
 -- the map after these commands, one after the other, from a map on
-abbrev pub after_all : Units → List Command → Units
+abbrev pub after_all : Units → List LibraryCommand → Units
 after_all units [] = units
 after_all units (command ∷ commands) = after_all (after units command) commands
 
 -- the map after these commands from the empty one
-abbrev pub library_of : List Command → Units
+abbrev pub library_of : List LibraryCommand → Units
 library_of commands = after_all empty commands
 
 -- the number of a refusal, where there is one
@@ -49,6 +49,6 @@ refusal (Ok units) = None
 refusal (Err number) = Some number
 
 -- each of these commands is accepted by the map that those before it made
-abbrev pub AreAccepted : Units → List Command → Type 0
+abbrev pub AreAccepted : Units → List LibraryCommand → Type 0
 AreAccepted units [] = Unit {0}
 AreAccepted units (command ∷ commands) = IsOk (apply units command) × AreAccepted (after units command) commands

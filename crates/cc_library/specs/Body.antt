@@ -6,8 +6,8 @@ use Rattle.std.specs.Int.{w32, to_le_bytes}
 use Rattle.cc_unit.specs.declared.unit.StoredUnit.{StoredUnit}
 use Rattle.cc_library.specs.declared.command.Kind.{Kind}
 use Rattle.cc_library.specs.declared.command.Kind.TheVariants as kind
-use Rattle.cc_library.specs.declared.command.Command.{Command}
-use Rattle.cc_library.specs.declared.command.Command.TheVariants.{Add, Replace, Withdraw}
+use Rattle.cc_library.specs.declared.command.LibraryCommand.{LibraryCommand}
+use Rattle.cc_library.specs.declared.command.LibraryCommand.TheVariants.{Add, Replace, Withdraw}
 use Rattle.cc_library.specs.Name.{is_name}
 
 -- the byte of a kind
@@ -61,23 +61,23 @@ abbrev pub body_bytes : Kind → List ℕ → Option StoredUnit → List ℕ
 body_bytes kind name unit = body_in (part_version unit) kind name unit
 
 -- the one spelling of a command in a version
-abbrev pub spelling : (version : ℕ) → Command → List ℕ
+abbrev pub spelling : (version : ℕ) → LibraryCommand → List ℕ
 spelling version (Add name unit) = body_in version kind.Add name (Some unit)
 spelling version (Replace name unit) = body_in version kind.Replace name (Some unit)
 spelling version (Withdraw name) = body_in version kind.Withdraw name None
 
 -- the version in which a command is written
-abbrev pub written_version : Command → ℕ
+abbrev pub written_version : LibraryCommand → ℕ
 written_version (Add name unit) = certificate_version unit.certificate
 written_version (Replace name unit) = certificate_version unit.certificate
 written_version (Withdraw name) = 2
 
 -- the body of a command, as it is written
-abbrev pub body_of : Command → List ℕ
+abbrev pub body_of : LibraryCommand → List ℕ
 body_of command = spelling (written_version command) command
 
 -- a command can be spelled in this version: a unit in the one that its certificate asks for, a Withdraw in both
-abbrev pub HasVersion : (version : ℕ) → Command → Type 0
+abbrev pub HasVersion : (version : ℕ) → LibraryCommand → Type 0
 HasVersion version (Add name unit) = version ≡ certificate_version unit.certificate
 HasVersion version (Replace name unit) = version ≡ certificate_version unit.certificate
 HasVersion version (Withdraw name) = (version ≡ 1) ⊎ (version ≡ 2)
@@ -128,13 +128,13 @@ HoldsUnit None = Unit {0}
 HoldsUnit (Some unit) = IsUnit unit
 
 -- what a command can be
-abbrev pub IsCommand : Command → Type 0
+abbrev pub IsCommand : LibraryCommand → Type 0
 IsCommand (Add name unit) = IsTrue (is_name name) × IsUnit unit
 IsCommand (Replace name unit) = IsTrue (is_name name) × IsUnit unit
 IsCommand (Withdraw name) = IsTrue (is_name name)
 
 -- these bytes are a body of this command, in a version that it can have
-pub record Spells (bytes : List ℕ) (command : Command) : Type 0 where
+pub record Spells (bytes : List ℕ) (command : LibraryCommand) : Type 0 where
   pub version : ℕ
   pub has_version : HasVersion version command
   pub spelled : bytes ≡ spelling version command

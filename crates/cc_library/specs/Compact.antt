@@ -3,22 +3,22 @@ use Rattle.std.specs.Prelude.{ℕ, List, [], ◌∷◌, ◌++◌}
 use Rattle.std.specs.FinMap.{entries}
 use Rattle.cc_journal.specs.Format.{room_of}
 use Rattle.cc_unit.specs.declared.unit.StoredUnit.{StoredUnit}
-use Rattle.cc_library.specs.declared.command.Command.{Command}
-use Rattle.cc_library.specs.declared.command.Command.TheVariants.{Add}
+use Rattle.cc_library.specs.declared.command.LibraryCommand.{LibraryCommand}
+use Rattle.cc_library.specs.declared.command.LibraryCommand.TheVariants.{Add}
 use Rattle.cc_library.specs.Apply.{Units}
 use Rattle.cc_library.specs.Body.{body_of}
 
 -- an Add of each of these names and units
-abbrev pub adds : List (List ℕ × StoredUnit) → List Command
+abbrev pub adds : List (List ℕ × StoredUnit) → List LibraryCommand
 adds [] = []
 adds (entry ∷ others) = Add entry.0 entry.1 ∷ adds others
 
 -- one Add per name; the entries of a map stand in the order of their names
-abbrev pub adds_of : Units → List Command
+abbrev pub adds_of : Units → List LibraryCommand
 adds_of units = adds (entries units)
 
 -- the bodies of these commands
-abbrev pub bodies_of : List Command → List (List ℕ)
+abbrev pub bodies_of : List LibraryCommand → List (List ℕ)
 bodies_of [] = []
 bodies_of (command ∷ commands) = body_of command ∷ bodies_of commands
 
@@ -27,5 +27,5 @@ abbrev pub compacted : Units → List (List ℕ)
 compacted units = bodies_of (adds_of units)
 
 -- how many bytes of an area a compacted journal takes with this command's record behind it
-abbrev pub room_compacted : Units → Command → ℕ
+abbrev pub room_compacted : Units → LibraryCommand → ℕ
 room_compacted units command = room_of (compacted units ++ body_of command ∷ [])

@@ -3,12 +3,12 @@ use Rattle.std.specs.Prelude.{◌≡◌, ◌⊎◌, ℕ, Bool, List, [], ◌∷�
 use Rattle.std.specs.FinMap.{empty}
 use Rattle.std.specs.Coded.{Coded, code_by, coded×, coded_ℕ, coded_list, coded_bool}
 use Rattle.cc_journal.specs.Format.{HoldsRecords}
-use Rattle.cc_library.specs.declared.command.Command.{Command}
+use Rattle.cc_library.specs.declared.command.LibraryCommand.{LibraryCommand}
 use Rattle.cc_library.specs.Apply.{Units, after_all, AreAccepted}
 use Rattle.cc_library.specs.Body.{Spells}
 
 -- each body is that of the command with the same index, and there are as many of both
-abbrev pub AreSpelled : List (List ℕ) → List Command → Type 0
+abbrev pub AreSpelled : List (List ℕ) → List LibraryCommand → Type 0
 AreSpelled [] [] = Unit {0}
 AreSpelled [] (command ∷ commands) = ⊥
 AreSpelled (body ∷ bodies) [] = ⊥
@@ -16,7 +16,7 @@ AreSpelled (body ∷ bodies) (command ∷ commands) = Spells body command × Are
 
 -- the bodies are those of commands, each of which is accepted in turn, from this map on, and they lead to that one
 pub record LeadTo (from : Units) (bodies : List (List ℕ)) (to : Units) : Type 0 where
-  pub commands : List Command
+  pub commands : List LibraryCommand
   pub spelled : AreSpelled bodies commands
   pub accepted : AreAccepted from commands
   pub map_is : to ≡ after_all from commands

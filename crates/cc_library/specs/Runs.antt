@@ -1,6 +1,6 @@
 -- A run of edits: each is done in turn, and after each in which the device failed (35) the disk is opened again.
 use Rattle.std.specs.Prelude.{◌≡◌, ◌≢◌, ◌⊎◌, ℕ, Bool, false, IsTrue, List, [], ◌∷◌, ◌++◌, Result, Ok, Err}
-use Rattle.cc_library.specs.declared.command.Command.{Command}
+use Rattle.cc_library.specs.declared.command.LibraryCommand.{LibraryCommand}
 use Rattle.cc_library.specs.declared.command.Edit.{Edit}
 use Rattle.cc_library.specs.declared.command.Edit.TheVariants.{Change, Compact}
 use Rattle.cc_library.specs.declared.fault.LibraryFault.{LibraryFault}
@@ -19,12 +19,12 @@ answer_number (Err fault) = fault_number fault
 
 -- the changes that a run did: each with number 0, of those with 35 the ones that the reopening showed, and no others; Compact
 -- changes nothing
-abbrev pub AreDone : List Edit → List ℕ → List Command → Type 0
+abbrev pub AreDone : List Edit → List ℕ → List LibraryCommand → Type 0
 AreDone [] [] done = done ≡ []
 AreDone [] (number ∷ numbers) done = ⊥
 AreDone (edit ∷ edits) [] done = ⊥
 AreDone (Change command ∷ edits) (number ∷ numbers) done =
-    ((others : List Command) × ((number ≡ 0) ⊎ (number ≡ 35)) × (done ≡ command ∷ others) × AreDone edits numbers others)
+    ((others : List LibraryCommand) × ((number ≡ 0) ⊎ (number ≡ 35)) × (done ≡ command ∷ others) × AreDone edits numbers others)
     ⊎ ((number ≢ 0) × AreDone edits numbers done)
 AreDone (Compact ∷ edits) (number ∷ numbers) done = AreDone edits numbers done
 
@@ -40,7 +40,7 @@ pub record RecoversAmong (units : Units) (edits : List Edit) (numbers : List ℕ
   pub behind : List Edit
   pub earlier : List ℕ
   pub later : List ℕ
-  pub done : List Command
+  pub done : List LibraryCommand
   pub edits_are : edits ≡ prefix ++ behind
   pub numbers_are : numbers ≡ earlier ++ later
   pub are_done : AreDone prefix earlier done

@@ -6,7 +6,7 @@ ghost use Rattle.std.specs.Option.{option_map};
 ghost use Rattle.cc_library.specs.Name.{is_name};
 ghost use Rattle.cc_library.specs.Body.{AreBelow, HasShort, HasUnit, HoldsUnit, IsCertificate, IsCommand, IsShort, IsUnit, body_bytes, body_of, certificate_part, part_version, unit_fields, unit_part, words_field};
 
-use crate::command::{Command, Kind};
+use crate::command::{LibraryCommand, Kind};
 use crate::name::Name;
 use cc_journal::{Body, CLOSED};
 use cc_unit::{Certificate, StoredUnit};
@@ -35,21 +35,21 @@ pub fn command_body(
 }
 
 /// How many bytes the body of the record of a command takes. It takes no memory.
-pub fn body_length(command: &Command) -> usize
+pub fn body_length(command: &LibraryCommand) -> usize
     ensures length { result ≡ length (body_of command.now) }
     // Only a certificate can be longer than a body can tell.
     ensures command { result < 2 ^ 32 → IsCommand command.now }
 {
     match command {
-        Command::Add(name, unit) | Command::Replace(name, unit) => {
+        LibraryCommand::Add(name, unit) | LibraryCommand::Replace(name, unit) => {
             length_with(name.bytes(), Some(unit.stored()))
         }
-        Command::Withdraw(name) => length_with(name.bytes(), None),
+        LibraryCommand::Withdraw(name) => length_with(name.bytes(), None),
     }
 }
 
 /// The body of the record of a command, where its length has room in four bytes.
-pub fn body_of_command(alloc: Global, command: &Command) -> Result<Vec<u8>, AllocError>
+pub fn body_of_command(alloc: Global, command: &LibraryCommand) -> Result<Vec<u8>, AllocError>
     requires { length (body_of command.now) < 2 ^ 32 }
     ensures written { IfOk result (λ body. body.items ≡ body_of command.now) }
     ensures command { OnOk result (IsCommand command.now) }
@@ -58,20 +58,20 @@ pub fn body_of_command(alloc: Global, command: &Command) -> Result<Vec<u8>, Allo
 }
 
 // The same as `body_of_command`, with what stands around the body in its record: it is written and kept without a copy.
-pub(crate) fn framed_body_of_command(alloc: Global, command: &Command) -> Result<Body, AllocError>
+pub(crate) fn framed_body_of_command(alloc: Global, command: &LibraryCommand) -> Result<Body, AllocError>
     requires { length (body_of command.now) < 2 ^ 32 }
     ensures written { IfOk result (λ body. body ≡ body_of command.now) }
     ensures command { OnOk result (IsCommand command.now) }
 {
     match command {
-        Command::Add(name, unit) => framed_body(alloc, Kind::Add, name, Some(unit.stored())),
-        Command::Replace(name, unit) => framed_body(
+        LibraryCommand::Add(name, unit) => framed_body(alloc, Kind::Add, name, Some(unit.stored())),
+        LibraryCommand::Replace(name, unit) => framed_body(
             alloc,
             Kind::Replace,
             name,
             Some(unit.stored()),
         ),
-        Command::Withdraw(name) => framed_body(alloc, Kind::Withdraw, name, None),
+        LibraryCommand::Withdraw(name) => framed_body(alloc, Kind::Withdraw, name, None),
     }
 }
 

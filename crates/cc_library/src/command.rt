@@ -30,7 +30,7 @@ impl Kind {
 /// What changes a library: Add sets the unit of an absent name, Replace that of a present one, Withdraw removes a
 /// present one.
 #[derive(Drop)]
-pub enum Command {
+pub enum LibraryCommand {
     Add(Name, SharedUnit),
     Replace(Name, SharedUnit),
     Withdraw(Name),
@@ -39,19 +39,19 @@ pub enum Command {
 /// What `Library::run` does, one after the other: a change of the map, or `Library::compact`.
 #[derive(Drop)]
 pub enum Edit {
-    Change(Command),
+    Change(LibraryCommand),
     Compact,
 }
 
-impl Command {
+impl LibraryCommand {
     /// The command once more. A unit is shared.
-    pub fn again(&self) -> Result<Command, AllocError>
+    pub fn again(&self) -> Result<LibraryCommand, AllocError>
         ensures { IfOk result (λ command. command ≡ self.now) }
     {
         match self {
-            Command::Add(name, unit) => Ok(Command::Add(name.clone()?, unit.again()?)),
-            Command::Replace(name, unit) => Ok(Command::Replace(name.clone()?, unit.again()?)),
-            Command::Withdraw(name) => Ok(Command::Withdraw(name.clone()?)),
+            LibraryCommand::Add(name, unit) => Ok(LibraryCommand::Add(name.clone()?, unit.again()?)),
+            LibraryCommand::Replace(name, unit) => Ok(LibraryCommand::Replace(name.clone()?, unit.again()?)),
+            LibraryCommand::Withdraw(name) => Ok(LibraryCommand::Withdraw(name.clone()?)),
         }
     }
 }

@@ -2,7 +2,7 @@
 //!
 //! `name` is a name, `unit` and `units` are what is kept, `command` what changes it, `body` and `reading` a command as
 //! the body of a record, `replaying` what records stand for, `library` the library and its calls.
-//! It hands out `Library`, `Name`, `UnitMap`, `Command`, `Edit`, `Kind`, `SharedUnit`, `command_body`,
+//! It hands out `Library`, `Name`, `UnitMap`, `LibraryCommand`, `Edit`, `Kind`, `SharedUnit`, `command_body`,
 //! `body_length`, `body_of_command`, `read_command`, `replay` and the faults.
 #![tactic(auto)]
 
@@ -17,7 +17,7 @@ mod unit;
 mod units;
 
 pub use body::{body_length, body_of_command, command_body};
-pub use command::{Command, Edit, Kind};
+pub use command::{LibraryCommand, Edit, Kind};
 pub use fault::{LibraryFault, NameFault};
 pub use library::Library;
 pub use name::{NAME_BYTES, Name};

@@ -5,8 +5,8 @@ ghost use Rattle.std.specs.Arc.{arc_value};
 ghost use Rattle.std.specs.FinMap as map;
 ghost use Rattle.cc_disk.specs.Images.{LeavesAlone, LeavesOnly, OnlyReads};
 ghost use Rattle.cc_journal.specs.Format.{HoldsRecords};
-ghost use Rattle.cc_library.specs.declared.command.Command.{Command};
-ghost use Rattle.cc_library.specs.declared.command.Command.TheVariants as command;
+ghost use Rattle.cc_library.specs.declared.command.LibraryCommand.{LibraryCommand};
+ghost use Rattle.cc_library.specs.declared.command.LibraryCommand.TheVariants as command;
 ghost use Rattle.cc_library.specs.Apply.{after, after_all, library_of};
 ghost use Rattle.cc_library.specs.Body.{body_of};
 ghost use Rattle.cc_library.specs.Recovered.{Recovers, RecoversAlone, StandFor, View};
@@ -16,7 +16,7 @@ ghost use Rattle.cc_library.specs.Runs.{AreDone, AreEdited, EditAnswers, EditLea
 ghost use Rattle.cc_library.specs.internal.Steps.{IsOldOrNew, IsMidEdit};
 
 use crate::body::{body_length, framed_body_of_command};
-use crate::command::{Command, Edit};
+use crate::command::{LibraryCommand, Edit};
 use crate::fault::LibraryFault;
 use crate::name::Name;
 use crate::replaying::replay;
@@ -108,7 +108,7 @@ impl<D: Disk> Library<D> {
     }
 
     /// Makes a change: `add`, `replace` or `withdraw`, with its refusals and what each leaves.
-    pub fn change(&mut self, alloc: Global, command: Command) -> Result<(), LibraryFault>
+    pub fn change(&mut self, alloc: Global, command: LibraryCommand) -> Result<(), LibraryFault>
         ensures changed { IsChanged D.Disk command self.old self.new result }
     {
         self.append_change(alloc, command)
@@ -127,7 +127,7 @@ impl<D: Disk> Library<D> {
     ) -> Result<(), LibraryFault>
         ensures changed { IsChanged D.Disk (command.Add name (arc_value unit)) self.old self.new result }
     {
-        self.change(alloc, Command::Add(name, SharedUnit::new(unit)))
+        self.change(alloc, LibraryCommand::Add(name, SharedUnit::new(unit)))
     }
 
     /// Sets the unit of a present name. At Ok it is kept: every crash from then on leaves it.
@@ -143,7 +143,7 @@ impl<D: Disk> Library<D> {
     ) -> Result<(), LibraryFault>
         ensures changed { IsChanged D.Disk (command.Replace name (arc_value unit)) self.old self.new result }
     {
-        self.change(alloc, Command::Replace(name, SharedUnit::new(unit)))
+        self.change(alloc, LibraryCommand::Replace(name, SharedUnit::new(unit)))
     }
 
     /// Takes a present name out. At Ok it is out for good: every crash from then on leaves the map without it.
@@ -154,7 +154,7 @@ impl<D: Disk> Library<D> {
     pub fn withdraw(&mut self, alloc: Global, name: Name) -> Result<(), LibraryFault>
         ensures changed { IsChanged D.Disk (command.Withdraw name) self.old self.new result }
     {
-        self.change(alloc, Command::Withdraw(name))
+        self.change(alloc, LibraryCommand::Withdraw(name))
     }
 
     /// Writes the records anew, one Add per name in the order of the names' bytes, into the area that is not in use. So
@@ -171,7 +171,7 @@ impl<D: Disk> Library<D> {
 
     /// Whether the record of this command would have room behind compacted records: after a `compact` a change that the map
     /// accepts is refused by 34 exactly where this is false. It takes no memory and makes no device call; it looks at each unit.
-    pub fn has_room_compacted(&self, command: &Command) -> bool
+    pub fn has_room_compacted(&self, command: &LibraryCommand) -> bool
         ensures room { IsTrue result ↔ (room_compacted self.now.units command.now ≤ self.now.area) }
         // So it says of the library that a `compact` leaves whether the record fits there.
         ensures compacted { (new : View D) → CompactLeaves {T = Unit {0}} self.now new (Ok tt) → IsTrue result ↔ (room_with new command.now ≤ new.area) }
@@ -187,7 +187,7 @@ impl<D: Disk> Library<D> {
 
     /// Whether 34 would refuse this change now, and would not behind a `compact`. It takes no memory and makes no device call;
     /// it looks at each unit only where 34 would come.
-    pub fn is_mended_by_compact(&self, command: &Command) -> bool
+    pub fn is_mended_by_compact(&self, command: &LibraryCommand) -> bool
         ensures { IsTrue result ↔ IsMended self.now command.now }
     {
         if self.units.refusal(command).is_some() {
@@ -258,11 +258,11 @@ impl<D: Disk> Library<D> {
 
         // The map is the one before, folded over the changes with 0 and those with 35 that the reopening showed.
         ensures folded { IfOk result.0 (λ l. IsTrue D.honest
-            → (done : List Command) × AreDone edits.items result.1.items done × (l.units ≡ after_all self.units done)) }
+            → (done : List LibraryCommand) × AreDone edits.items result.1.items done × (l.units ≡ after_all self.units done)) }
 
         // On a new journal it is the fold of these from the empty map.
         ensures from_new { IfOk result.0 (λ l. IsTrue D.honest → self.units ≡ map.empty
-            → (done : List Command) × AreDone edits.items result.1.items done × (l.units ≡ library_of done)) }
+            → (done : List LibraryCommand) × AreDone edits.items result.1.items done × (l.units ≡ library_of done)) }
 
         // While it is not closed, every image recovers to its map.
         ensures kept { IfOk result.0 (λ l. IsTrue D.honest → l.closed ≡ false → (image : List ℕ) → D.may_leave l.disk image → RecoversAlone image l.units) }
@@ -365,7 +365,7 @@ impl<D: Disk> Library<D> {
     }
 
     // One change: the map is asked, all growths are made, then the log decides.
-    fn append_change(&mut self, alloc: Global, command: Command) -> Result<(), LibraryFault>
+    fn append_change(&mut self, alloc: Global, command: LibraryCommand) -> Result<(), LibraryFault>
         ensures changed { IsChangedAs D.Disk command self.old self.new result
             (IsOldOrNew self.old.area self.old.bodies self.old.units (self.old.bodies ++ body_of command ∷ []) (after self.old.units command)) }
     {

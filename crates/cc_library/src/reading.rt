@@ -1,11 +1,11 @@
 // Reading a command from the body of a record.
 ghost use Rattle.std.specs.Prelude.{◌≡◌, ◌≤◌, ◌*◌, List, ℕ, length, drop, IfOk};
-ghost use Rattle.cc_library.specs.declared.command.Command.{Command};
+ghost use Rattle.cc_library.specs.declared.command.LibraryCommand.{LibraryCommand};
 ghost use Rattle.cc_library.specs.Body.{Spells};
 ghost use Rattle.cc_library.specs.internal.Reading.{byte_in, taken, number_in, words_in, words_field_in, source_in, name_in, certificate_in, unit_in, kind_in, command_in};
 ghost use Rattle.cc_library.specs.Answers.{Gives};
 
-use crate::command::Command;
+use crate::command::LibraryCommand;
 use crate::name::Name;
 use crate::unit::SharedUnit;
 use cc_rv32::image::{Code, Globals, Image};
@@ -43,17 +43,17 @@ impl<T: Drop> From<AllocFailed<T>> for ReadFault {
 }
 
 /// The command that the bytes are, all of them.
-pub fn read_command(alloc: Global, bytes: &[u8]) -> Result<Command, ReadFault>
+pub fn read_command(alloc: Global, bytes: &[u8]) -> Result<LibraryCommand, ReadFault>
     // What is read is spelled so.
     ensures answer { IfOk result (λ command. Spells bytes.now command) }
     // What is spelled so is read; nothing is refused as no command that is one.
-    ensures only { (command : Command) → Spells bytes.now command → Gives (λ c. c) result (Some command) }
+    ensures only { (command : LibraryCommand) → Spells bytes.now command → Gives (λ c. c) result (Some command) }
 {
     command_at(alloc, bytes)
 }
 
 #[tactic(auto, unfolding(crate::specs::internal::Reading::command_in))]
-fn command_at(alloc: Global, bytes: &[u8]) -> Result<Command, ReadFault>
+fn command_at(alloc: Global, bytes: &[u8]) -> Result<LibraryCommand, ReadFault>
     ensures { Gives (λ command. command) result (command_in bytes.now) }
 {
     let (version, rest) = byte_at(bytes)?;
@@ -75,19 +75,19 @@ fn kind_at(
     kind: u8,
     name: Name,
     bytes: &[u8],
-) -> Result<(Command, &[u8]), ReadFault>
+) -> Result<(LibraryCommand, &[u8]), ReadFault>
     ensures { Gives (λ x. (x.0, x.1.now)) result (kind_in version kind name bytes.now) }
 {
     match kind {
         1 => {
             let (unit, rest) = unit_at(alloc, version, bytes)?;
-            Ok((Command::Add(name, unit), rest))
+            Ok((LibraryCommand::Add(name, unit), rest))
         }
         2 => {
             let (unit, rest) = unit_at(alloc, version, bytes)?;
-            Ok((Command::Replace(name, unit), rest))
+            Ok((LibraryCommand::Replace(name, unit), rest))
         }
-        3 => Ok((Command::Withdraw(name), bytes)),
+        3 => Ok((LibraryCommand::Withdraw(name), bytes)),
         _ => Err(ReadFault::NoCommand),
     }
 }

@@ -12,7 +12,7 @@ ghost use Rattle.cc_library.specs.Recovered.{AreSpelled};
 ghost use Rattle.cc_library.specs.internal.Halves.{begun, finished, undone};
 
 use crate::body::{framed_body, length_with};
-use crate::command::{Command, Kind};
+use crate::command::{LibraryCommand, Kind};
 use crate::name::Name;
 use crate::unit::SharedUnit;
 use cc_journal::Body;
@@ -126,19 +126,19 @@ impl UnitMap {
     }
 
     /// Which number refuses the command now, 31 or 32, where one does. It takes no memory.
-    pub fn refusal(&self, command: &Command) -> Option<u32>
+    pub fn refusal(&self, command: &LibraryCommand) -> Option<u32>
         ensures { result ≡ refusal (apply self.now command.now) }
     {
         match command {
-            Command::Add(name, _) => { if self.contains(name) { Some(31) } else { None } }
-            Command::Replace(name, _) | Command::Withdraw(name) => {
+            LibraryCommand::Add(name, _) => { if self.contains(name) { Some(31) } else { None } }
+            LibraryCommand::Replace(name, _) | LibraryCommand::Withdraw(name) => {
                 if self.contains(name) { None } else { Some(32) }
             }
         }
     }
 
     /// Does the command, where the map does not refuse it. Without memory the map stays as it was.
-    pub fn apply(&mut self, command: &Command) -> Result<(), AllocError>
+    pub fn apply(&mut self, command: &LibraryCommand) -> Result<(), AllocError>
         ensures ok { OnOk result (self.new ≡ after self.old command.now) }
         ensures leaves { OnErr result (self.new ≡ self.old) }
     {
@@ -146,10 +146,10 @@ impl UnitMap {
             return Ok(());
         }
         match command {
-            Command::Add(name, unit) | Command::Replace(name, unit) => {
+            LibraryCommand::Add(name, unit) | LibraryCommand::Replace(name, unit) => {
                 self.put(name.clone()?, unit.again()?)
             }
-            Command::Withdraw(name) => {
+            LibraryCommand::Withdraw(name) => {
                 self.remove(name);
                 Ok(())
             }
@@ -158,38 +158,38 @@ impl UnitMap {
 
     // Takes the room that an accepted command needs, so that it can be finished or undone without memory. Without
     // memory the map stays as it was.
-    pub(crate) fn begin(&mut self, command: &Command) -> Result<(), AllocError>
+    pub(crate) fn begin(&mut self, command: &LibraryCommand) -> Result<(), AllocError>
         ensures ok { OnOk result (self.new ≡ begun self.old command.now) }
         ensures err { OnErr result (self.new ≡ self.old) }
     {
         match command {
-            Command::Add(name, unit) => self.put(name.clone()?, unit.again()?),
-            Command::Replace(_, _) | Command::Withdraw(_) => Ok(()),
+            LibraryCommand::Add(name, unit) => self.put(name.clone()?, unit.again()?),
+            LibraryCommand::Replace(_, _) | LibraryCommand::Withdraw(_) => Ok(()),
         }
     }
 
     // Does the rest of a command that has begun. It takes no memory.
-    pub(crate) fn finish(&mut self, command: Command)
+    pub(crate) fn finish(&mut self, command: LibraryCommand)
         ensures { self.new ≡ finished self.old command }
     {
         match command {
-            Command::Add(_, _) => {}
-            Command::Replace(name, unit) => {
+            LibraryCommand::Add(_, _) => {}
+            LibraryCommand::Replace(name, unit) => {
                 if self.contains(&name) {
                     let _ = self.put(name, unit);
                 }
             }
-            Command::Withdraw(name) => self.remove(&name),
+            LibraryCommand::Withdraw(name) => self.remove(&name),
         }
     }
 
     // Takes back what a command has begun. It takes no memory.
-    pub(crate) fn undo(&mut self, command: Command)
+    pub(crate) fn undo(&mut self, command: LibraryCommand)
         ensures { self.new ≡ undone self.old command }
     {
         match command {
-            Command::Add(name, _unit) => self.remove(&name),
-            Command::Replace(_, _) | Command::Withdraw(_) => {}
+            LibraryCommand::Add(name, _unit) => self.remove(&name),
+            LibraryCommand::Replace(_, _) | LibraryCommand::Withdraw(_) => {}
         }
     }
 
@@ -204,14 +204,14 @@ impl UnitMap {
     }
 
     // Does the command, where the map accepts it, and says whether it does. What a refused one leaves is not said.
-    pub(crate) fn accept(&mut self, command: Command) -> Result<bool, AllocError>
+    pub(crate) fn accept(&mut self, command: LibraryCommand) -> Result<bool, AllocError>
         ensures done { IfOk result (λ done. IsTrue done → IsOk (apply self.old command) × (self.new ≡ after self.old command)) }
         ensures refused { IfOk result (λ done. done ≡ false → IsOk (apply self.old command) → ⊥) }
     {
         match command {
-            Command::Add(name, unit) => Ok(!self.set(name, unit)?),
-            Command::Replace(name, unit) => self.set(name, unit),
-            Command::Withdraw(name) => Ok(self.take(&name)),
+            LibraryCommand::Add(name, unit) => Ok(!self.set(name, unit)?),
+            LibraryCommand::Replace(name, unit) => self.set(name, unit),
+            LibraryCommand::Withdraw(name) => Ok(self.take(&name)),
         }
     }
 

@@ -18,9 +18,9 @@ use Rattle.cc_ltl.specs.declared.operation.Operation.TheVariants.{Nop, Const, Un
 use Rattle.cc_ltl.specs.declared.block.Block.{Block}
 use Rattle.cc_ltl.specs.Ltl as ltl
 use Rattle.cc_ltl.specs.Ltl.{Ltl, block_at, Locations, put, target, source, moved, result_location, destroyed_location, after_call, to_block, operate, ltl_move, ltl_output, ltl_start}
-use Rattle.cc_linear_language.specs.declared.item.Item.{Item}
-use Rattle.cc_linear_language.specs.declared.item.Item.TheVariants as item
-use Rattle.cc_linear_language.specs.declared.item.Item.TheVariants.{Label, Jump, IfNonzero, IfZero}
+use Rattle.cc_linear_language.specs.declared.item.LinearItem.{LinearItem}
+use Rattle.cc_linear_language.specs.declared.item.LinearItem.TheVariants as item
+use Rattle.cc_linear_language.specs.declared.item.LinearItem.TheVariants.{Label, Jump, IfNonzero, IfZero}
 use Rattle.cc_linear_language.specs.Linear as linear
 use Rattle.cc_linear_language.specs.Linear.{place, at_items, does, linear_move, linear_output, linear_start}
 use Rattle.cc_linear.specs.internal.Lays.{moves_then, operation_then, GoesOnAt, StandsIn, next, IsNop, Straight, BranchesTo, Leaves, Stands, Nearer, Passes, Lays}
@@ -41,7 +41,7 @@ few_moves (x ∷ xs) l b e = at (x.label == l) e (few_moves xs l b)
     at true h ih = let same : x ≡ b = cc in let k = ap moves_of same in omega arith
     at false h ih = let k = ih h in omega arith
 
-module _ (arity : ℕ → ℕ) (function : Ltl) (code : List Item) (end far : ℕ → ℕ) (most : ℕ) (lays : Lays function code end far most) where
+module _ (arity : ℕ → ℕ) (function : Ltl) (code : List LinearItem) (end far : ℕ → ℕ) (most : ℕ) (lays : Lays function code end far most) where
   abbrev old : ltl.Configuration → Moving ltl.Configuration
   old c = ltl_move arity function c
 
@@ -69,7 +69,7 @@ module _ (arity : ℕ → ℕ) (function : Ltl) (code : List Item) (end far : �
   -- The list is behind by the moves that follow an operation.
   pub record Related (c : ltl.Configuration) (d : linear.Configuration) : Type 0 where
     pub copies : List Move
-    pub tail : List Item
+    pub tail : List LinearItem
     pub items : d.items ≡ moves_then copies tail
     pub on : GoesOnAt code tail (end c.label)
     pub stands : StandsIn code (end c.label)
@@ -78,10 +78,10 @@ module _ (arity : ℕ → ℕ) (function : Ltl) (code : List Item) (end far : �
     pub words : d.words ≡ c.words
     pub few : length copies ≤ size
 
-  lagging : (n : ℕ) (after : List Move) (at : Locations) (world : World) (words : List ℕ) (tail : List Item) → GoesOnAt code tail (end n) → StandsIn code (end n) → length after ≤ size → Related (to_block n after at world words) (at_items (moves_then after tail) at world words)
+  lagging : (n : ℕ) (after : List Move) (at : Locations) (world : World) (words : List ℕ) (tail : List LinearItem) → GoesOnAt code tail (end n) → StandsIn code (end n) → length after ≤ size → Related (to_block n after at world words) (at_items (moves_then after tail) at world words)
   lagging n after at world words tail o s f = record { copies = after; tail = tail; items = refl; on = o; stands = s; locations = refl; world = refl; words = refl; few = f }
 
-  copies_way : (ms : List Move) (tail : List Item) (at : Locations) (world : World) (words : List ℕ) → Way (at_items (moves_then ms tail) at world words) (length ms) (at_items tail (moved ms at) world words)
+  copies_way : (ms : List Move) (tail : List LinearItem) (at : Locations) (world : World) (words : List ℕ) → Way (at_items (moves_then ms tail) at world words) (length ms) (at_items tail (moved ms at) world words)
   copies_way [] tail at world words = path_refl (at_items tail at world words)
   copies_way (m ∷ ms) tail at world words =
       let a = at_items (moves_then (m ∷ ms) tail) at world words in
@@ -92,7 +92,7 @@ module _ (arity : ℕ → ℕ) (function : Ltl) (code : List Item) (end far : �
       subst (λ n. Way a n c) (let e : 1 + length ms ≡ suc (length ms) = omega arith in e) (path_then a b c 1 (length ms) step more)
 
   -- a label is no move
-  label_way : (l : ℕ) (items : List Item) (at : Locations) (world : World) (words : List ℕ) → Way (at_items (Label l ∷ items) at world words) 0 (at_items items at world words)
+  label_way : (l : ℕ) (items : List LinearItem) (at : Locations) (world : World) (words : List ℕ) → Way (at_items (Label l ∷ items) at world words) 0 (at_items items at world words)
   label_way l items at world words = (refl, refl)
 
   pub record Arrives (d : linear.Configuration) (least most' : ℕ) (e : linear.Configuration) : Type 0 where
@@ -105,7 +105,7 @@ module _ (arity : ℕ → ℕ) (function : Ltl) (code : List Item) (end far : �
   then_way d e f a b n x w = record { moves = x.moves + n; enough = let g = x.enough in omega arith; few = let g = x.few in omega arith; way = path_then d e f x.moves n x.way w }
 
   -- to where the list goes on, by a jump at most
-  goes_on : (tail : List Item) (l : ℕ) (at : Locations) (world : World) (words : List ℕ) → GoesOnAt code tail l → Arrives (at_items tail at world words) 0 1 (at_items (place code l) at world words)
+  goes_on : (tail : List LinearItem) (l : ℕ) (at : Locations) (world : World) (words : List ℕ) → GoesOnAt code tail l → Arrives (at_items tail at world words) 0 1 (at_items (place code l) at world words)
   goes_on tail l at world words (inl e) = record { moves = 0; enough = omega arith; few = omega arith; way = subst (λ x. Way (at_items x at world words) 0 (at_items (place code l) at world words)) e (path_refl (at_items (place code l) at world words)) }
   goes_on tail l at world words (inr (behind, e)) = record { moves = 1; enough = omega arith; few = omega arith; way = one_move (at_items tail at world words) (at_items (place code l) at world words) (ap (λ x. new (at_items x at world words)) e) }
 
@@ -122,7 +122,7 @@ module _ (arity : ℕ → ℕ) (function : Ltl) (code : List Item) (end far : �
       record { moves = length r.copies + g.moves; enough = omega arith; few = let x = r.few in let y = g.few in omega arith; way = subst (λ x. Way d (length r.copies + g.moves) x) same all }
 
   -- behind the moves that stand before the block's operation
-  arrives : (c : ltl.Configuration) (d : linear.Configuration) (before : List Move) (body : List Item) → Related c d → end c.label ≡ c.label → place code c.label ≡ Label c.label ∷ moves_then before body
+  arrives : (c : ltl.Configuration) (d : linear.Configuration) (before : List Move) (body : List LinearItem) → Related c d → end c.label ≡ c.label → place code c.label ≡ Label c.label ∷ moves_then before body
       → Arrives d (length before) (size + 1 + length before) (at_items body (moved before c.locations) c.world c.words)
   arrives c d before body r own is =
       let s = settles c d r in
@@ -153,7 +153,7 @@ module _ (arity : ℕ → ℕ) (function : Ltl) (code : List Item) (end far : �
   IsStraight Return = ⊥
   IsStraight _ = Unit {0}
 
-  fits : (op : Operation) (after : List Move) (at : Locations) (world : World) (words : List ℕ) (tail : List Item) → IsStraight op → GoesOnAt code tail (end (next op)) → StandsIn code (end (next op)) → length after ≤ size
+  fits : (op : Operation) (after : List Move) (at : Locations) (world : World) (words : List ℕ) (tail : List LinearItem) → IsStraight op → GoesOnAt code tail (end (next op)) → StandsIn code (end (next op)) → length after ≤ size
       → Fits (operate arity op after at world words) (new (at_items (operation_then op (moves_then after tail)) at world words))
   fits (Const to word n) after at world words tail i o s f = lagging n after (put (Register to) word at) world words tail o s f
   fits (Unary operator to from n) after at world words tail i o s f = lagging n after (put (Register to) (apply_unary operator (at (Register from))) at) world words tail o s f
@@ -236,12 +236,12 @@ module _ (arity : ℕ → ℕ) (function : Ltl) (code : List Item) (end far : �
       let move = block_move c b e ∙ ap (λ o. operate arity o b.after at c.world c.words) is in
       record { moves = a.moves; to = to; few = let x = a.few in omega arith; way = a.way; output = refl; fits = subst (λ m. Fits m (new to)) (sym move) refl }
 
-  nonzero_fits : (t : Bool) (taken other : ℕ) (at : Locations) (world : World) (words : List ℕ) (tail : List Item) → GoesOnAt code tail (end other) → StandsIn code (end taken) → StandsIn code (end other)
+  nonzero_fits : (t : Bool) (taken other : ℕ) (at : Locations) (world : World) (words : List ℕ) (tail : List LinearItem) → GoesOnAt code tail (end other) → StandsIn code (end taken) → StandsIn code (end other)
       → Related (to_block (cond t other taken) [] at world words) (at_items (cond t tail (place code (end taken))) at world words)
   nonzero_fits true taken other at world words tail o st so = lagging other [] at world words tail o so (omega arith)
   nonzero_fits false taken other at world words tail o st so = lagging taken [] at world words (place code (end taken)) (inl refl) st (omega arith)
 
-  zero_fits : (t : Bool) (taken other : ℕ) (at : Locations) (world : World) (words : List ℕ) (tail : List Item) → GoesOnAt code tail (end taken) → StandsIn code (end taken) → StandsIn code (end other)
+  zero_fits : (t : Bool) (taken other : ℕ) (at : Locations) (world : World) (words : List ℕ) (tail : List LinearItem) → GoesOnAt code tail (end taken) → StandsIn code (end taken) → StandsIn code (end other)
       → Related (to_block (cond t other taken) [] at world words) (at_items (cond t (place code (end other)) tail) at world words)
   zero_fits true taken other at world words tail o st so = lagging other [] at world words (place code (end other)) (inl refl) so (omega arith)
   zero_fits false taken other at world words tail o st so = lagging taken [] at world words tail o st (omega arith)
@@ -251,7 +251,7 @@ module _ (arity : ℕ → ℕ) (function : Ltl) (code : List Item) (end far : �
   branch_move c b from taken other e is no_after =
       block_move c b e ∙ ap (λ o. operate arity o b.after (moved b.before c.locations) c.world c.words) is ∙ ap (λ ms. operate arity (Branch from taken other) ms (moved b.before c.locations) c.world c.words) no_after
 
-  branches : (c : ltl.Configuration) (d : linear.Configuration) (b : Block) (from taken other : ℕ) (tail : List Item) → Related c d → block_at function.blocks c.label ≡ Some b → b.operation ≡ Branch from taken other → b.after ≡ [] → end c.label ≡ c.label
+  branches : (c : ltl.Configuration) (d : linear.Configuration) (b : Block) (from taken other : ℕ) (tail : List LinearItem) → Related c d → block_at function.blocks c.label ≡ Some b → b.operation ≡ Branch from taken other → b.after ≡ [] → end c.label ≡ c.label
       → StandsIn code (end taken) → StandsIn code (end other) → BranchesTo code end c.label b.before from taken other tail → Matches c d
   branches c d b from taken other tail r e is no_after own st so (inl (items, o)) =
       let a = arrives c d b.before (IfNonzero from (end taken) ∷ tail) r own items in
@@ -269,8 +269,8 @@ module _ (arity : ℕ → ℕ) (function : Ltl) (code : List Item) (end far : �
       record { moves = a.moves; to = to; few = let x = a.few in omega arith; way = a.way; output = refl; fits = subst (λ m. Fits m (new to)) (sym (branch_move c b from taken other e is no_after)) f }
 
   -- an empty nop that stands is a jump; any other has moves
-  nop_way : (d : linear.Configuration) (n count : ℕ) (before after : List Move) (tail : List Item) (at : Locations) (world : World) (words : List ℕ) → GoesOnAt code tail (end n) → StandsIn code (end n)
-      → (before ≡ [] → after ≡ [] → (behind : List Item) × (tail ≡ Jump (end n) ∷ behind)) → length before + length after ≤ size → Arrives d (length before + length after) count (at_items tail at world words) → suc count ≤ suc wide
+  nop_way : (d : linear.Configuration) (n count : ℕ) (before after : List Move) (tail : List LinearItem) (at : Locations) (world : World) (words : List ℕ) → GoesOnAt code tail (end n) → StandsIn code (end n)
+      → (before ≡ [] → after ≡ [] → (behind : List LinearItem) × (tail ≡ Jump (end n) ∷ behind)) → length before + length after ≤ size → Arrives d (length before + length after) count (at_items tail at world words) → suc count ≤ suc wide
       → Advances old ltl_output new linear_output Related wide (to_block n [] at world words) d
   nop_way d n count [] [] tail at world words o s jumps short a few =
       let j = jumps refl refl in
@@ -293,7 +293,7 @@ module _ (arity : ℕ → ℕ) (function : Ltl) (code : List Item) (end far : �
       let leads : end (next b.operation) ≡ end n = ap (λ o. end (next o)) is in
       let move = block_move c b e ∙ ap (λ o. operate arity o b.after here c.world c.words) is in
       let way = nop_way d n (size + 1 + length b.before + length b.after) b.before b.after s.tail (moved b.after here) c.world c.words (subst (GoesOnAt code s.tail) leads s.on) (subst (StandsIn code) leads s.stands)
-      (λ p q. subst (λ l. (behind : List Item) × (s.tail ≡ Jump l ∷ behind)) leads (s.jumps (subst IsNop (sym is) tt) p q)) short u (omega arith) in
+      (λ p q. subst (λ l. (behind : List LinearItem) × (s.tail ≡ Jump l ∷ behind)) leads (s.jumps (subst IsNop (sym is) tt) p q)) short u (omega arith) in
       record { to = to_block n [] (moved b.after here) c.world c.words; move = move; proceeds = inl way }
 
   kept : (c : ltl.Configuration) (d : linear.Configuration) (b : Block) (op : Operation) → Related c d → block_at function.blocks c.label ≡ Some b → b.operation ≡ op → end c.label ≡ c.label → Stands code end c.label b op → Matches c d ⊎ Silent c d
@@ -361,7 +361,7 @@ module _ (arity : ℕ → ℕ) (function : Ltl) (code : List Item) (end far : �
   }
 
 -- what the blocks keep of the source, a list that lays them out keeps, slower by the longest chain that it passes over
-pub linear_tracks : (meaning : Meaning) (f rate : ℕ) (function : Ltl) (code : List Item) (end far : ℕ → ℕ) (most : ℕ) → Lays function code end far most
+pub linear_tracks : (meaning : Meaning) (f rate : ℕ) (function : Ltl) (code : List LinearItem) (end far : ℕ → ℕ) (most : ℕ) → Lays function code end far most
     → TracksForAll meaning f rate (ltl_move meaning.arity function) ltl_output (ltl_start function)
     → TracksForAll meaning f (coarser rate most) (linear_move meaning.arity code) linear_output (linear_start function.slots code)
 linear_tracks meaning f rate function code end far most lays tracks =

@@ -8,9 +8,9 @@ use Rattle.cc_ltl.specs.declared.operation.Operation.{Operation}
 use Rattle.cc_ltl.specs.declared.operation.Operation.TheVariants.{Nop, Const, Unary, Binary, Load, Store, Call, Read, Write, Branch, Return}
 use Rattle.cc_ltl.specs.declared.block.Block.{Block}
 use Rattle.cc_ltl.specs.Ltl.{Ltl, block_at}
-use Rattle.cc_linear_language.specs.declared.item.Item.{Item}
-use Rattle.cc_linear_language.specs.declared.item.Item.TheVariants as item
-use Rattle.cc_linear_language.specs.declared.item.Item.TheVariants.{Label, Jump, IfNonzero, IfZero}
+use Rattle.cc_linear_language.specs.declared.item.LinearItem.{LinearItem}
+use Rattle.cc_linear_language.specs.declared.item.LinearItem.TheVariants as item
+use Rattle.cc_linear_language.specs.declared.item.LinearItem.TheVariants.{Label, Jump, IfNonzero, IfZero}
 use Rattle.cc_linear_language.specs.Linear.{place}
 use Rattle.cc_linear.specs.internal.Lays.{moves_then, operation_then, GoesOnAt, StandsIn, next, IsNop, Straight, BranchesTo, Stands, IsPassed, Lays}
 use Rattle.cc_linear.specs.internal.Layout.{is_next, leads, has_none, is_nop, is_empty, tail_of, branch_then, block_then, laid_at, laid, linear_code, HasSuccessors, IsOrder, AreEnds, NoneBehind, BranchesAreLast}
@@ -74,11 +74,11 @@ next_from (y ∷ ys) d l e ls h = elim (eqb_tells y l) [
     itself a = elim (eqb_tells a a) [ inl t ↦ t.0 | inr t ↦ absurd (t.1 refl) ]
 
 -- the place of a label passes by a block's items
-place_moves : (ms : List Move) (items : List Item) (l : ℕ) → place (moves_then ms items) l ≡ place items l
+place_moves : (ms : List Move) (items : List LinearItem) (l : ℕ) → place (moves_then ms items) l ≡ place items l
 place_moves [] items l = refl
 place_moves (m ∷ ms) items l = place_moves ms items l
 
-place_operation : (op : Operation) (items : List Item) (l : ℕ) → place (operation_then op items) l ≡ place items l
+place_operation : (op : Operation) (items : List LinearItem) (l : ℕ) → place (operation_then op items) l ≡ place items l
 place_operation (Nop n) items l = refl
 place_operation (Const to word n) items l = refl
 place_operation (Unary operator to from n) items l = refl
@@ -91,18 +91,18 @@ place_operation (Write n) items l = refl
 place_operation (Branch from taken other) items l = refl
 place_operation Return items l = refl
 
-place_cond : (t : Bool) (items others rest : List Item) (l : ℕ) → place items l ≡ place rest l → place others l ≡ place rest l → place (cond t items others) l ≡ place rest l
+place_cond : (t : Bool) (items others rest : List LinearItem) (l : ℕ) → place items l ≡ place rest l → place others l ≡ place rest l → place (cond t items others) l ≡ place rest l
 place_cond true items others rest l p q = p
 place_cond false items others rest l p q = q
 
-place_leads : (e : ℕ) (order : List ℕ) (items : List Item) (l : ℕ) → place (leads e order items) l ≡ place items l
+place_leads : (e : ℕ) (order : List ℕ) (items : List LinearItem) (l : ℕ) → place (leads e order items) l ≡ place items l
 place_leads e order items l = place_cond (is_next e order) items (Jump e ∷ items) items l refl refl
 
-place_straight : (end : ℕ → ℕ) (b : Block) (order : List ℕ) (items : List Item) (l : ℕ) → place (moves_then b.before (operation_then b.operation (moves_then b.after (tail_of end b order items)))) l ≡ place items l
+place_straight : (end : ℕ → ℕ) (b : Block) (order : List ℕ) (items : List LinearItem) (l : ℕ) → place (moves_then b.before (operation_then b.operation (moves_then b.after (tail_of end b order items)))) l ≡ place items l
 place_straight end b order items l =
     place_moves b.before (operation_then b.operation (moves_then b.after (tail_of end b order items))) l ∙ place_operation b.operation (moves_then b.after (tail_of end b order items)) l ∙ place_moves b.after (tail_of end b order items) l ∙ place_cond (is_empty b) (Jump (end (next b.operation)) ∷ items) (leads (end (next b.operation)) order items) items l refl (place_leads (end (next b.operation)) order items l)
 
-place_block : (end : ℕ → ℕ) (b : Block) (op : Operation) (order : List ℕ) (items : List Item) (l : ℕ) → place (block_then end b op order items) l ≡ place items l
+place_block : (end : ℕ → ℕ) (b : Block) (op : Operation) (order : List ℕ) (items : List LinearItem) (l : ℕ) → place (block_then end b op order items) l ≡ place items l
 place_block end b (Branch from taken other) order items l =
     place_moves b.before (branch_then end from taken other order items) l ∙ place_cond (is_next (end taken) order) (IfZero from (end other) ∷ items) (IfNonzero from (end taken) ∷ leads (end other) order items) items l refl (place_leads (end other) order items l)
 place_block end b Return order items l = place_moves b.before (item.Return ∷ items) l
@@ -116,7 +116,7 @@ place_block end b (Call function n) order items l = place_straight end b order i
 place_block end b (Read n) order items l = place_straight end b order items l
 place_block end b (Write n) order items l = place_straight end b order items l
 
-place_laid_at : (end : ℕ → ℕ) (o : Option Block) (order : List ℕ) (items : List Item) (l : ℕ) → place (laid_at end o order items) l ≡ place items l
+place_laid_at : (end : ℕ → ℕ) (o : Option Block) (order : List ℕ) (items : List LinearItem) (l : ℕ) → place (laid_at end o order items) l ≡ place items l
 place_laid_at end None order items l = refl
 place_laid_at end (Some b) order items l = place_block end b b.operation order items l
 
@@ -128,10 +128,10 @@ place_laid blocks end (x ∷ xs) l = elim (eqb_tells x l) [
 ]
 
 module _ (ltl : Ltl) (end far : ℕ → ℕ) (most : ℕ) (order : List ℕ) (ends : AreEnds ltl end far most) (ordered : IsOrder ltl end order) (last : BranchesAreLast ltl) where
-  abbrev code : List Item
+  abbrev code : List LinearItem
   code = linear_code ltl end order
 
-  abbrev items_of : List ℕ → List Item
+  abbrev items_of : List ℕ → List LinearItem
   items_of ls = laid ltl.blocks end ls
 
   place_code : (l : ℕ) → place code l ≡ items_of (from order l)
@@ -194,7 +194,7 @@ module _ (ltl : Ltl) (end far : ℕ → ℕ) (most : ℕ) (order : List ℕ) (en
   }
 
   branching : (l : ℕ) (before : List Move) (from taken other : ℕ) (ls : List ℕ) (t : Bool) → is_next (end taken) ls ≡ t → Before order l ls → place code l ≡ Label l ∷ moves_then before (branch_then end from taken other ls (items_of ls))
-      → (tail : List Item) × BranchesTo code end l before from taken other tail
+      → (tail : List LinearItem) × BranchesTo code end l before from taken other tail
   branching l before from taken other ls true n b is =
       let e = ap (λ t. cond t (IfZero from (end other) ∷ items_of ls) (IfNonzero from (end taken) ∷ leads (end other) ls (items_of ls))) n in
       let falls : leads (end taken) ls (items_of ls) ≡ items_of ls = ap (λ t. cond t (items_of ls) (Jump (end taken) ∷ items_of ls)) n in

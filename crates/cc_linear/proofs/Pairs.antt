@@ -11,9 +11,9 @@ use Rattle.cc_ltl.specs.declared.block.Block.{Block}
 use Rattle.cc_ltl.specs.Ltl.{Ltl, IsMove, IsOperation, IsBlock, IsLtl, goes_on, block_at}
 use Rattle.cc_validate.specs.Pair as above
 use Rattle.cc_validate.specs.Pair.{EndsAreLast, IsCallOf}
-use Rattle.cc_linear_language.specs.declared.item.Item.{Item}
-use Rattle.cc_linear_language.specs.declared.item.Item.TheVariants as item
-use Rattle.cc_linear_language.specs.declared.item.Item.TheVariants.{Label, Jump, IfNonzero, IfZero}
+use Rattle.cc_linear_language.specs.declared.item.LinearItem.{LinearItem}
+use Rattle.cc_linear_language.specs.declared.item.LinearItem.TheVariants as item
+use Rattle.cc_linear_language.specs.declared.item.LinearItem.TheVariants.{Label, Jump, IfNonzero, IfZero}
 use Rattle.cc_linear_language.specs.Linear.{labels, IsItem}
 use Rattle.cc_linear.specs.Targets.{targets}
 use Rattle.cc_linear_language.specs.Pair.{Pair, tree_of, IsPair}
@@ -27,11 +27,11 @@ use Rattle.cc_simulation.proofs.Simulating.{coarser}
 
 -- ---- the labels of the list are those of the order
 
-labels_moves : (ms : List Move) (items : List Item) → labels (moves_then ms items) ≡ labels items
+labels_moves : (ms : List Move) (items : List LinearItem) → labels (moves_then ms items) ≡ labels items
 labels_moves [] items = refl
 labels_moves (m ∷ ms) items = labels_moves ms items
 
-labels_operation : (op : Operation) (items : List Item) → labels (operation_then op items) ≡ labels items
+labels_operation : (op : Operation) (items : List LinearItem) → labels (operation_then op items) ≡ labels items
 labels_operation (Nop n) items = refl
 labels_operation (Const to word n) items = refl
 labels_operation (Unary operator to from n) items = refl
@@ -44,19 +44,19 @@ labels_operation (Write n) items = refl
 labels_operation (Branch from taken other) items = refl
 labels_operation Return items = refl
 
-labels_either : (t : Bool) (items others rest : List Item) → labels items ≡ labels rest → labels others ≡ labels rest → labels (if t then items else others) ≡ labels rest
+labels_either : (t : Bool) (items others rest : List LinearItem) → labels items ≡ labels rest → labels others ≡ labels rest → labels (if t then items else others) ≡ labels rest
 labels_either true items others rest p q = p
 labels_either false items others rest p q = q
 
-labels_leads : (e : ℕ) (order : List ℕ) (items : List Item) → labels (leads e order items) ≡ labels items
+labels_leads : (e : ℕ) (order : List ℕ) (items : List LinearItem) → labels (leads e order items) ≡ labels items
 labels_leads e order items = labels_either (is_next e order) items (Jump e ∷ items) items refl refl
 
-labels_straight : (end : ℕ → ℕ) (b : Block) (order : List ℕ) (items : List Item) → labels (moves_then b.before (operation_then b.operation (moves_then b.after (tail_of end b order items)))) ≡ labels items
+labels_straight : (end : ℕ → ℕ) (b : Block) (order : List ℕ) (items : List LinearItem) → labels (moves_then b.before (operation_then b.operation (moves_then b.after (tail_of end b order items)))) ≡ labels items
 labels_straight end b order items =
     labels_moves b.before (operation_then b.operation (moves_then b.after (tail_of end b order items))) ∙ labels_operation b.operation (moves_then b.after (tail_of end b order items)) ∙ labels_moves b.after (tail_of end b order items)
     ∙ labels_either (is_empty b) (Jump (end (next b.operation)) ∷ items) (leads (end (next b.operation)) order items) items refl (labels_leads (end (next b.operation)) order items)
 
-labels_block : (end : ℕ → ℕ) (b : Block) (op : Operation) (order : List ℕ) (items : List Item) → labels (block_then end b op order items) ≡ labels items
+labels_block : (end : ℕ → ℕ) (b : Block) (op : Operation) (order : List ℕ) (items : List LinearItem) → labels (block_then end b op order items) ≡ labels items
 labels_block end b (Branch from taken other) order items =
     labels_moves b.before (branch_then end from taken other order items)
     ∙ labels_either (is_next (end taken) order) (IfZero from (end other) ∷ items) (IfNonzero from (end taken) ∷ leads (end other) order items) items refl (labels_leads (end other) order items)
@@ -71,7 +71,7 @@ labels_block end b (Call function n) order items = labels_straight end b order i
 labels_block end b (Read n) order items = labels_straight end b order items
 labels_block end b (Write n) order items = labels_straight end b order items
 
-labels_at : (end : ℕ → ℕ) (o : Option Block) (order : List ℕ) (items : List Item) → labels (laid_at end o order items) ≡ labels items
+labels_at : (end : ℕ → ℕ) (o : Option Block) (order : List ℕ) (items : List LinearItem) → labels (laid_at end o order items) ≡ labels items
 labels_at end None order items = refl
 labels_at end (Some b) order items = labels_block end b b.operation order items
 
@@ -101,14 +101,14 @@ each_inside (x ∷ xs) ys f = (
 )
 
 module _ (unit : List External) (ltl : Ltl) (end : ℕ → ℕ) (order names : List ℕ) (is : IsLtl ltl) (calls : above.AreCalls unit ltl) (ordered : IsOrder ltl end order) (inside : (l : ℕ) → Contains order l → Contains names l) where
-  abbrev Fits : List Item → Type 0
+  abbrev Fits : List LinearItem → Type 0
   Fits items = AllByRecursion (IsItem ltl.slots (length (functions unit)) names) items
 
-  moves_fit : (ms : List Move) (items : List Item) → AllByRecursion (IsMove ltl.slots) ms → Fits items → Fits (moves_then ms items)
+  moves_fit : (ms : List Move) (items : List LinearItem) → AllByRecursion (IsMove ltl.slots) ms → Fits items → Fits (moves_then ms items)
   moves_fit [] items all h = h
   moves_fit (m ∷ ms) items all h = (all.0, moves_fit ms items all.1 h)
 
-  operation_fits : (op : Operation) (items : List Item) → IsOperation op → IsCallOf unit op → Fits items → Fits (operation_then op items)
+  operation_fits : (op : Operation) (items : List LinearItem) → IsOperation op → IsCallOf unit op → Fits items → Fits (operation_then op items)
   operation_fits (Nop n) items o c h = h
   operation_fits (Const to word n) items o c h = ((o.0, o.1), h)
   operation_fits (Unary operator to from n) items o c h = ((o.0, o.1), h)
@@ -121,14 +121,14 @@ module _ (unit : List External) (ltl : Ltl) (end : ℕ → ℕ) (order names : L
   operation_fits (Branch from taken other) items o c h = h
   operation_fits Return items o c h = (tt, h)
 
-  either_fits : (t : Bool) (items others : List Item) → Fits items → Fits others → Fits (if t then items else others)
+  either_fits : (t : Bool) (items others : List LinearItem) → Fits items → Fits others → Fits (if t then items else others)
   either_fits true items others p q = p
   either_fits false items others p q = q
 
-  leads_fit : (e : ℕ) (ls : List ℕ) (items : List Item) → Contains order e → Fits items → Fits (leads e ls items)
+  leads_fit : (e : ℕ) (ls : List ℕ) (items : List LinearItem) → Contains order e → Fits items → Fits (leads e ls items)
   leads_fit e ls items c h = either_fits (is_next e ls) items (Jump e ∷ items) h (inside e c, h)
 
-  straight_fits : (b : Block) (ls : List ℕ) (items : List Item) → IsBlock ltl.slots b → IsCallOf unit b.operation → Contains order (end (next b.operation)) → Fits items
+  straight_fits : (b : Block) (ls : List ℕ) (items : List LinearItem) → IsBlock ltl.slots b → IsCallOf unit b.operation → Contains order (end (next b.operation)) → Fits items
       → Fits (moves_then b.before (operation_then b.operation (moves_then b.after (tail_of end b ls items))))
   straight_fits b ls items block call c h =
       let e = end (next b.operation) in
@@ -136,7 +136,7 @@ module _ (unit : List External) (ltl : Ltl) (end : ℕ → ℕ) (order names : L
       moves_fit b.before (operation_then b.operation (moves_then b.after (tail_of end b ls items))) block.before.1
       (operation_fits b.operation (moves_then b.after (tail_of end b ls items)) block.operation call (moves_fit b.after (tail_of end b ls items) block.after.1 tail))
 
-  block_fits : (b : Block) (op : Operation) (ls : List ℕ) (items : List Item) → b.operation ≡ op → IsBlock ltl.slots b → IsCallOf unit b.operation → HasSuccessors end order op → Fits items → Fits (block_then end b op ls items)
+  block_fits : (b : Block) (op : Operation) (ls : List ℕ) (items : List LinearItem) → b.operation ≡ op → IsBlock ltl.slots b → IsCallOf unit b.operation → HasSuccessors end order op → Fits items → Fits (block_then end b op ls items)
   block_fits b (Branch from taken other) ls items same block call s h =
       let o = subst IsOperation same block.operation in
       moves_fit b.before (branch_then end from taken other ls items) block.before.1

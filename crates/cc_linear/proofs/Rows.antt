@@ -4,22 +4,22 @@ use Rattle.cc_ltl.specs.declared.operation.Move.{Move}
 use Rattle.cc_ltl.specs.declared.operation.Operation.{Operation}
 use Rattle.cc_ltl.specs.declared.operation.Operation.TheVariants.{Nop, Const, Unary, Binary, Load, Store, Call, Read, Write, Branch, Return}
 use Rattle.cc_ltl.specs.declared.block.Block.{Block}
-use Rattle.cc_linear_language.specs.declared.item.Item.{Item}
-use Rattle.cc_linear_language.specs.declared.item.Item.TheVariants as item
-use Rattle.cc_linear_language.specs.declared.item.Item.TheVariants.{Label, Jump, IfNonzero, IfZero, Copy}
+use Rattle.cc_linear_language.specs.declared.item.LinearItem.{LinearItem}
+use Rattle.cc_linear_language.specs.declared.item.LinearItem.TheVariants as item
+use Rattle.cc_linear_language.specs.declared.item.LinearItem.TheVariants.{Label, Jump, IfNonzero, IfZero, Copy}
 use Rattle.cc_linear.specs.internal.Lays.{moves_then, operation_then, next}
 use Rattle.cc_ltl.specs.Ltl.{block_at, goes_on}
 use Rattle.cc_linear.specs.internal.Layout.{is_next, leads, is_empty, tail_of, branch_then, block_then, laid_at, laid}
 use Rattle.cc_linear.specs.internal.Places.{listed_first}
 
-pub moves_before : (ms : List Move) (xs rest : List Item) → moves_then ms (xs ++ rest) ≡ moves_then ms xs ++ rest
+pub moves_before : (ms : List Move) (xs rest : List LinearItem) → moves_then ms (xs ++ rest) ≡ moves_then ms xs ++ rest
 moves_before [] xs rest = refl
 moves_before (m ∷ ms) xs rest = ap (λ ys. Copy m ∷ ys) (moves_before ms xs rest)
 
-pub moves_alone : (ms : List Move) (rest : List Item) → moves_then ms rest ≡ moves_then ms [] ++ rest
+pub moves_alone : (ms : List Move) (rest : List LinearItem) → moves_then ms rest ≡ moves_then ms [] ++ rest
 moves_alone ms rest = moves_before ms [] rest
 
-pub operation_alone : (op : Operation) (rest : List Item) → operation_then op rest ≡ operation_then op [] ++ rest
+pub operation_alone : (op : Operation) (rest : List LinearItem) → operation_then op rest ≡ operation_then op [] ++ rest
 operation_alone (Nop n) rest = refl
 operation_alone (Const to word n) rest = refl
 operation_alone (Unary operator to from n) rest = refl
@@ -32,42 +32,42 @@ operation_alone (Write n) rest = refl
 operation_alone (Branch from taken other) rest = refl
 operation_alone Return rest = refl
 
-leads_by : (b : Bool) (e : ℕ) (rest : List Item) → cond b rest (Jump e ∷ rest) ≡ cond b [] (Jump e ∷ []) ++ rest
+leads_by : (b : Bool) (e : ℕ) (rest : List LinearItem) → cond b rest (Jump e ∷ rest) ≡ cond b [] (Jump e ∷ []) ++ rest
 leads_by true e rest = refl
 leads_by false e rest = refl
 
-leads_alone : (e : ℕ) (order : List ℕ) (rest : List Item) → leads e order rest ≡ leads e order [] ++ rest
+leads_alone : (e : ℕ) (order : List ℕ) (rest : List LinearItem) → leads e order rest ≡ leads e order [] ++ rest
 leads_alone e order rest = leads_by (is_next e order) e rest
 
-tail_by : (b : Bool) (e : ℕ) (order : List ℕ) (rest : List Item) → cond b (Jump e ∷ rest) (leads e order rest) ≡ cond b (Jump e ∷ []) (leads e order []) ++ rest
+tail_by : (b : Bool) (e : ℕ) (order : List ℕ) (rest : List LinearItem) → cond b (Jump e ∷ rest) (leads e order rest) ≡ cond b (Jump e ∷ []) (leads e order []) ++ rest
 tail_by true e order rest = refl
 tail_by false e order rest = leads_alone e order rest
 
-tail_alone : (end : ℕ → ℕ) (block : Block) (order : List ℕ) (rest : List Item) → tail_of end block order rest ≡ tail_of end block order [] ++ rest
+tail_alone : (end : ℕ → ℕ) (block : Block) (order : List ℕ) (rest : List LinearItem) → tail_of end block order rest ≡ tail_of end block order [] ++ rest
 tail_alone end block order rest = tail_by (is_empty block) (end (next block.operation)) order rest
 
-branch_by : (b : Bool) (from t o : ℕ) (order : List ℕ) (rest : List Item)
+branch_by : (b : Bool) (from t o : ℕ) (order : List ℕ) (rest : List LinearItem)
     → cond b (IfZero from o ∷ rest) (IfNonzero from t ∷ leads o order rest) ≡ cond b (IfZero from o ∷ []) (IfNonzero from t ∷ leads o order []) ++ rest
 branch_by true from t o order rest = refl
 branch_by false from t o order rest = ap (λ ys. IfNonzero from t ∷ ys) (leads_alone o order rest)
 
-branch_alone : (end : ℕ → ℕ) (from taken other : ℕ) (order : List ℕ) (rest : List Item) → branch_then end from taken other order rest ≡ branch_then end from taken other order [] ++ rest
+branch_alone : (end : ℕ → ℕ) (from taken other : ℕ) (order : List ℕ) (rest : List LinearItem) → branch_then end from taken other order rest ≡ branch_then end from taken other order [] ++ rest
 branch_alone end from taken other order rest = branch_by (is_next (end taken) order) from (end taken) (end other) order rest
 
 -- a block with one successor: its parts one after the other
-pub straight : (before after : List Move) (op : Operation) (xs rest : List Item)
+pub straight : (before after : List Move) (op : Operation) (xs rest : List LinearItem)
     → moves_then before (operation_then op (moves_then after (xs ++ rest))) ≡ moves_then before (operation_then op (moves_then after xs)) ++ rest
 straight before after op xs rest =
     ap (λ ys. moves_then before (operation_then op ys)) (moves_before after xs rest)
     ∙ ap (moves_then before) (operation_alone op (moves_then after xs ++ rest) ∙ sym (append_assoc (operation_then op []) (moves_then after xs) rest) ∙ ap (λ ys. ys ++ rest) (sym (operation_alone op (moves_then after xs))))
     ∙ moves_before before (operation_then op (moves_then after xs)) rest
 
-straight_then : (end : ℕ → ℕ) (block : Block) (op : Operation) (order : List ℕ) (rest : List Item)
+straight_then : (end : ℕ → ℕ) (block : Block) (op : Operation) (order : List ℕ) (rest : List LinearItem)
     → moves_then block.before (operation_then block.operation (moves_then block.after (tail_of end block order rest))) ≡ moves_then block.before (operation_then block.operation (moves_then block.after (tail_of end block order []))) ++ rest
 straight_then end block op order rest =
     ap (λ ys. moves_then block.before (operation_then block.operation (moves_then block.after ys))) (tail_alone end block order rest) ∙ straight block.before block.after block.operation (tail_of end block order []) rest
 
-pub block_alone : (end : ℕ → ℕ) (block : Block) (op : Operation) (order : List ℕ) (rest : List Item) → block_then end block op order rest ≡ block_then end block op order [] ++ rest
+pub block_alone : (end : ℕ → ℕ) (block : Block) (op : Operation) (order : List ℕ) (rest : List LinearItem) → block_then end block op order rest ≡ block_then end block op order [] ++ rest
 block_alone end block (Nop n) order rest = straight_then end block (Nop n) order rest
 block_alone end block (Const to word n) order rest = straight_then end block (Const to word n) order rest
 block_alone end block (Unary operator to from n) order rest = straight_then end block (Unary operator to from n) order rest
@@ -83,7 +83,7 @@ block_alone end block Return order rest = moves_before block.before (item.Return
 -- ---- what is put
 
 -- only what comes next counts of the order
-first_alone : (end : ℕ → ℕ) (block : Block) (op : Operation) (order : List ℕ) (rest : List Item) → block_then end block op (listed_first order) rest ≡ block_then end block op order rest
+first_alone : (end : ℕ → ℕ) (block : Block) (op : Operation) (order : List ℕ) (rest : List LinearItem) → block_then end block op (listed_first order) rest ≡ block_then end block op order rest
 first_alone end block op [] rest = refl
 first_alone end block (Nop n) (l ∷ ls) rest = refl
 first_alone end block (Const to word n) (l ∷ ls) rest = refl
@@ -97,11 +97,11 @@ first_alone end block (Write n) (l ∷ ls) rest = refl
 first_alone end block (Branch from taken other) (l ∷ ls) rest = refl
 first_alone end block Return (l ∷ ls) rest = refl
 
-first_leads : (e : ℕ) (order : List ℕ) (rest : List Item) → leads e (listed_first order) rest ≡ leads e order rest
+first_leads : (e : ℕ) (order : List ℕ) (rest : List LinearItem) → leads e (listed_first order) rest ≡ leads e order rest
 first_leads e [] rest = refl
 first_leads e (l ∷ ls) rest = refl
 
-pub branch_put : (end : ℕ → ℕ) (block : Block) (order : List ℕ) (old once twice second : List Item) (before : List Move) (first : Item) (from taken other nonzero zero_ : ℕ)
+pub branch_put : (end : ℕ → ℕ) (block : Block) (order : List ℕ) (old once twice second : List LinearItem) (before : List Move) (first : LinearItem) (from taken other nonzero zero_ : ℕ)
     → before ≡ block.before → block.operation ≡ Branch from taken other → nonzero ≡ end taken → zero_ ≡ end other → first ∷ second ≡ branch_then (λ l. l) from nonzero zero_ order []
     → once ≡ old ++ (moves_then before [] ++ (first ∷ [])) → twice ≡ once ++ second → twice ≡ old ++ block_then end block block.operation order []
 branch_put end block order old once twice second before first from taken other nonzero zero_ b is n z both o t =
@@ -111,13 +111,13 @@ branch_put end block order old once twice second before first from taken other n
     ∙ ap (λ e. moves_then block.before (branch_then (λ l. l) from (end taken) e order [])) z ∙ sym (ap (λ op. block_then end block op order []) is)
     )
 
-pub return_put : (end : ℕ → ℕ) (block : Block) (order : List ℕ) (old once : List Item) (before : List Move) → before ≡ block.before → block.operation ≡ Return
+pub return_put : (end : ℕ → ℕ) (block : Block) (order : List ℕ) (old once : List LinearItem) (before : List Move) → before ≡ block.before → block.operation ≡ Return
     → once ≡ old ++ (moves_then before [] ++ (item.Return ∷ [])) → once ≡ old ++ block_then end block block.operation order []
 return_put end block order old once before b is o =
     o ∙ ap (λ xs. old ++ xs) (sym (moves_alone before (item.Return ∷ [])) ∙ ap (λ ms. moves_then ms (item.Return ∷ [])) b ∙ sym (ap (λ op. block_then end block op order []) is))
 
 -- a block with one way, as its row
-straight_is : (end : ℕ → ℕ) (block : Block) (op : Operation) (order : List ℕ) (rest : List Item) → goes_on op ≡ true
+straight_is : (end : ℕ → ℕ) (block : Block) (op : Operation) (order : List ℕ) (rest : List LinearItem) → goes_on op ≡ true
     → block_then end block op order rest ≡ moves_then block.before (operation_then block.operation (moves_then block.after (tail_of end block order rest)))
 straight_is end block (Nop n) order rest g = refl
 straight_is end block (Const to word n) order rest g = refl
@@ -131,7 +131,7 @@ straight_is end block (Write n) order rest g = refl
 straight_is end block (Branch from taken other) order rest g = absurd (let z : false ≡ true = g in cc)
 straight_is end block Return order rest g = absurd (let z : false ≡ true = g in cc)
 
-pub straight_put : (end : ℕ → ℕ) (block : Block) (order : List ℕ) (old once twice middle last : List Item) (before after : List Move) (to : ℕ)
+pub straight_put : (end : ℕ → ℕ) (block : Block) (order : List ℕ) (old once twice middle last : List LinearItem) (before after : List Move) (to : ℕ)
     → before ≡ block.before → after ≡ block.after → goes_on block.operation ≡ true → to ≡ end (next block.operation)
     → operation_then block.operation [] ≡ middle → last ≡ cond (is_empty block) (Jump to ∷ []) (leads to order [])
     → once ≡ old ++ (moves_then before [] ++ middle) → twice ≡ once ++ (moves_then after [] ++ last) → twice ≡ old ++ block_then end block block.operation order []
@@ -150,11 +150,11 @@ straight_put end block order old once twice middle last before after to b a g le
 
 -- ---- one block after the other
 
-pub laid_first : (e : ℕ) (first : List ℕ) (order : List ℕ) (rest way : List Item) → first ≡ listed_first order → way ≡ leads e first [] → way ++ rest ≡ leads e order rest
+pub laid_first : (e : ℕ) (first : List ℕ) (order : List ℕ) (rest way : List LinearItem) → first ≡ listed_first order → way ≡ leads e first [] → way ++ rest ≡ leads e order rest
 laid_first e first order rest way f w =
     ap (λ xs. xs ++ rest) (w ∙ ap (λ ls. leads e ls []) f ∙ first_leads e order []) ∙ sym (leads_alone e order rest)
 
-pub laid_more : (blocks : List Block) (end : ℕ → ℕ) (l : ℕ) (ls following : List ℕ) (block : Block) (items once twice : List Item) → block_at blocks l ≡ Some block → following ≡ listed_first ls
+pub laid_more : (blocks : List Block) (end : ℕ → ℕ) (l : ℕ) (ls following : List ℕ) (block : Block) (items once twice : List LinearItem) → block_at blocks l ≡ Some block → following ≡ listed_first ls
     → once ≡ items ++ (Label l ∷ []) → twice ≡ once ++ block_then end block block.operation following [] → twice ++ laid blocks end ls ≡ items ++ laid blocks end (l ∷ ls)
 laid_more blocks end l ls following block items once twice at f o t =
     let rest = laid blocks end ls in

@@ -9,7 +9,7 @@ use Rattle.cc_ltl.specs.declared.block.Block.{Block}
 use Rattle.cc_ltl.specs.Ltl.{Ltl, Ascend, block_at}
 use Rattle.cc_validate.specs.Pair as above
 use Rattle.cc_validate.specs.Pair.{Leads, next_labels}
-use Rattle.cc_linear_language.specs.declared.item.Item.{Item}
+use Rattle.cc_linear_language.specs.declared.item.LinearItem.{LinearItem}
 use Rattle.cc_linear.specs.Targets.{targets, NoneIdle}
 use Rattle.cc_linear_language.specs.Pair.{IsPair}
 use Rattle.cc_linear.specs.internal.Lays.{next}
@@ -174,7 +174,7 @@ entry_here ltl labels blocks entry begins b l e = subst (Contains labels) (sym e
 
 -- ---- the whole
 
-pub made_of : (ltl : Ltl) (labels nexts ends : List ℕ) (graph : List Ways) (order : List ℕ) (code items : List Item)
+pub made_of : (ltl : Ltl) (labels nexts ends : List ℕ) (graph : List Ways) (order : List ℕ) (code items : List LinearItem)
     → Ascend ltl.blocks → labels ≡ labels_of ltl.blocks → nexts ≡ next_places labels 0 ltl.blocks → HasEnds nexts ends → graph ≡ graph_of labels ends ltl.blocks
     → AllPairs (λ (a b : ℕ). a ≡ b → ⊥) order → All (λ l. l < length graph) order → Contains order (end_place labels ends ltl.entry) → IsClosed graph order
     → code ≡ leads (end_in labels ends ltl.entry) (labels_at labels order) (laid ltl.blocks (end_in labels ends) (labels_at labels order)) → items ≡ kept (targets code) code → IsMadeOf ltl items
@@ -198,10 +198,10 @@ made_of ltl labels nexts ends graph order code items up same nexts_are (far, mos
     }
 
 -- what is made of the function of a pair is the code of a pair
-pub pair_made : (p : above.Pair) (items : List Item) → above.IsPair p → IsMadeOf p.ltl items → IsPair (record { unit = p.unit; function = p.function; ltl = p.ltl; code = items })
+pub pair_made : (p : above.Pair) (items : List LinearItem) → above.IsPair p → IsMadeOf p.ltl items → IsPair (record { unit = p.unit; function = p.function; ltl = p.ltl; code = items })
 pair_made p items is m =
     let first = pair_of p m.end m.far m.most m.order is m.ends m.ordered in
     subst (λ xs. IsPair (record { unit = p.unit; function = p.function; ltl = p.ltl; code = xs })) (sym m.made) (kept_pair (record { unit = p.unit; function = p.function; ltl = p.ltl; code = linear_code p.ltl m.end m.order }) first)
 
-pub made_without : (ltl : Ltl) (items : List Item) → IsMadeOf ltl items → NoneIdle items
+pub made_without : (ltl : Ltl) (items : List LinearItem) → IsMadeOf ltl items → NoneIdle items
 made_without ltl items m = subst NoneIdle (sym m.made) (none_idle (linear_code ltl m.end m.order))

@@ -19,8 +19,8 @@ use Rattle.cc_simulation.specs.internal.Simulation.{Alike, Advances, Asks, Endin
 use Rattle.cc_simulation.proofs.Simulating.{coarser, tracks_on_for_all}
 use Rattle.cc_ltl.specs.declared.location.Location.TheVariants.{Register}
 use Rattle.cc_ltl.specs.Ltl.{Locations}
-use Rattle.cc_linear_language.specs.declared.item.Item.{Item}
-use Rattle.cc_linear_language.specs.declared.item.Item.TheVariants.{Label, Jump, IfNonzero, IfZero, Copy, Const, Unary, Binary, Load, Store, Call, Read, Write, Return}
+use Rattle.cc_linear_language.specs.declared.item.LinearItem.{LinearItem}
+use Rattle.cc_linear_language.specs.declared.item.LinearItem.TheVariants.{Label, Jump, IfNonzero, IfZero, Copy, Const, Unary, Binary, Load, Store, Call, Read, Write, Return}
 use Rattle.cc_linear_language.specs.Linear.{labels, place, IsItem, Configuration, at_items, does, linear_move, linear_output, linear_start}
 use Rattle.cc_linear.specs.Targets.{targets, NoneIdle}
 use Rattle.cc_linear.specs.internal.Idle.{IsRising, has, stays, kept}
@@ -56,7 +56,7 @@ same_had xs ys l same false e = has_none xs l (λ c. absurd (let z : true ≡ fa
 pub same_has : (xs ys : List ℕ) → ((l : ℕ) → Contains xs l ↔ Contains ys l) → (l : ℕ) → has xs l ≡ has ys l
 same_has xs ys same l = same_had xs ys l (same l) (has ys l) refl
 
-pub same_stays : (xs ys : List ℕ) → ((l : ℕ) → Contains xs l ↔ Contains ys l) → (item : Item) → stays xs item ≡ stays ys item
+pub same_stays : (xs ys : List ℕ) → ((l : ℕ) → Contains xs l ↔ Contains ys l) → (item : LinearItem) → stays xs item ≡ stays ys item
 same_stays xs ys same (Label l) = same_has xs ys same l
 same_stays xs ys same (Jump to) = refl
 same_stays xs ys same (IfNonzero from to) = refl
@@ -85,21 +85,21 @@ found_has xs l (Err i) found up = let h = searched xs l (Err i) found up in sym 
 -- ---- labels and targets of what is kept
 
 -- all targets are among these
-abbrev Below : List ℕ → List Item → Type 0
+abbrev Below : List ℕ → List LinearItem → Type 0
 Below led items = AllByRecursion (λ l. has led l ≡ true) (targets items)
 
 all_had : (led xs : List ℕ) → ((l : ℕ) → Contains xs l → has led l ≡ true) → AllByRecursion (λ l. has led l ≡ true) xs
 all_had led [] f = tt
 all_had led (x ∷ xs) f = (f x (0, (let z : 0 < suc (length xs) = omega arith in z), refl), all_had led xs (λ l c. f l (contains_more x l xs c)))
 
-pub below_itself : (items : List Item) → Below (targets items) items
+pub below_itself : (items : List LinearItem) → Below (targets items) items
 below_itself items = all_had (targets items) (targets items) (λ l c. has_one (targets items) l c)
 
-targets_by : (t : Bool) (l : ℕ) (items more : List Item) → targets items ≡ targets more → targets (cond t (Label l ∷ items) items) ≡ targets more
+targets_by : (t : Bool) (l : ℕ) (items more : List LinearItem) → targets items ≡ targets more → targets (cond t (Label l ∷ items) items) ≡ targets more
 targets_by true l items more e = e
 targets_by false l items more e = e
 
-targets_kept : (led : List ℕ) (items : List Item) → targets (kept led items) ≡ targets items
+targets_kept : (led : List ℕ) (items : List LinearItem) → targets (kept led items) ≡ targets items
 targets_kept led [] = refl
 targets_kept led (Label l ∷ items) = targets_by (has led l) l (kept led items) items (targets_kept led items)
 targets_kept led (Jump to ∷ items) = ap (λ xs. to ∷ xs) (targets_kept led items)
@@ -121,11 +121,11 @@ abbrev only : (led : List ℕ) → List ℕ → List ℕ
 only led [] = []
 only led (l ∷ ls) = cond (has led l) (l ∷ only led ls) (only led ls)
 
-labels_by : (t : Bool) (l : ℕ) (items : List Item) (ls : List ℕ) → labels items ≡ ls → labels (cond t (Label l ∷ items) items) ≡ cond t (l ∷ ls) ls
+labels_by : (t : Bool) (l : ℕ) (items : List LinearItem) (ls : List ℕ) → labels items ≡ ls → labels (cond t (Label l ∷ items) items) ≡ cond t (l ∷ ls) ls
 labels_by true l items ls e = ap (λ xs. l ∷ xs) e
 labels_by false l items ls e = e
 
-pub labels_kept : (led : List ℕ) (items : List Item) → labels (kept led items) ≡ only led (labels items)
+pub labels_kept : (led : List ℕ) (items : List LinearItem) → labels (kept led items) ≡ only led (labels items)
 labels_kept led [] = refl
 labels_kept led (Label l ∷ items) = labels_by (has led l) l (kept led items) (only led (labels items)) (labels_kept led items)
 labels_kept led (Jump to ∷ items) = labels_kept led items
@@ -198,17 +198,17 @@ distinct_only led (x ∷ xs) h = by (has led x) (λ l c. distinct_head x xs h l 
 -- ---- the items are those of a function
 
 module _ (slots functions : ℕ) (led names others : List ℕ) (more : (l : ℕ) → has led l ≡ true → Contains names l → Contains others l) where
-  abbrev Fit : List Item → Type 0
+  abbrev Fit : List LinearItem → Type 0
   Fit items = AllByRecursion (IsItem slots functions names) items
 
-  abbrev StillFit : List Item → Type 0
+  abbrev StillFit : List LinearItem → Type 0
   StillFit items = AllByRecursion (IsItem slots functions others) items
 
-  fit_by : (t : Bool) (l : ℕ) (items : List Item) → StillFit items → StillFit (cond t (Label l ∷ items) items)
+  fit_by : (t : Bool) (l : ℕ) (items : List LinearItem) → StillFit items → StillFit (cond t (Label l ∷ items) items)
   fit_by true l items h = (tt, h)
   fit_by false l items h = h
 
-  pub still_fit : (items : List Item) → Below led items → Fit items → StillFit (kept led items)
+  pub still_fit : (items : List LinearItem) → Below led items → Fit items → StillFit (kept led items)
   still_fit [] b h = tt
   still_fit (Label l ∷ items) b h = fit_by (has led l) l (kept led items) (still_fit items b h.1)
   still_fit (Jump to ∷ items) b h = (more to b.0 h.0, still_fit items b.1 h.1)
@@ -228,7 +228,7 @@ module _ (slots functions : ℕ) (led names others : List ℕ) (more : (l : ℕ)
 -- ---- places
 
 module _ (led : List ℕ) (l : ℕ) (is : has led l ≡ true) where
-  place_by : (t s : Bool) (m : ℕ) (items : List Item) → (m == l) ≡ t → has led m ≡ s → (t ≡ true → s ≡ true) → place (kept led items) l ≡ kept led (place items l)
+  place_by : (t s : Bool) (m : ℕ) (items : List LinearItem) → (m == l) ≡ t → has led m ≡ s → (t ≡ true → s ≡ true) → place (kept led items) l ≡ kept led (place items l)
       → place (cond (has led m) (Label m ∷ kept led items) (kept led items)) l ≡ kept led (cond (m == l) (Label m ∷ items) (place items l))
   place_by true true m items p q f ih =
       ap (λ b. place (cond b (Label m ∷ kept led items) (kept led items)) l) q ∙ ap (λ b. cond b (Label m ∷ kept led items) (place (kept led items) l)) p
@@ -240,7 +240,7 @@ module _ (led : List ℕ) (l : ℕ) (is : has led l ≡ true) where
   place_by false false m items p q f ih =
       ap (λ b. place (cond b (Label m ∷ kept led items) (kept led items)) l) q ∙ ih ∙ sym (ap (λ b. kept led (cond b (Label m ∷ items) (place items l))) p)
 
-  place_kept : (items : List Item) → place (kept led items) l ≡ kept led (place items l)
+  place_kept : (items : List LinearItem) → place (kept led items) l ≡ kept led (place items l)
   place_kept [] = refl
   place_kept (Label m ∷ items) = elim (eqb_tells m l) [
     | inl h ↦ place_by true true m items h.0 (ap (has led) h.1 ∙ is) (λ e. refl) (place_kept items)
@@ -260,11 +260,11 @@ module _ (led : List ℕ) (l : ℕ) (is : has led l ≡ true) where
   place_kept (Write ∷ items) = place_kept items
   place_kept (Return ∷ items) = place_kept items
 
-below_by : (led : List ℕ) (t : Bool) (items others : List Item) → Below led items → Below led others → Below led (cond t items others)
+below_by : (led : List ℕ) (t : Bool) (items others : List LinearItem) → Below led items → Below led others → Below led (cond t items others)
 below_by led true items others p q = p
 below_by led false items others p q = q
 
-place_below : (led : List ℕ) (l : ℕ) (items : List Item) → Below led items → Below led (place items l)
+place_below : (led : List ℕ) (l : ℕ) (items : List LinearItem) → Below led items → Below led (place items l)
 place_below led l [] b = tt
 place_below led l (Label m ∷ items) b = below_by led (m == l) (Label m ∷ items) (place items l) b (place_below led l items b)
 place_below led l (Jump to ∷ items) b = place_below led l items b.1
@@ -283,7 +283,7 @@ place_below led l (Return ∷ items) b = place_below led l items b
 
 -- ---- hand in hand
 
-module _ (arity : ℕ → ℕ) (code : List Item) (led : List ℕ) (below : Below led code) where
+module _ (arity : ℕ → ℕ) (code : List LinearItem) (led : List ℕ) (below : Below led code) where
   abbrev old : Configuration → Moving Configuration
   old c = linear_move arity code c
 
@@ -304,13 +304,13 @@ module _ (arity : ℕ → ℕ) (code : List Item) (led : List ℕ) (below : Belo
   tried_alike {X} None f g h = tt
   tried_alike {X} (Some x) f g h = h x
 
-  branch_alike : (t : Bool) (items others items' others' : List Item) (at : Locations) (world : World) (words : List ℕ)
+  branch_alike : (t : Bool) (items others items' others' : List LinearItem) (at : Locations) (world : World) (words : List ℕ)
       → Same (at_items items at world words) (at_items items' at world words) → Same (at_items others at world words) (at_items others' at world words)
       → Same (at_items (cond t items others) at world words) (at_items (cond t items' others') at world words)
   branch_alike true items others items' others' at world words p q = p
   branch_alike false items others items' others' at world words p q = q
 
-  alike : (items : List Item) (at : Locations) (world : World) (words : List ℕ) → Below led items → Alike Same (does arity code items at world words) (does arity (kept led code) (kept led items) at world words)
+  alike : (items : List LinearItem) (at : Locations) (world : World) (words : List ℕ) → Below led items → Alike Same (does arity code items at world words) (does arity (kept led code) (kept led items) at world words)
   alike [] at world words b = tt
   alike (Label l ∷ items) at world words b = by (has led l) (alike items at world words b)
     where
@@ -366,7 +366,7 @@ module _ (arity : ℕ → ℕ) (code : List Item) (led : List ℕ) (below : Belo
 
 -- ---- the whole
 
-pub kept_tracks : (meaning : Meaning) (f rate slots : ℕ) (code : List Item) (led : List ℕ) → Below led code
+pub kept_tracks : (meaning : Meaning) (f rate slots : ℕ) (code : List LinearItem) (led : List ℕ) → Below led code
     → TracksForAll meaning f rate (linear_move meaning.arity code) linear_output (linear_start slots code)
     → TracksForAll meaning f (coarser rate 0) (linear_move meaning.arity (kept led code)) linear_output (linear_start slots (kept led code))
 kept_tracks meaning f rate slots code led below tracks =
@@ -374,7 +374,7 @@ kept_tracks meaning f rate slots code led below tracks =
     (kept_alike meaning.arity code led below) (linear_start slots code) (linear_start slots (kept led code)) (λ words are ws h call. (below, refl)) tracks
 
 -- something leads to each label that stands
-pub none_idle : (code : List Item) → NoneIdle (kept (targets code) code)
+pub none_idle : (code : List LinearItem) → NoneIdle (kept (targets code) code)
 none_idle code l c =
     let led = targets code in
     let o = has_only led (labels code) l (subst (λ ls. Contains ls l) (labels_kept led code) c) in
@@ -382,10 +382,10 @@ none_idle code l c =
 
 -- ---- one item more
 
-pub all_put : (led : List ℕ) (items : List Item) (i : ℕ) → length items ≤ i → led ++ targets (drop i items) ≡ targets items → led ≡ targets items
+pub all_put : (led : List ℕ) (items : List LinearItem) (i : ℕ) → length items ≤ i → led ++ targets (drop i items) ≡ targets items → led ≡ targets items
 all_put led items i le e = sym (append-nil led) ∙ ap (λ xs. led ++ targets xs) (sym (drop_all i items le)) ∙ e
 
-pub kept_more : (led others : List ℕ) (items : List Item) (i : ℕ) (item : Item) (old new all : List Item) (s : Bool) → ((l : ℕ) → Contains others l ↔ Contains led l) → i < length items → item ≡ get_or items i item
+pub kept_more : (led others : List ℕ) (items : List LinearItem) (i : ℕ) (item : LinearItem) (old new all : List LinearItem) (s : Bool) → ((l : ℕ) → Contains others l ↔ Contains led l) → i < length items → item ≡ get_or items i item
     → stays others item ≡ s → new ≡ cond s (old ++ item ∷ []) old → old ++ kept led (drop i items) ≡ all → new ++ kept led (drop (i + 1) items) ≡ all
 kept_more led others items i item old new all s same lt is stay n e =
     ap (λ xs. xs ++ kept led (drop (i + 1) items)) n ∙ by s ∙ ap (λ t. old ++ cond t (item ∷ kept led (drop (i + 1) items)) (kept led (drop (i + 1) items))) (sym stay ∙ same_stays others led same item)

@@ -5,11 +5,11 @@ ghost use Rattle.std.specs.List.{Contains};
 ghost use Rattle.cc_linear.specs.Targets.{targets};
 ghost use Rattle.cc_linear.specs.internal.Idle.{IsRising, stays as has_its_place, kept as without};
 
-use cc_linear_language::Item;
+use cc_linear_language::LinearItem;
 use std::alloc::{AllocError, Global};
 
 /// The items without the labels to which no jump and no branch leads.
-pub fn without_idle(alloc: Global, items: &[Item]) -> Result<Vec<Item>, AllocError>
+pub fn without_idle(alloc: Global, items: &[LinearItem]) -> Result<Vec<LinearItem>, AllocError>
     ensures { IfOk result (λ kept. kept.items ≡ without (targets items.now) items.now) }
 {
     let led = sorted_targets(alloc, items)?;
@@ -23,14 +23,14 @@ pub fn without_idle(alloc: Global, items: &[Item]) -> Result<Vec<Item>, AllocErr
 }
 
 // The labels of jumps and branches; they rise.
-fn sorted_targets(alloc: Global, items: &[Item]) -> Result<Vec<u32>, AllocError>
+fn sorted_targets(alloc: Global, items: &[LinearItem]) -> Result<Vec<u32>, AllocError>
     ensures same { IfOk result (λ led. (l : ℕ) → Contains led.items l ↔ Contains (targets items.now) l) }
     ensures rising { IfOk result (λ led. IsRising led.items) }
 {
     let mut led = Vec::new(alloc);
     for item in items {
         match *item {
-            Item::Jump { to } | Item::IfNonzero { to, .. } | Item::IfZero { to, .. } => {
+            LinearItem::Jump { to } | LinearItem::IfNonzero { to, .. } | LinearItem::IfZero { to, .. } => {
                 led.push(to)?;
             }
             _ => {}
@@ -41,12 +41,12 @@ fn sorted_targets(alloc: Global, items: &[Item]) -> Result<Vec<u32>, AllocError>
 }
 
 // Whether an item has its place, where jumps and branches lead to these labels.
-fn stays(led: &[u32], item: &Item) -> bool
+fn stays(led: &[u32], item: &LinearItem) -> bool
     requires { IsRising led.now }
     ensures { result ≡ has_its_place led.now item.now }
 {
     match *item {
-        Item::Label { label } => led.binary_search(&label).is_ok(),
+        LinearItem::Label { label } => led.binary_search(&label).is_ok(),
         _ => true,
     }
 }

@@ -6,7 +6,7 @@ ghost use Rattle.cc_linear.specs.internal.Places.{AreLabels, LeadsIn, AllLeadIn,
 
 use crate::tables::end_of;
 use crate::writing::{branch, end_item, item_of, put, way};
-use cc_linear_language::Item;
+use cc_linear_language::LinearItem;
 use cc_ltl::{Block, Operation};
 use std::alloc::{AllocError, Global};
 
@@ -23,7 +23,7 @@ fn end_label(labels: &[u32], ends: &[usize], label: u32) -> u32
 
 /// Puts a block behind the items, of which this label comes next.
 fn put_block(
-    items: &mut Vec<Item>,
+    items: &mut Vec<LinearItem>,
     labels: &[u32],
     ends: &[usize],
     block: &Block,
@@ -49,7 +49,7 @@ fn put_block(
             put(items, before, Some(first))?;
             put(items, &[], second)
         }
-        Operation::Return => put(items, before, Some(Item::Return)),
+        Operation::Return => put(items, before, Some(LinearItem::Return)),
         Operation::Nop { next }
         | Operation::Const { next, .. }
         | Operation::Unary { next, .. }
@@ -74,7 +74,7 @@ pub fn lay_out(
     blocks: &[Block],
     entry: u32,
     order: &[usize],
-) -> Result<Vec<Item>, AllocError>
+) -> Result<Vec<LinearItem>, AllocError>
     requires labels { AreLabels labels.now }
     requires blocks { labels.now ≡ labels_of blocks.now }
     requires leads { AllLeadIn labels.now blocks.now }
@@ -93,7 +93,7 @@ pub fn lay_out(
         put(
             &mut items,
             &[],
-            Some(Item::Label {
+            Some(LinearItem::Label {
                 label: labels[place],
             }),
         )?;

@@ -12,13 +12,13 @@ use crate::places::labels;
 use crate::tables::{end_of, graph, next_places};
 use crate::tracing::ends::chain_ends;
 use crate::tracing::order::order;
-use cc_linear_language::{Item, LinearPair};
+use cc_linear_language::{LinearItem, LinearPair};
 use cc_ltl::Ltl;
 use cc_validate::LtlPair;
 use std::alloc::{AllocError, Global};
 
 // The items of a function's blocks.
-fn items_of(alloc: Global, ltl: &Ltl) -> Result<Vec<Item>, AllocError>
+fn items_of(alloc: Global, ltl: &Ltl) -> Result<Vec<LinearItem>, AllocError>
     requires { IsGraph ltl.now }
     ensures { IfOk result (λ items. IsMadeOf ltl.now items.items) }
 {

@@ -12,8 +12,8 @@ use Rattle.cc_simulation.proofs.Following.{all_follow}
 use Rattle.cc_words.specs.Operators.{apply_binary}
 use Rattle.cc_ltl.specs.declared.location.Location.TheVariants.{Register}
 use Rattle.cc_ltl.specs.Ltl.{Locations}
-use Rattle.cc_linear_language.specs.declared.item.Item.{Item}
-use Rattle.cc_linear_language.specs.declared.item.Item.TheVariants.{Label, Jump, IfNonzero, IfZero, Copy, Const, Unary, Binary, Load, Store, Call, Read, Write, Return}
+use Rattle.cc_linear_language.specs.declared.item.LinearItem.{LinearItem}
+use Rattle.cc_linear_language.specs.declared.item.LinearItem.TheVariants.{Label, Jump, IfNonzero, IfZero, Copy, Const, Unary, Binary, Load, Store, Call, Read, Write, Return}
 use Rattle.cc_linear_language.specs.Linear.{Configuration, does, linear_move, linear_output, linear_start}
 use Rattle.cc_linear_language.specs.Pair.{KeepsUp, FollowsFunction}
 
@@ -40,7 +40,7 @@ stored_output : (h : World) (object index word : ℕ) (x : Option ℕ) (make : �
 stored_output h object index word (Some old) make changed same e = subst (λ (w : World). w.output ≡ h.output) (same_Some (make old) changed e) (same old)
 stored_output h object index word None make changed same e = absurd (none-some changed e)
 
-does_grows : (arity : ℕ → ℕ) (code items : List Item) (at : Locations) (world : World) (words : List ℕ) (d : Configuration) → does arity code items at world words ≡ Goes d → GrowsTo world d
+does_grows : (arity : ℕ → ℕ) (code items : List LinearItem) (at : Locations) (world : World) (words : List ℕ) (d : Configuration) → does arity code items at world words ≡ Goes d → GrowsTo world d
 does_grows arity code [] at world words d e = absurd cc
 does_grows arity code (Label l ∷ items) at world words d e = does_grows arity code items at world words d e
 does_grows arity code (Jump l ∷ items) at world words d e = keeps world _ d refl e
@@ -70,7 +70,7 @@ CallsWith world q resume = (q.world.output ≡ world.output) × ((a : Answer) �
 same_calls : (p q : Question) (f g : Answer → Configuration) → Calls p f ≡ Calls q g → (p ≡ q) × (f ≡ g)
 same_calls p q f g e = (cc, cc)
 
-does_calls : (arity : ℕ → ℕ) (code items : List Item) (at : Locations) (world : World) (words : List ℕ) (q : Question) (resume : Answer → Configuration) → does arity code items at world words ≡ Calls q resume → CallsWith world q resume
+does_calls : (arity : ℕ → ℕ) (code items : List LinearItem) (at : Locations) (world : World) (words : List ℕ) (q : Question) (resume : Answer → Configuration) → does arity code items at world words ≡ Calls q resume → CallsWith world q resume
 does_calls arity code [] at world words q resume e = absurd cc
 does_calls arity code (Label l ∷ items) at world words q resume e = does_calls arity code items at world words q resume e
 does_calls arity code (Jump l ∷ items) at world words q resume e = absurd cc
@@ -95,7 +95,7 @@ does_calls arity code (Read ∷ items) at world words q resume e = absurd cc
 does_calls arity code (Write ∷ items) at world words q resume e = absurd cc
 does_calls arity code (Return ∷ items) at world words q resume e = absurd cc
 
-pub is_layer : (arity : ℕ → ℕ) (code : List Item) → IsLayer (linear_move arity code) linear_output
+pub is_layer : (arity : ℕ → ℕ) (code : List LinearItem) → IsLayer (linear_move arity code) linear_output
 is_layer arity code = record {
   grows = λ c d e. does_grows arity code c.items c.locations c.world c.words d e;
   hands_over = λ c q resume e. (does_calls arity code c.items c.locations c.world c.words q resume e).0;
@@ -103,6 +103,6 @@ is_layer arity code = record {
 }
 
 -- what keeps up follows, at whatever rate
-pub follows_of : (unit : List External) (f slots : ℕ) (code : List Item) → KeepsUp unit f slots code → FollowsFunction unit f slots code
+pub follows_of : (unit : List External) (f slots : ℕ) (code : List LinearItem) → KeepsUp unit f slots code → FollowsFunction unit f slots code
 follows_of unit f slots code (rate, keeps_up) meaning is opened below ws h call =
     all_follow meaning (linear_move meaning.arity code) linear_output (is_layer meaning.arity code) f rate (linear_start slots code) (keeps_up meaning is) opened below ws h call

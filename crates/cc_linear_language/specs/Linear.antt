@@ -9,19 +9,19 @@ use Rattle.cc_simulation.specs.Run.{Move as Moving, Goes, Calls, Returns, Fails,
 use Rattle.cc_ltl.specs.declared.location.Location.TheVariants.{Register}
 use Rattle.cc_ltl.specs.Registers.{IsAllocatable, most_slots}
 use Rattle.cc_ltl.specs.Ltl.{IsWord, IsMove, Locations, put, target, source, first_argument, result_location, destroyed_location, words_from, after_call, at_entry}
-use Rattle.cc_linear_language.specs.declared.item.Item.{Item}
-use Rattle.cc_linear_language.specs.declared.item.Item.TheVariants.{Label, Jump, IfNonzero, IfZero, Copy, Const, Unary, Binary, Load, Store, Call, Read, Write, Return}
+use Rattle.cc_linear_language.specs.declared.item.LinearItem.{LinearItem}
+use Rattle.cc_linear_language.specs.declared.item.LinearItem.TheVariants.{Label, Jump, IfNonzero, IfZero, Copy, Const, Unary, Binary, Load, Store, Call, Read, Write, Return}
 
 -- ---- which functions there are
 
 -- the labels that stand in a list
-abbrev pub labels : List Item → List ℕ
+abbrev pub labels : List LinearItem → List ℕ
 labels [] = []
 labels (Label label ∷ items) = label ∷ labels items
 labels (item ∷ items) = labels items
 
 -- an item of a function with this many slots, in a unit with this many functions: jumps and branches lead to labels of the list
-abbrev pub IsItem : (slots functions : ℕ) → (labels : List ℕ) → Item → Type 0
+abbrev pub IsItem : (slots functions : ℕ) → (labels : List ℕ) → LinearItem → Type 0
 IsItem slots functions labels (Label label) = Unit {0}
 IsItem slots functions labels (Jump to) = Contains labels to
 IsItem slots functions labels (IfNonzero from to) = IsAllocatable from × Contains labels to
@@ -38,7 +38,7 @@ IsItem slots functions labels Write = Unit {0}
 IsItem slots functions labels Return = Unit {0}
 
 -- no label stands twice
-pub record IsLinear (slots functions : ℕ) (items : List Item) : Type 0 where
+pub record IsLinear (slots functions : ℕ) (items : List LinearItem) : Type 0 where
   pub few : slots ≤ most_slots
   pub distinct : AllPairs (λ (a b : ℕ). a ≢ b) (labels items)
   pub fit : AllByRecursion (IsItem slots functions (labels items)) items
@@ -48,27 +48,27 @@ pub record IsLinear (slots functions : ℕ) (items : List Item) : Type 0 where
 -- where a run is: the items from the next one on, the words of the locations, what is shared, and the words that unknown locations
 -- will hold
 pub record Configuration : Type 0 where
-  pub items : List Item
+  pub items : List LinearItem
   pub locations : Locations
   pub world : World
   pub words : List ℕ
 
-abbrev pub at_items : List Item → Locations → World → (words : List ℕ) → Configuration
+abbrev pub at_items : List LinearItem → Locations → World → (words : List ℕ) → Configuration
 at_items items at world words = record { items = items; locations = at; world = world; words = words }
 
 -- the place of a label: the items from its first one on, and none where it does not stand
-abbrev pub place : List Item → (label : ℕ) → List Item
+abbrev pub place : List LinearItem → (label : ℕ) → List LinearItem
 place [] label = []
 place (Label other ∷ items) label = if other == label then Label other ∷ items else place items label
 place (item ∷ items) label = place items label
 
 -- after a call's answer: what the call destroys is unknown, and its value is the result
-abbrev pub items_after_answer : List Item → Locations → (words : List ℕ) → Answer → Configuration
+abbrev pub items_after_answer : List LinearItem → Locations → (words : List ℕ) → Answer → Configuration
 items_after_answer items at words a = at_items items (put result_location a.value (after_call words at)) a.world (left_after_call words)
 
 -- The next item, in the whole code; `arity` says how many parameters each function has. A label is no move: what is done there is what
 -- the item after it does. Behind the last item a run goes wrong, as where a jump leads to no place.
-abbrev pub does : (arity : ℕ → ℕ) → (code : List Item) → List Item → Locations → World → (words : List ℕ) → Moving Configuration
+abbrev pub does : (arity : ℕ → ℕ) → (code : List LinearItem) → List LinearItem → Locations → World → (words : List ℕ) → Moving Configuration
 does arity code [] at world words = Fails
 does arity code (Label label ∷ items) at world words = does arity code items at world words
 does arity code (Jump to ∷ items) at world words = Goes (at_items (place code to) at world words)
@@ -91,7 +91,7 @@ does arity code (Write ∷ items) at world words =
     Goes (at_items items (put destroyed_location (unknown_word words) at) (after_write (at result_location) world) (left_after_word words))
 does arity code (Return ∷ items) at world words = Returns (record { value = at result_location; world = world })
 
-abbrev pub linear_move : (arity : ℕ → ℕ) → List Item → Configuration → Moving Configuration
+abbrev pub linear_move : (arity : ℕ → ℕ) → List LinearItem → Configuration → Moving Configuration
 linear_move arity code c = does arity code c.items c.locations c.world c.words
 
 -- what is written so far
@@ -99,5 +99,5 @@ abbrev pub linear_output : Configuration → List ℕ
 linear_output c = c.world.output
 
 -- where the run of a function with this many slots begins
-abbrev pub linear_start : (slots : ℕ) → List Item → (words arguments : List ℕ) → World → Configuration
+abbrev pub linear_start : (slots : ℕ) → List LinearItem → (words arguments : List ℕ) → World → Configuration
 linear_start slots code words arguments world = at_items code (at_entry slots words arguments) world (left_after_entry slots words)

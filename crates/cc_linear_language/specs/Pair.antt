@@ -12,7 +12,7 @@ use Rattle.cc_simulation.specs.Run.{run}
 use Rattle.cc_simulation.specs.Meaning.{Meaning, most_open, IsCall, call_effect, answered}
 use Rattle.cc_simulation.specs.Tracks.{TracksForAll}
 use Rattle.cc_ltl.specs.Ltl.{Ltl, IsLtl, ltl_move, ltl_output, ltl_start}
-use Rattle.cc_linear_language.specs.declared.item.Item.{Item}
+use Rattle.cc_linear_language.specs.declared.item.LinearItem.{LinearItem}
 use Rattle.cc_linear_language.specs.Linear.{IsLinear, linear_move, linear_output, linear_start}
 
 -- a pair as contracts see it: the unit, the function's number in the order of definitions, the LTL that was laid out, and its items
@@ -20,7 +20,7 @@ pub record Pair : Type 0 where
   pub unit : parsed.Unit
   pub function : ℕ
   pub ltl : Ltl
-  pub code : List Item
+  pub code : List LinearItem
 
 -- the unit's tree
 abbrev pub tree_of : Pair → List External
@@ -36,12 +36,12 @@ abbrev pub LtlKeepsUp : List External → (function : ℕ) → Ltl → Type 0
 LtlKeepsUp unit f ltl = (rate : ℕ) × ((meaning : Meaning) → IsMeaningOf unit meaning → TracksForAll meaning f rate (ltl_move meaning.arity ltl) ltl_output (ltl_start ltl))
 
 -- at some rate the run keeps up with the function, for all lists of unknown words
-abbrev pub KeepsUp : List External → (function slots : ℕ) → List Item → Type 0
+abbrev pub KeepsUp : List External → (function slots : ℕ) → List LinearItem → Type 0
 KeepsUp unit f slots code =
     (rate : ℕ) × ((meaning : Meaning) → IsMeaningOf unit meaning → TracksForAll meaning f rate (linear_move meaning.arity code) linear_output (linear_start slots code))
 
 -- so at each number of open calls the run follows the function's body, for all lists of unknown words
-abbrev pub FollowsFunction : List External → (function slots : ℕ) → List Item → Type 0
+abbrev pub FollowsFunction : List External → (function slots : ℕ) → List LinearItem → Type 0
 FollowsFunction unit f slots code =
     (meaning : Meaning) → IsMeaningOf unit meaning → (opened : ℕ) → opened < most_open → (ws : List ℕ) (h : World) → IsCall meaning f ws h
     → FollowsForAll (λ n. answered (meaning.body n opened f ws h)) (λ words (b : ℕ × ℕ). run (linear_move meaning.arity code) linear_output (call_effect meaning (suc opened)) b.0 b.1 (linear_start slots code words ws h))

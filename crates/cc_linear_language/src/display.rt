@@ -1,22 +1,22 @@
 //! A function as text: its number and its slots, and a line for each item.
 
-use crate::item::Item;
+use crate::item::LinearItem;
 use crate::pair::LinearPair;
 use cc_ltl::Operation;
 use std::fmt;
 
 // An item that does what an operation of LTL does, as that operation.
-fn operation_of(item: Item) -> Option<Operation> {
+fn operation_of(item: LinearItem) -> Option<Operation> {
     let next = 0;
     match item {
-        Item::Const { to, word } => Some(Operation::Const { to, word, next }),
-        Item::Unary { operator, to, from } => Some(Operation::Unary {
+        LinearItem::Const { to, word } => Some(Operation::Const { to, word, next }),
+        LinearItem::Unary { operator, to, from } => Some(Operation::Unary {
             operator,
             to,
             from,
             next,
         }),
-        Item::Binary {
+        LinearItem::Binary {
             operator,
             to,
             left,
@@ -28,7 +28,7 @@ fn operation_of(item: Item) -> Option<Operation> {
             right,
             next,
         }),
-        Item::Load {
+        LinearItem::Load {
             width,
             object,
             to,
@@ -40,7 +40,7 @@ fn operation_of(item: Item) -> Option<Operation> {
             index,
             next,
         }),
-        Item::Store {
+        LinearItem::Store {
             width,
             object,
             index,
@@ -52,28 +52,28 @@ fn operation_of(item: Item) -> Option<Operation> {
             from,
             next,
         }),
-        Item::Call { function } => Some(Operation::Call { function, next }),
-        Item::Read => Some(Operation::Read { next }),
-        Item::Write => Some(Operation::Write { next }),
-        Item::Return => Some(Operation::Return),
-        Item::Label { .. }
-        | Item::Jump { .. }
-        | Item::IfNonzero { .. }
-        | Item::IfZero { .. }
-        | Item::Copy { .. } => None,
+        LinearItem::Call { function } => Some(Operation::Call { function, next }),
+        LinearItem::Read => Some(Operation::Read { next }),
+        LinearItem::Write => Some(Operation::Write { next }),
+        LinearItem::Return => Some(Operation::Return),
+        LinearItem::Label { .. }
+        | LinearItem::Jump { .. }
+        | LinearItem::IfNonzero { .. }
+        | LinearItem::IfZero { .. }
+        | LinearItem::Copy { .. } => None,
     }
 }
 
 /// A label `3:`, a jump `jump 3`, a branch `branch x7 != 0 -> 3` or `branch x7 == 0 -> 3`, a move `x8 = slot0`; an operation as in LTL:
 /// `x7 = sub x8, x9`, `x7 = object0[x8]`, `call 3`, `return`.
-impl fmt::Display for Item {
+impl fmt::Display for LinearItem {
     fn fmt<W: fmt::Write>(&self, f: &mut fmt::Formatter<W>) -> fmt::Result {
         match self {
-            Item::Label { label } => write!(f, "{label}:"),
-            Item::Jump { to } => write!(f, "jump {to}"),
-            Item::IfNonzero { from, to } => write!(f, "branch {from} != 0 -> {to}"),
-            Item::IfZero { from, to } => write!(f, "branch {from} == 0 -> {to}"),
-            Item::Copy { between } => write!(f, "{between}"),
+            LinearItem::Label { label } => write!(f, "{label}:"),
+            LinearItem::Jump { to } => write!(f, "jump {to}"),
+            LinearItem::IfNonzero { from, to } => write!(f, "branch {from} != 0 -> {to}"),
+            LinearItem::IfZero { from, to } => write!(f, "branch {from} == 0 -> {to}"),
+            LinearItem::Copy { between } => write!(f, "{between}"),
             _ => match operation_of(*self) {
                 Some(operation) => write!(f, "{operation}"),
                 None => Ok(()),
@@ -90,7 +90,7 @@ impl fmt::Display for LinearPair {
         writeln!(f, "f{function} slots {slots}")?;
         for item in self.code() {
             match item {
-                Item::Label { .. } => writeln!(f, "{item}")?,
+                LinearItem::Label { .. } => writeln!(f, "{item}")?,
                 _ => writeln!(f, "  {item}")?,
             }
         }

@@ -6,7 +6,7 @@ use cc_words::{Binary, Unary, Width};
 /// One item of a function's list. A label is no move of the run: what is done at it is what the next item does. A call takes its
 /// arguments in `x10` and up and gives its result in `x10`; a read gives its word there, a write and a return take theirs there.
 #[derive(Clone, Copy)]
-pub enum Item {
+pub enum LinearItem {
     /// A place, where jumps and branches lead to.
     Label {
         label: u32,

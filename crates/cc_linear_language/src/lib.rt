@@ -9,5 +9,5 @@ mod display;
 mod item;
 mod pair;
 
-pub use item::Item;
+pub use item::LinearItem;
 pub use pair::LinearPair;

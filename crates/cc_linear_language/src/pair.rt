@@ -8,7 +8,7 @@ ghost use Rattle.cc_linear_language.specs.Linear.{IsLinear};
 ghost use Rattle.cc_ltl.specs.Ltl.{IsLtl};
 ghost use Rattle.cc_linear_language.specs.Pair.{Pair, tree_of, most_blocks, LtlKeepsUp, KeepsUp, FollowsFunction, IsPair};
 
-use crate::item::Item;
+use crate::item::LinearItem;
 use cc_ltl::Ltl;
 use cc_types::TypedUnit;
 use std::marker::Model;
@@ -22,7 +22,7 @@ pub struct LinearPair {
     unit: Arc<TypedUnit>,
     function: usize,
     ltl: Ltl,
-    code: Vec<Item>,
+    code: Vec<LinearItem>,
 }
 
 impl Model for LinearPair {
@@ -43,7 +43,7 @@ impl Model for LinearPair {
 impl LinearPair {
     /// The pair of a function whose LTL and Linear are proved to keep up with it: what the type keeps is asked for here. It
     /// takes no memory.
-    pub fn new(unit: Arc<TypedUnit>, function: usize, ltl: Ltl, code: Vec<Item>) -> LinearPair
+    pub fn new(unit: Arc<TypedUnit>, function: usize, ltl: Ltl, code: Vec<LinearItem>) -> LinearPair
         requires { IsPair (record { unit = arc_value unit; function = function; ltl = ltl; code = code.items }) }
         ensures { result ≡ record { unit = arc_value unit; function = function; ltl = ltl; code = code.items } }
     {
@@ -89,7 +89,7 @@ impl LinearPair {
 
     /// The items. No label stands twice, and each that a jump or a branch leads to stands; each call is of a function of the unit. The
     /// run keeps up with the function, and so follows it, for every list of words that locations may hold of which nobody knows.
-    pub fn code(&self) -> &[Item]
+    pub fn code(&self) -> &[LinearItem]
         ensures code { result.now ≡ self.now.code }
         ensures typed { IsTyped (tree_of self.now) }
         ensures linear { IsLinear self.now.ltl.slots (length (functions (tree_of self.now))) self.now.code }

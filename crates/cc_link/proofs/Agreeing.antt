@@ -10,7 +10,7 @@ use Rattle.cc_c_laws.specs.Numbered.{IsMeaningOf, objects_of, world_of, outcome_
 use Rattle.cc_simulation.specs.Behavior.{Outcome, AreWords, Follows}
 use Rattle.cc_simulation.specs.Meaning.{Meaning}
 use Rattle.cc_simulation.specs.World.{Size}
-use Rattle.cc_emit.specs.declared.item.Item.{Item}
+use Rattle.cc_emit.specs.declared.item.PieceItem.{PieceItem}
 use Rattle.cc_emit.specs.Piece.{AreOf}
 use Rattle.cc_link.specs.Agree.{image_behavior, program_behavior}
 use Rattle.cc_link.specs.Link.{code_words, most_code}
@@ -28,7 +28,7 @@ module _ (meanings : TypedUnitsHaveMeanings) (mains : TypedUnitsHaveMain) (progr
       ∙ sym (programs (source_with text unit) main input n)
 
   -- the items of each function make an image whose run follows the program's
-  pub unit_agrees : (text : List ℕ) (unit : List External) → IsTyped unit → IsWithinLimits unit → AllKept (objects unit) → (fs : List (List Item)) → length fs ≡ length (functions unit) → code_words fs ≤ most_code
+  pub unit_agrees : (text : List ℕ) (unit : List External) → IsTyped unit → IsWithinLimits unit → AllKept (objects unit) → (fs : List (List PieceItem)) → length fs ≡ length (functions unit) → code_words fs ≤ most_code
       → ((f : ℕ) → f < length (functions unit) → AreOf unit f (get_or fs f []))
       → (input : List ℕ) → AreWords input → Follows (program_behavior (source_with text unit) input) (image_behavior (image_of unit fs) input)
   unit_agrees text unit typed limits kept fs count fits all input are =

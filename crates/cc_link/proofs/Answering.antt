@@ -14,7 +14,7 @@ use Rattle.cc_c_laws.specs.Meaning.{functions}
 use Rattle.cc_c_laws.specs.Calls.{ObjectsAreSized}
 use Rattle.cc_c_laws.specs.Numbered.{TypedUnitsHaveMeanings}
 use Rattle.cc_unit.specs.declared.unit.StoredUnit.{StoredUnit}
-use Rattle.cc_emit.specs.declared.item.Item.{Item}
+use Rattle.cc_emit.specs.declared.item.PieceItem.{PieceItem}
 use Rattle.cc_emit.specs.Piece.{Piece, IsPieceOfUnit}
 use Rattle.cc_link.specs.declared.fault.LinkFault.{LinkFault}
 use Rattle.cc_link.specs.declared.fault.LinkFault.TheVariants.{ImageTooLarge, OutOfMemory}
@@ -37,7 +37,7 @@ module _ (s : Source) (ps : List Piece) (count : ℕ) (a : stranger s.text 0 ps 
   order_refused fault (inl e) = inl e
   order_refused fault (inr e) = inr (missing_refused s ps fault a b (ap (λ k. missing ps 0 k) (sym number) ∙ e))
 
-  module _ (os : List (Bor Piece)) (fs : List (Bor (List Item))) (m : missing ps 0 count ≡ None) (o : lent_pieces os ≡ in_order ps 0 count) (i : lent fs ≡ all_items (lent_pieces os)) where
+  module _ (os : List (Bor Piece)) (fs : List (Bor (List PieceItem))) (m : missing ps 0 count ≡ None) (o : lent_pieces os ≡ in_order ps 0 count) (i : lent fs ≡ all_items (lent_pieces os)) where
     none : missing ps 0 (length (functions s.externals)) ≡ None
     none = ap (λ k. missing ps 0 k) (sym number) ∙ m
 
@@ -49,11 +49,11 @@ module _ (s : Source) (ps : List Piece) (count : ℕ) (a : stranger s.text 0 ps 
 
     -- returns-then-not-fits-clause-refused
     pub size_refused : most_code < code_words (lent fs) → linked s ps ≡ Err ImageTooLarge
-    size_refused large = large_refused s ps a b none (subst (λ (l : List (List Item)). most_code < code_words l) are_bodies large)
+    size_refused large = large_refused s ps a b none (subst (λ (l : List (List PieceItem)). most_code < code_words l) are_bodies large)
 
     -- stored-made-requires-clause-count
     pub count_is : length fs ≡ length (functions s.externals)
-    count_is = sym (length-map fs (λ (c : Bor (List Item)). c.now)) ∙ ap (λ (l : List (List Item)). length l) are_bodies ∙ bodies_long s.externals ps none
+    count_is = sym (length-map fs (λ (c : Bor (List PieceItem)). c.now)) ∙ ap (λ (l : List (List PieceItem)). length l) are_bodies ∙ bodies_long s.externals ps none
 
     -- stored-made-requires-clause-few_functions
     pub few_is : IsWithinLimits s.externals → length os < 2 ^ 32
@@ -65,14 +65,14 @@ module _ (s : Source) (ps : List Piece) (count : ℕ) (a : stranger s.text 0 ps 
     -- stored-made-requires-clause-stay
     pub stay_is : TokensAreOne → TreesAreOne → TypedUnitsHaveMeanings → ObjectsAreSized → ∥ SpellsText s.text s.externals ∥₁ → IsTyped s.externals → IsWithinLimits s.externals → All IsPieceOfUnit ps → AllStayIn (length fs) (lent fs)
     stay_is tokens trees meanings sized spelled typed limits all =
-        subst (λ k. AllStayIn k (lent fs)) (sym count_is) (subst (λ (l : List (List Item)). AllStayIn (length (functions s.externals)) l) (sym are_bodies) (bodies_stay tokens trees meanings sized s ps spelled typed limits a all none))
+        subst (λ k. AllStayIn k (lent fs)) (sym count_is) (subst (λ (l : List (List PieceItem)). AllStayIn (length (functions s.externals)) l) (sym are_bodies) (bodies_stay tokens trees meanings sized s ps spelled typed limits a all none))
 
     -- returns-clause-answer
     pub answer_is : (u : StoredUnit) → code_words (lent fs) ≤ most_code → u ≡ record { source = s.text; image = image_of s.externals (lent fs); certificate = Some (certificate_of (all_ltl (lent_pieces os))) } → linked s ps ≡ Ok u
     answer_is u few e =
         let same : record { source = s.text; image = image_of s.externals (lent fs); certificate = Some (certificate_of (all_ltl (lent_pieces os))) } ≡ unit_of s ps =
         λ j. record { source = s.text; image = image_of s.externals (are_bodies j); certificate = Some (certificate_of (all_ltl (are_ordered j))) } in
-        linked_ok s ps a b none (subst (λ (l : List (List Item)). code_words l ≤ most_code) are_bodies few) ∙ ap Ok (sym (e ∙ same))
+        linked_ok s ps a b none (subst (λ (l : List (List PieceItem)). code_words l ≤ most_code) are_bodies few) ∙ ap Ok (sym (e ∙ same))
 
     -- new-requires
     pub agree_is : LinkedUnitsAgree → ∥ SpellsText s.text s.externals ∥₁ → IsChecked s → All IsPieceOfUnit ps → (u : StoredUnit) → code_words (lent fs) ≤ most_code

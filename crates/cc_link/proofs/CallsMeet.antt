@@ -4,8 +4,8 @@ use Rattle.std.proofs.Math.Nat.{one-le-mul, mul-le-mul_right}
 use Rattle.cc_rv32.specs.Machine.{State}
 use Rattle.cc_simulation.specs.World.{Size, World, Effect, Gives, Unfinished, Failed}
 use Rattle.cc_simulation.specs.Meaning.{Meaning}
-use Rattle.cc_emit.specs.declared.item.Item.{Item}
-use Rattle.cc_emit.specs.Contract.{Code, Layout, Placed, Meets, CallsMeet, IsPlace, PieceMeets}
+use Rattle.cc_emit.specs.declared.item.PieceItem.{PieceItem}
+use Rattle.cc_emit.specs.Contract.{Code, ObjectLayout, Placed, Meets, CallsMeet, IsPlace, PieceMeets}
 
 -- the rate of a call, where this many more may be open
 unfoldable pub power : ℕ → ℕ → ℕ
@@ -13,8 +13,8 @@ power rate zero = 1
 power rate (suc k) = suc rate * power rate k
 
 -- every function's piece, at its place
-pub record Pieces (meaning : Meaning) (layout : Layout meaning.objects) (rate : ℕ) (code : Code) (places : ℕ → ℕ) : Type 0 where
-  pub items : ℕ → List Item
+pub record Pieces (meaning : Meaning) (layout : ObjectLayout meaning.objects) (rate : ℕ) (code : Code) (places : ℕ → ℕ) : Type 0 where
+  pub items : ℕ → List PieceItem
   pub meets : (f : ℕ) → f < meaning.functions → PieceMeets meaning layout f rate (items f)
   pub placed : (f : ℕ) → f < meaning.functions → Placed code places (places f) (places f) (items f)
   pub from : (f : ℕ) → f < meaning.functions → IsPlace (places f)
@@ -26,22 +26,22 @@ one_le_power rate zero = omega arith
 one_le_power rate (suc k) = let r : 1 ≤ suc rate = omega arith in one-le-mul r (one_le_power rate k)
 
 -- a body's contract is the call's, for one step more: the call pays that step
-paid : (o : List Size) (y : Layout o) (code : Code) (rate c n : ℕ) (s : State) (e : Effect) → 1 ≤ c → Meets y code (rate * c) (rate * c) n s e → Meets y code (suc rate * c) (suc rate * c) (suc n) s e
+paid : (o : List Size) (y : ObjectLayout o) (code : Code) (rate c n : ℕ) (s : State) (e : Effect) → 1 ≤ c → Meets y code (rate * c) (rate * c) n s e → Meets y code (suc rate * c) (suc rate * c) (suc n) s e
 paid o y code rate c n s (Gives a left) h (m, t, p, r, b) = (m, t, p, r, let f : suc rate * c ≡ rate * c + c = omega arith in let i : (rate * c) * m ≤ (suc rate * c) * m = mul-le-mul_right m (omega arith) in omega arith)
 paid o y code rate c n s (Unfinished p) h (m, t, q, r, b) = (m, t, q, r, let f : suc rate * c ≡ rate * c + c = omega arith in let i : (rate * c) * m ≤ (suc rate * c) * m = mul-le-mul_right m (omega arith) in omega arith)
 paid o y code rate c n s (Failed p) h x = tt
 
 -- a slower rate is a weaker promise
-slower : (o : List Size) (y : Layout o) (code : Code) (c e n : ℕ) (s : State) (x : Effect) → c ≤ e → Meets y code c c n s x → Meets y code e e n s x
+slower : (o : List Size) (y : ObjectLayout o) (code : Code) (c e n : ℕ) (s : State) (x : Effect) → c ≤ e → Meets y code c c n s x → Meets y code e e n s x
 slower o y code c e n s (Gives a left) h (m, t, p, r, b) = (m, t, p, r, let i : c * m ≤ e * m = mul-le-mul_right m h in omega arith)
 slower o y code c e n s (Unfinished p) h (m, t, q, r, b) = (m, t, q, r, let i : c * m ≤ e * m = mul-le-mul_right m h in omega arith)
 slower o y code c e n s (Failed p) h x = tt
 
-pub slower_piece : (meaning : Meaning) (layout : Layout meaning.objects) (f rate other : ℕ) (items : List Item) → rate ≤ other → PieceMeets meaning layout f rate items → PieceMeets meaning layout f other items
+pub slower_piece : (meaning : Meaning) (layout : ObjectLayout meaning.objects) (f rate other : ℕ) (items : List PieceItem) → rate ≤ other → PieceMeets meaning layout f rate items → PieceMeets meaning layout f other items
 slower_piece meaning layout f rate other items le piece code places place a b p at d c below one calls ws h s n enters =
     slower meaning.objects layout code (rate * c) (other * c) n s _ (mul-le-mul_right c le) (piece code places place a b p at d c below one calls ws h s n enters)
 
-module _ (meaning : Meaning) (layout : Layout meaning.objects) (rate : ℕ) (code : Code) (places : ℕ → ℕ) (pieces : Pieces meaning layout rate code places) where
+module _ (meaning : Meaning) (layout : ObjectLayout meaning.objects) (rate : ℕ) (code : Code) (places : ℕ → ℕ) (pieces : Pieces meaning layout rate code places) where
   -- no step is left, or no call is allowed: nothing is owed
   idle : (c : ℕ) (s : State) (h : World) (e : Effect) → s.output ≡ h.output → e ≡ Unfinished h.output → Meets layout code c c 0 s e
   idle c s h e o u = subst (Meets layout code c c 0 s) (sym u) (0, s, refl, o, omega arith)

@@ -10,7 +10,7 @@ use Rattle.cc_tokens.specs.declared.token.TokenKind.{TokenKind}
 use Rattle.cc_tokens.specs.declared.token.TokenKind.TheVariants as kind
 use Rattle.cc_tokens.specs.Constant.{digits_value, type_of_value}
 use Rattle.cc_tokens.specs.Token.{Lexeme}
-use Rattle.cc_tokens.specs.Tokens.{Piece, blank, comment, token, IsCut, SpellsToken, tokens_of, IsTokens}
+use Rattle.cc_tokens.specs.Tokens.{TextPiece, blank, comment, token, IsCut, SpellsToken, tokens_of, IsTokens}
 use Rattle.cc_ast.specs.declared.ast.UnaryOperator.{UnaryOperator}
 use Rattle.cc_ast.specs.declared.ast.UnaryOperator.TheVariants.{Plus, Minus, Complement, Not}
 use Rattle.cc_ast.specs.declared.ast.BinaryOperator.{BinaryOperator}
@@ -58,7 +58,7 @@ abbrev AreNumbersWords : List Lexeme → Type 0
 AreNumbersWords [] = Unit {0}
 AreNumbersWords (x ∷ xs) = IsNumberWord x.kind × AreNumbersWords xs
 
-cut_words : (ps : List Piece) (at : ℕ) (text rest : List ℕ) → IsCut ps text rest → AreNumbersWords (tokens_of at ps)
+cut_words : (ps : List TextPiece) (at : ℕ) (text rest : List ℕ) → IsCut ps text rest → AreNumbersWords (tokens_of at ps)
 cut_words [] at text rest h = tt
 cut_words (blank b ∷ ps) at text rest h = cut_words ps (at + 1) h.0 rest h.3
 cut_words (comment c ∷ ps) at text rest h = cut_words ps (at + length c) h.0 rest h.3

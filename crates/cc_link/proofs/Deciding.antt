@@ -17,8 +17,8 @@ use Rattle.cc_c_laws.specs.Meaning.{functions, functions_from}
 use Rattle.cc_c_laws.specs.Calls.{ObjectsAreSized}
 use Rattle.cc_c_laws.specs.Numbered.{TypedUnitsHaveMeanings}
 use Rattle.cc_simulation.specs.World.{Size}
-use Rattle.cc_emit.specs.declared.item.Item.{Item}
-use Rattle.cc_emit.specs.declared.item.Item.TheVariants.{Plain, Call, Go}
+use Rattle.cc_emit.specs.declared.item.PieceItem.{PieceItem}
+use Rattle.cc_emit.specs.declared.item.PieceItem.TheVariants.{Plain, Call, Go}
 use Rattle.cc_emit.specs.Contract.{AreFit}
 use Rattle.cc_emit.specs.Piece.{Piece, IsPieceOfUnit}
 use Rattle.cc_link.specs.declared.fault.LinkFault.{LinkFault}
@@ -45,26 +45,26 @@ defined_long s = names_long s.externals first_file_scope
 
 -- ---- items stay in their functions
 
-stays_prop : (functions long : ℕ) (i : Item) → IsProp (StaysIn functions long i)
+stays_prop : (functions long : ℕ) (i : PieceItem) → IsProp (StaysIn functions long i)
 stays_prop functions long (Plain i) = hlevel
 stays_prop functions long (Call f) = le_prop
 stays_prop functions long (Go n) = le_prop
 
-stay_prop : (functions long : ℕ) (items : List Item) → IsProp (StayIn functions long items)
+stay_prop : (functions long : ℕ) (items : List PieceItem) → IsProp (StayIn functions long items)
 stay_prop functions long [] = hlevel
 stay_prop functions long (i ∷ is) = hlevel (stays_prop functions long i, stay_prop functions long is)
 
-all_stay_prop : (functions : ℕ) (fs : List (List Item)) → IsProp (AllStayIn functions fs)
+all_stay_prop : (functions : ℕ) (fs : List (List PieceItem)) → IsProp (AllStayIn functions fs)
 all_stay_prop functions [] = hlevel
 all_stay_prop functions (f ∷ fs) = hlevel (stay_prop functions (length f) f, all_stay_prop functions fs)
 
-stay_of : (functions long : ℕ) (items : List Item) → AreFit functions long items → StayIn functions long items
+stay_of : (functions long : ℕ) (items : List PieceItem) → AreFit functions long items → StayIn functions long items
 stay_of functions long [] h = tt
 stay_of functions long (Plain i ∷ is) h = (tt, stay_of functions long is h.1)
 stay_of functions long (Call f ∷ is) h = (h.0, stay_of functions long is h.1)
 stay_of functions long (Go n ∷ is) h = (h.0, stay_of functions long is h.1)
 
-all_stay : (functions : ℕ) (fs : List (List Item)) → ((f : ℕ) → f < length fs → StayIn functions (length (get_or fs f [])) (get_or fs f [])) → AllStayIn functions fs
+all_stay : (functions : ℕ) (fs : List (List PieceItem)) → ((f : ℕ) → f < length fs → StayIn functions (length (get_or fs f [])) (get_or fs f [])) → AllStayIn functions fs
 all_stay functions [] h = tt
 all_stay functions (f ∷ fs) h = (h 0 (omega arith), all_stay functions fs (λ g lt. h (suc g) (omega arith)))
 
@@ -112,9 +112,9 @@ linked_ok s ps a b c small =
 
 -- ---- how long the code is
 
-all_long : (p : ℕ → ℕ) (a : ℕ) (fs : List (List Item)) → length (fill_all p a fs) ≡ size_of fs
+all_long : (p : ℕ → ℕ) (a : ℕ) (fs : List (List PieceItem)) → length (fill_all p a fs) ≡ size_of fs
 all_long p a [] = refl
 all_long p a (f ∷ fs) = length-append (fill p a a f) (fill_all p (a + 4 * length f) fs) ∙ ap (λ n. n + length (fill_all p (a + 4 * length f) fs)) (length_fill p a a f) ∙ ap (λ n. length f + n) (all_long p (a + 4 * length f) fs)
 
-pub code_long : (main : ℕ) (fs : List (List Item)) → length (encoded (linked_code main fs)) ≡ code_words fs
+pub code_long : (main : ℕ) (fs : List (List PieceItem)) → length (encoded (linked_code main fs)) ≡ code_words fs
 code_long main fs = length-map (linked_code main fs) encoding_of ∙ length-append (fill (place_of fs) 0x10000 0x10000 (head main)) (fill_all (place_of fs) 0x1000c fs) ∙ ap (λ n. 3 + n) (all_long (place_of fs) 0x1000c fs)

@@ -8,8 +8,8 @@ use Rattle.cc_rv32.specs.Machine.{State, Turn, Continues, Exits, Traps, turned, 
 use Rattle.cc_simulation.specs.Behavior.{Going, Ended, Outcome, AreWords, Follows}
 use Rattle.cc_simulation.specs.World.{Object, size_of as object_size, World, Answer, Effect, Gives, Unfinished, Failed, IsWorld}
 use Rattle.cc_simulation.specs.Meaning.{Meaning}
-use Rattle.cc_emit.specs.declared.item.Item.{Item}
-use Rattle.cc_emit.specs.Contract.{Layout, Path, Placed, Enters, ComesBack, Meets, IsPiece}
+use Rattle.cc_emit.specs.declared.item.PieceItem.{PieceItem}
+use Rattle.cc_emit.specs.Contract.{ObjectLayout, Path, Placed, Enters, ComesBack, Meets, IsPiece}
 use Rattle.cc_c_laws.specs.Numbered.{outcome_by_number}
 use Rattle.cc_link.specs.Agree.{shown, image_behavior}
 use Rattle.cc_link.specs.Link.{size_of, head, place_of, linked_code, encoded}
@@ -34,13 +34,13 @@ cond_words : (b : Bool) (x y : ℕ) → x < 2 ^ 32 → y < 2 ^ 32 → (if b then
 cond_words true x y h k = h
 cond_words false x y h k = k
 
-module _ (meaning : Meaning) (few : total meaning.objects ≤ 65536) (main : ℕ) (pieces : List (List Item)) (is_function : main < meaning.functions) (bare : meaning.arity main ≡ 0) (count : length pieces ≡ meaning.functions) (fits : 3 + size_of pieces ≤ 131072)
+module _ (meaning : Meaning) (few : total meaning.objects ≤ 65536) (main : ℕ) (pieces : List (List PieceItem)) (is_function : main < meaning.functions) (bare : meaning.arity main ≡ 0) (count : length pieces ≡ meaning.functions) (fits : 3 + size_of pieces ≤ 131072)
     (all : (f : ℕ) → f < meaning.functions → IsPiece meaning (laid_out meaning.objects few) f (get_or pieces f []))
     (initial : List Object) (sized : map object_size initial ≡ meaning.objects) (kept : (g : ℕ) → AreKept (object_in initial g).width (object_in initial g).words) (words : AreWords (globals_image initial)) (input : List ℕ) (input_words : AreWords input) where
   abbrev code : List ℕ
   code = encoded (linked_code main pieces)
 
-  abbrev layout : Layout meaning.objects
+  abbrev layout : ObjectLayout meaning.objects
   layout = laid_out meaning.objects few
 
   abbrev first : State
@@ -122,7 +122,7 @@ module _ (meaning : Meaning) (few : total meaning.objects ≤ 65536) (main : ℕ
       follows machine (λ m k. run_more code m k (going first)) (power l.0 1024) (called_behavior meaning main initial input) (λ n. matched (power l.0 1024) n _ (l.1 shared entered n enters))
 
 -- the whole: an image of these words and globals agrees with the source
-pub linked_agrees : (meaning : Meaning) (few : total meaning.objects ≤ 65536) (main : ℕ) (pieces : List (List Item)) → main < meaning.functions → meaning.arity main ≡ 0 → length pieces ≡ meaning.functions → 3 + size_of pieces ≤ 131072
+pub linked_agrees : (meaning : Meaning) (few : total meaning.objects ≤ 65536) (main : ℕ) (pieces : List (List PieceItem)) → main < meaning.functions → meaning.arity main ≡ 0 → length pieces ≡ meaning.functions → 3 + size_of pieces ≤ 131072
     → ((f : ℕ) → f < meaning.functions → IsPiece meaning (laid_out meaning.objects few) f (get_or pieces f []))
     → (initial : List Object) → map object_size initial ≡ meaning.objects → ((g : ℕ) → AreKept (object_in initial g).width (object_in initial g).words)
     → (image : Image) → image.code ≡ encoded (linked_code main pieces) → image.globals ≡ globals_image initial → AreWords image.globals → ((input : List ℕ) → AreWords input → Follows (called_behavior meaning main initial input) (image_behavior image input))

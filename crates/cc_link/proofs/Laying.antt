@@ -11,7 +11,7 @@ use Rattle.cc_words.specs.Widths.{words_of}
 use Rattle.cc_rv32.specs.Machine.{start_memory, globals_from}
 use Rattle.cc_simulation.specs.Behavior.{AreWords}
 use Rattle.cc_simulation.specs.World.{Object, Size, size_in, size_of}
-use Rattle.cc_emit.specs.Contract.{Layout, element_at, size_words, words_in}
+use Rattle.cc_emit.specs.Contract.{ObjectLayout, element_at, size_words, words_in}
 use Rattle.cc_emit.specs.Objects.{words_before, object_address, IsInOrder}
 use Rattle.cc_link.specs.Packed.{packed_bytes, packed}
 use Rattle.cc_link.specs.internal.Packing.{AreBytes}
@@ -102,7 +102,7 @@ pub by_four : (a b c d : ℕ) → (a + b ≤ c) ⊎ (c + d ≤ a) → (0x200000 
 by_four a b c d (inl h) = inl (omega arith)
 by_four a b c d (inr h) = inr (omega arith)
 
-abbrev pub laid_out : (objects : List Size) → total objects ≤ 65536 → Layout objects
+abbrev pub laid_out : (objects : List Size) → total objects ≤ 65536 → ObjectLayout objects
 laid_out objects few = record {
   base = object_address objects;
   from = λ g. omega arith;

@@ -19,7 +19,7 @@ use Rattle.cc_c_laws.specs.Meaning.{functions}
 use Rattle.cc_c_laws.specs.Calls.{TypedUnitsHaveMain, ObjectsAreSized}
 use Rattle.cc_c_laws.specs.Numbered.{TypedUnitsHaveMeanings, ProgramsAreNumbered}
 use Rattle.cc_unit.specs.declared.unit.StoredUnit.{StoredUnit}
-use Rattle.cc_emit.specs.declared.item.Item.{Item}
+use Rattle.cc_emit.specs.declared.item.PieceItem.{PieceItem}
 use Rattle.cc_emit.specs.Piece.{Piece, tree_of, AreOf, IsPieceOfUnit}
 use Rattle.cc_link.specs.declared.fault.LinkFault.{LinkFault}
 use Rattle.cc_link.specs.declared.fault.LinkFault.TheVariants.{ImageTooLarge, Missing, Stranger}
@@ -132,7 +132,7 @@ bodies_are tree ps t k e f lt =
     let long = order_long ps 0 (length (functions tree)) e in
     subst (λ g. AreOf tree g (get_or (bodies tree ps) f [])) here (does_at tree 0 f (ordered tree ps) (ordered_each (IsOfTree tree) ps (each_of tree ps t k) 0 (length (functions tree)) e) (omega (arith, long, lt)))
 
-pub small : (fs : List (List Item)) → too_large fs ≡ None → code_words fs ≤ most_code
+pub small : (fs : List (List PieceItem)) → too_large fs ≡ None → code_words fs ≤ most_code
 small fs e = by (nat_lt most_code (code_words fs)) refl e
   where
     by : (b : Bool) → nat_lt most_code (code_words fs) ≡ b → (if b then Some ImageTooLarge else None) ≡ None → code_words fs ≤ most_code

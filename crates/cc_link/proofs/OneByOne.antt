@@ -2,7 +2,7 @@
 use Rattle.std.proofs.Common.{◌≡◌, ℕ, suc, ◌+◌, ◌-◌, ◌<◌, List, [], ◌∷◌, ◌++◌, length, get_or, drop, is_some, Option, Some, None, if◌then◌else◌, sym, ap, ◌∙◌, arith, append_assoc}
 use Rattle.std.proofs.lemmas.List.{drop_more, map-append}
 use Rattle.std.specs.Borrow.{Bor}
-use Rattle.cc_emit.specs.declared.item.Item.{Item}
+use Rattle.cc_emit.specs.declared.item.PieceItem.{PieceItem}
 use Rattle.cc_emit.specs.Piece.{Piece}
 use Rattle.cc_link.specs.declared.fault.LinkFault.TheVariants.{Missing}
 use Rattle.cc_link.specs.Linked.{piece_of, missing, put_first, in_order, all_items, lent_pieces}
@@ -34,10 +34,10 @@ pieces_next ps f n p before new all lt e is h =
     ap (λ l. lent_pieces l ++ rest) is ∙ ap (λ l. l ++ rest) (map-append (λ (x : Bor Piece). x.now) before (p ∷ [])) ∙ append_assoc (lent_pieces before) (p.now ∷ []) rest ∙ ap (λ l. lent_pieces before ++ l) (sym first) ∙ h
 
 -- the items of one piece more
-pub items_next : (ps : List (Bor Piece)) (i : ℕ) (d : Bor Piece) (b : Bor (List Item)) (before new : List (Bor (List Item))) (all : List (List Item)) → i < length ps → d ≡ get_or ps i d → b.now ≡ d.now.items → new ≡ before ++ (b ∷ [])
+pub items_next : (ps : List (Bor Piece)) (i : ℕ) (d : Bor Piece) (b : Bor (List PieceItem)) (before new : List (Bor (List PieceItem))) (all : List (List PieceItem)) → i < length ps → d ≡ get_or ps i d → b.now ≡ d.now.items → new ≡ before ++ (b ∷ [])
     → lent before ++ all_items (lent_pieces (drop i ps)) ≡ all → lent new ++ all_items (lent_pieces (drop (i + 1) ps)) ≡ all
 items_next ps i d b before new all lt is own pushed h =
-    let rest : List (List Item) = all_items (lent_pieces (drop (i + 1) ps)) in
+    let rest : List (List PieceItem) = all_items (lent_pieces (drop (i + 1) ps)) in
     let split : drop i ps ≡ d ∷ drop (i + 1) ps = drop_more ps i d lt ∙ ap (λ (x : Bor Piece). x ∷ drop (i + 1) ps) (sym is) in
-    let first : all_items (lent_pieces (drop i ps)) ≡ b.now ∷ rest = ap (λ (l : List (Bor Piece)). all_items (lent_pieces l)) split ∙ ap (λ (x : List Item). x ∷ rest) (sym own) in
-    ap (λ l. lent l ++ rest) pushed ∙ ap (λ l. l ++ rest) (map-append (λ (x : Bor (List Item)). x.now) before (b ∷ [])) ∙ append_assoc (lent before) (b.now ∷ []) rest ∙ ap (λ l. lent before ++ l) (sym first) ∙ h
+    let first : all_items (lent_pieces (drop i ps)) ≡ b.now ∷ rest = ap (λ (l : List (Bor Piece)). all_items (lent_pieces l)) split ∙ ap (λ (x : List PieceItem). x ∷ rest) (sym own) in
+    ap (λ l. lent l ++ rest) pushed ∙ ap (λ l. l ++ rest) (map-append (λ (x : Bor (List PieceItem)). x.now) before (b ∷ [])) ∙ append_assoc (lent before) (b.now ∷ []) rest ∙ ap (λ l. lent before ++ l) (sym first) ∙ h

@@ -11,9 +11,9 @@ use Rattle.cc_rv32.specs.Table.{IsEncodable, encoding_of, instruction_of}
 use Rattle.cc_rv32.proofs.RoundTrip.{decoded}
 use Rattle.cc_simulation.specs.World.{World}
 use Rattle.cc_simulation.specs.Meaning.{Meaning}
-use Rattle.cc_emit.specs.declared.item.Item.{Item}
-use Rattle.cc_emit.specs.declared.item.Item.TheVariants.{Plain, Call, Go}
-use Rattle.cc_emit.specs.Contract.{Layout, filled, Placed, IsPlace, PieceMeets, Enters, Meets, IsFit, AreFit, IsPiece}
+use Rattle.cc_emit.specs.declared.item.PieceItem.{PieceItem}
+use Rattle.cc_emit.specs.declared.item.PieceItem.TheVariants.{Plain, Call, Go}
+use Rattle.cc_emit.specs.Contract.{ObjectLayout, filled, Placed, IsPlace, PieceMeets, Enters, Meets, IsFit, AreFit, IsPiece}
 use Rattle.cc_link.specs.Link.{fill, fill_all, size_of, head, place_of, linked_code, encoded}
 use Rattle.cc_link.proofs.CallsMeet.{Pieces, slower_piece, power, calls_meet}
 
@@ -41,26 +41,26 @@ worded xs y ys fit =
 
 -- ---- what is filled in has a word
 
-abbrev pub AreEncodable : (places : ℕ → ℕ) (place a : ℕ) → List Item → Type 0
+abbrev pub AreEncodable : (places : ℕ → ℕ) (place a : ℕ) → List PieceItem → Type 0
 AreEncodable places place a [] = Unit {0}
 AreEncodable places place a (i ∷ is) = IsEncodable (filled places place a i) × AreEncodable places place (a + 4) is
 
 module _ (functions long place : ℕ) (places : ℕ → ℕ) (called : (g : ℕ) → g < functions → IsPlace (places g)) (from : IsPlace place) (to : IsPlace (place + 4 * long)) where
-  filled_encodable : (k : ℕ) (i : Item) → k < long → IsFit functions long i → IsEncodable (filled places place (place + 4 * k) i)
+  filled_encodable : (k : ℕ) (i : PieceItem) → k < long → IsFit functions long i → IsEncodable (filled places place (place + 4 * k) i)
   filled_encodable k (Plain i) lt e = e
   filled_encodable k (Call g) lt e = (let p = called g e in let x = p.to in let y = p.from in let z = p.aligned in let u = from.from in let v = to.to in let w = from.aligned in (omega arith, (omega arith, omega arith, omega arith)))
   filled_encodable k (Go n) lt e = (let u = from.from in let v = to.to in let w = from.aligned in (omega arith, (omega arith, omega arith, omega arith)))
 
-  items_encodable : (items : List Item) (k a : ℕ) → a ≡ place + 4 * k → k + length items ≡ long → AreFit functions long items → AreEncodable places place a items
+  items_encodable : (items : List PieceItem) (k a : ℕ) → a ≡ place + 4 * k → k + length items ≡ long → AreFit functions long items → AreEncodable places place a items
   items_encodable [] k a e f fit = tt
   items_encodable (i ∷ is) k a e f fit =
       (subst (λ b. IsEncodable (filled places place b i)) (sym e) (filled_encodable k i (omega arith) fit.0), items_encodable is (suc k) (a + 4) (omega arith) (omega arith) fit.1)
 
-pub length_fill : (places : ℕ → ℕ) (place a : ℕ) (xs : List Item) → length (fill places place a xs) ≡ length xs
+pub length_fill : (places : ℕ → ℕ) (place a : ℕ) (xs : List PieceItem) → length (fill places place a xs) ≡ length xs
 length_fill places place a [] = refl
 length_fill places place a (x ∷ xs) = ap suc (length_fill places place (a + 4) xs)
 
-pub placed_behind : (code : List Instr) (places : ℕ → ℕ) (place : ℕ) (prefix : List Instr) (items : List Item) (back : List Instr) (a : ℕ) → code ≡ prefix ++ (fill places place a items ++ back) → a ≡ 0x10000 + 4 * length prefix → AreEncodable places place a items → Placed (instruction_at (encoded code)) places place a items
+pub placed_behind : (code : List Instr) (places : ℕ → ℕ) (place : ℕ) (prefix : List Instr) (items : List PieceItem) (back : List Instr) (a : ℕ) → code ≡ prefix ++ (fill places place a items ++ back) → a ≡ 0x10000 + 4 * length prefix → AreEncodable places place a items → Placed (instruction_at (encoded code)) places place a items
 placed_behind code places place prefix [] back a e at fit = tt
 placed_behind code places place prefix (x ∷ items) back a e at fit =
     let y = filled places place a x in
@@ -72,13 +72,13 @@ placed_behind code places place prefix (x ∷ items) back a e at fit =
     )
 
 -- one piece within all
-record Split (places : ℕ → ℕ) (a : ℕ) (pieces : List (List Item)) (f : ℕ) : Type 0 where
+record Split (places : ℕ → ℕ) (a : ℕ) (pieces : List (List PieceItem)) (f : ℕ) : Type 0 where
   prefix : List Instr
   back : List Instr
   is : fill_all places a pieces ≡ prefix ++ (fill places (a + 4 * size_of (take f pieces)) (a + 4 * size_of (take f pieces)) (get_or pieces f []) ++ back)
   long : length prefix ≡ size_of (take f pieces)
 
-split : (places : ℕ → ℕ) (a : ℕ) (pieces : List (List Item)) (f : ℕ) → f < length pieces → Split places a pieces f
+split : (places : ℕ → ℕ) (a : ℕ) (pieces : List (List PieceItem)) (f : ℕ) → f < length pieces → Split places a pieces f
 split places a [] f lt = absurd (omega arith)
 split places a (p ∷ ps) zero lt =
     let e : a ≡ a + 4 * 0 = omega arith in
@@ -97,12 +97,12 @@ split places a (p ∷ ps) (suc f) lt =
       long = omega arith;
     }
 
-room_of : (pieces : List (List Item)) (f : ℕ) → f < length pieces → size_of (take f pieces) + length (get_or pieces f []) ≤ size_of pieces
+room_of : (pieces : List (List PieceItem)) (f : ℕ) → f < length pieces → size_of (take f pieces) + length (get_or pieces f []) ≤ size_of pieces
 room_of [] f lt = absurd (omega arith)
 room_of (p ∷ ps) zero lt = omega arith
 room_of (p ∷ ps) (suc f) lt = let r = room_of ps f (omega arith) in omega arith
 
-module _ (meaning : Meaning) (layout : Layout meaning.objects) (main : ℕ) (pieces : List (List Item)) (is_function : main < meaning.functions) (count : length pieces ≡ meaning.functions) (fits : 3 + size_of pieces ≤ 131072) (all : (f : ℕ) → f < meaning.functions → IsPiece meaning layout f (get_or pieces f [])) where
+module _ (meaning : Meaning) (layout : ObjectLayout meaning.objects) (main : ℕ) (pieces : List (List PieceItem)) (is_function : main < meaning.functions) (count : length pieces ≡ meaning.functions) (fits : 3 + size_of pieces ≤ 131072) (all : (f : ℕ) → f < meaning.functions → IsPiece meaning layout f (get_or pieces f [])) where
   abbrev code : List Instr
   code = linked_code main pieces
 

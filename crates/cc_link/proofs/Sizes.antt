@@ -42,7 +42,7 @@ words_fit (o ∷ rest) taken le e = by (nat_lt most_words (taken + object_words 
 -- ---- the sizes
 
 -- how many words a size takes
-abbrev filled : calls.Size → ℕ
+abbrev filled : calls.NamedSize → ℕ
 filled z = words_of z.width z.elements
 
 laid_filled : (at : ℕ) (os : List Object) → map filled (laid_sizes (laid_from at os)) ≡ object_sizes os

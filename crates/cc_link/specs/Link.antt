@@ -7,22 +7,22 @@ use Rattle.cc_rv32.specs.declared.instr.Instr.TheVariants.{OpImm, Ecall}
 use Rattle.cc_rv32.specs.declared.instr.ImmediateOperation.TheVariants.{Addi}
 use Rattle.cc_rv32.specs.Table.{encoding_of}
 use Rattle.cc_rv32.specs.Machine.{code_from}
-use Rattle.cc_emit.specs.declared.item.Item.{Item}
-use Rattle.cc_emit.specs.declared.item.Item.TheVariants.{Plain, Call}
+use Rattle.cc_emit.specs.declared.item.PieceItem.{PieceItem}
+use Rattle.cc_emit.specs.declared.item.PieceItem.TheVariants.{Plain, Call}
 use Rattle.cc_emit.specs.Contract.{filled}
 
 -- the instructions of items at the address a, in a piece at `place`
-abbrev pub fill : (places : ℕ → ℕ) → (place a : ℕ) → List Item → List Instr
+abbrev pub fill : (places : ℕ → ℕ) → (place a : ℕ) → List PieceItem → List Instr
 fill places place a [] = []
 fill places place a (i ∷ is) = filled places place a i ∷ fill places place (a + 4) is
 
 -- the instructions of functions, the first at the address a
-abbrev pub fill_all : (places : ℕ → ℕ) → (a : ℕ) → List (List Item) → List Instr
+abbrev pub fill_all : (places : ℕ → ℕ) → (a : ℕ) → List (List PieceItem) → List Instr
 fill_all places a [] = []
 fill_all places a (f ∷ fs) = fill places a a f ++ fill_all places (a + 4 * length f) fs
 
 -- how many items functions have
-abbrev pub size_of : List (List Item) → ℕ
+abbrev pub size_of : List (List PieceItem) → ℕ
 size_of [] = 0
 size_of (f ∷ fs) = length f + size_of fs
 
@@ -31,15 +31,15 @@ abbrev pub exit_service : ℕ
 exit_service = 93
 
 -- main is called, and its word is the exit's
-abbrev pub head : (main : ℕ) → List Item
+abbrev pub head : (main : ℕ) → List PieceItem
 head main = Call main ∷ Plain (OpImm Addi 17 0 exit_service) ∷ Plain Ecall ∷ []
 
 -- where function f stands: behind the head's three words, and behind the functions before it
-unfoldable pub place_of : List (List Item) → (f : ℕ) → ℕ
+unfoldable pub place_of : List (List PieceItem) → (f : ℕ) → ℕ
 place_of functions f = 0x1000c + 4 * size_of (take f functions)
 
 -- all instructions
-abbrev pub linked_code : (main : ℕ) → List (List Item) → List Instr
+abbrev pub linked_code : (main : ℕ) → List (List PieceItem) → List Instr
 linked_code main functions = fill (place_of functions) code_from code_from (head main) ++ fill_all (place_of functions) 0x1000c functions
 
 -- the words of instructions
@@ -47,7 +47,7 @@ abbrev pub encoded : List Instr → List ℕ
 encoded is = map encoding_of is
 
 -- how many words the code has, and how many it may have
-abbrev pub code_words : List (List Item) → ℕ
+abbrev pub code_words : List (List PieceItem) → ℕ
 code_words functions = 3 + size_of functions
 
 abbrev pub most_code : ℕ

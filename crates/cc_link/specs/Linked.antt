@@ -11,7 +11,7 @@ use Rattle.cc_c_laws.specs.Meaning.{functions}
 use Rattle.cc_c_laws.specs.Calls.{main_of}
 use Rattle.cc_rv32.specs.declared.image.Image.{Image}
 use Rattle.cc_unit.specs.declared.unit.StoredUnit.{StoredUnit}
-use Rattle.cc_emit.specs.declared.item.Item.{Item}
+use Rattle.cc_emit.specs.declared.item.PieceItem.{PieceItem}
 use Rattle.cc_emit.specs.Piece.{Piece}
 use Rattle.cc_ltl.specs.Ltl.{Ltl}
 use Rattle.cc_link.specs.Certificate.{certificate_of}
@@ -69,18 +69,18 @@ abbrev pub ordered : List External → List Piece → List Piece
 ordered unit pieces = in_order pieces 0 (length (functions unit))
 
 -- the items of pieces, and their LTL
-abbrev pub all_items : List Piece → List (List Item)
+abbrev pub all_items : List Piece → List (List PieceItem)
 all_items pieces = map (λ (p : Piece). p.items) pieces
 
 abbrev pub all_ltl : List Piece → List Ltl
 all_ltl pieces = map (λ (p : Piece). p.ltl) pieces
 
 -- the items of each function of a unit
-abbrev pub bodies : List External → List Piece → List (List Item)
+abbrev pub bodies : List External → List Piece → List (List PieceItem)
 bodies unit pieces = all_items (ordered unit pieces)
 
 -- 25: the code would have too many words
-abbrev pub too_large : List (List Item) → Option LinkFault
+abbrev pub too_large : List (List PieceItem) → Option LinkFault
 too_large fs = if nat_lt most_code (code_words fs) then Some ImageTooLarge else None
 
 -- why pieces do not make an image of a unit: 28, else 27, else 26, else 25
@@ -92,7 +92,7 @@ link_refusal s pieces =
 -- ---- what they make
 
 -- the image: its code, and the words of the objects one after the other, four bytes in one
-abbrev pub image_of : List External → List (List Item) → Image
+abbrev pub image_of : List External → List (List PieceItem) → Image
 image_of unit fs = record { code = encoded (linked_code (main_of unit) fs); globals = image_words (objects unit) }
 
 -- the certificate: the LTL of each function

@@ -20,7 +20,7 @@ use crate::globals::image_words;
 use crate::laws::{linked_units_agree, unit_laws};
 use crate::order::{all_items, doubled, in_order, stranger};
 use crate::words::{code, fits};
-use cc_emit::{Item, Piece};
+use cc_emit::{PieceItem, Piece};
 use cc_resolve::lay_out;
 use cc_rv32::image::{Globals, Image};
 use cc_types::TypedUnit;
@@ -42,7 +42,7 @@ fn source_of(alloc: Global, unit: &TypedUnit) -> Result<Source, AllocError>
 }
 
 // The image of a unit's functions.
-fn image(alloc: Global, unit: &TypedUnit, bodies: &[&[Item]]) -> Result<Image, AllocError>
+fn image(alloc: Global, unit: &TypedUnit, bodies: &[&[PieceItem]]) -> Result<Image, AllocError>
     requires count { length bodies.now ≡ length (functions (source unit.now).externals) }
     requires few { code_words (lent bodies.now) ≤ most_code }
     requires stay { AllStayIn (length bodies.now) (lent bodies.now) }
@@ -66,7 +66,7 @@ fn image(alloc: Global, unit: &TypedUnit, bodies: &[&[Item]]) -> Result<Image, A
 fn stored(
     alloc: Global,
     unit: &TypedUnit,
-    bodies: &[&[Item]],
+    bodies: &[&[PieceItem]],
     pieces: &[&Piece],
 ) -> Result<Arc<StoredUnit>, AllocError>
     requires few_functions { length pieces.now < 2 ^ 32 }

@@ -11,7 +11,7 @@ ghost use Rattle.cc_link.specs.internal.Filling.{lent};
 ghost use Rattle.cc_link.specs.internal.Lent.{functions_of};
 
 use crate::fault::LinkFault;
-use cc_emit::{Item, Piece};
+use cc_emit::{PieceItem, Piece};
 use cc_types::TypedUnit;
 use std::alloc::{AllocError, Global};
 
@@ -96,7 +96,7 @@ pub(crate) fn in_order<'a>(
 pub(crate) fn all_items<'a>(
     alloc: Global,
     pieces: &'a [&'a Piece],
-) -> Result<Vec<&'a [Item]>, AllocError>
+) -> Result<Vec<&'a [PieceItem]>, AllocError>
     ensures { IfOk result (λ bodies. lent bodies.items ≡ all_items (lent_pieces pieces.now)) }
 {
     let mut bodies = Vec::with_capacity(alloc, pieces.len())?;

@@ -8,7 +8,7 @@ ghost use Rattle.cc_emit.specs.Contract.{IsPlace, filled};
 ghost use Rattle.cc_link.specs.Link.{fill, fill_all, head, linked_code, encoded, code_words, most_code};
 ghost use Rattle.cc_link.specs.internal.Filling.{lent, AllStayIn, ArePlaces, Leads, CanStand, CanAllStand, places_from};
 
-use cc_emit::Item;
+use cc_emit::PieceItem;
 use cc_rv32::encode::encode;
 use cc_rv32::image::{Code, MOST_CODE};
 use cc_rv32::instr::{ImmediateOperation, Instr};
@@ -22,7 +22,7 @@ const HEAD_WORDS: usize = 3;
 const FUNCTIONS_FROM: u32 = CODE_FROM + 12;
 
 /// Whether the code of these functions has at most 131,072 words.
-pub(crate) fn fits(bodies: &[&[Item]]) -> bool
+pub(crate) fn fits(bodies: &[&[PieceItem]]) -> bool
     ensures { IsTrue result ↔ (code_words (lent bodies.now) ≤ most_code) }
 {
     let mut room = MOST_CODE - HEAD_WORDS;
@@ -36,7 +36,7 @@ pub(crate) fn fits(bodies: &[&[Item]]) -> bool
 }
 
 /// Where the functions stand, in their order.
-fn places(alloc: Global, bodies: &[&[Item]]) -> Result<Vec<u32>, AllocError>
+fn places(alloc: Global, bodies: &[&[PieceItem]]) -> Result<Vec<u32>, AllocError>
     requires { code_words (lent bodies.now) ≤ most_code }
     ensures { IfOk result (λ places. places.items ≡ places_from FUNCTIONS_FROM (lent bodies.now)) }
 {
@@ -59,18 +59,18 @@ fn distance(at: u32, to: u32) -> JumpOffset
 }
 
 // The instruction that an item becomes at an address, in a function that stands at `place`.
-fn instruction(places: &[u32], place: u32, at: u32, item: Item) -> Instr
+fn instruction(places: &[u32], place: u32, at: u32, item: PieceItem) -> Instr
     requires at { IsPlace at }
     requires leads { Leads places.now place item }
     ensures { result ≡ filled (λ f. slice_index places.now f) place at item }
 {
     match item {
-        Item::Plain(instr) => instr,
-        Item::Call(function) => Instr::Jal {
+        PieceItem::Plain(instr) => instr,
+        PieceItem::Call(function) => Instr::Jal {
             rd: Register::new(1),
             offset: distance(at, places[function as usize]),
         },
-        Item::Go(to) => Instr::Jal {
+        PieceItem::Go(to) => Instr::Jal {
             rd: Register::new(0),
             offset: distance(at, place + 4 * to as u32),
         },
@@ -82,7 +82,7 @@ fn add_function(
     words: &mut Vec<u32>,
     places: &[u32],
     place: u32,
-    items: &[Item],
+    items: &[PieceItem],
 ) -> Result<(), AllocError>
     requires places { ArePlaces places.now }
     requires stand { CanStand (length places.now) place items.now }
@@ -97,7 +97,7 @@ fn add_function(
 }
 
 /// Puts the words of all functions behind others.
-fn add_functions(words: &mut Vec<u32>, places: &[u32], bodies: &[&[Item]]) -> Result<(), AllocError>
+fn add_functions(words: &mut Vec<u32>, places: &[u32], bodies: &[&[PieceItem]]) -> Result<(), AllocError>
     requires places { ArePlaces places.now }
     requires stand { CanAllStand (length places.now) FUNCTIONS_FROM (lent bodies.now) }
     ensures { OnOk result (words.new.items ≡ words.old.items ++ encoded (fill_all (λ f. slice_index places.now f) FUNCTIONS_FROM (lent bodies.now))) }
@@ -130,7 +130,7 @@ fn add_head(words: &mut Vec<u32>, places: &[u32], main: usize) -> Result<(), All
 }
 
 // How many words the code of the functions takes, the head with it. That decides how much memory is taken at once, and nothing else.
-fn room(bodies: &[&[Item]]) -> usize {
+fn room(bodies: &[&[PieceItem]]) -> usize {
     let mut words = HEAD_WORDS;
     for items in bodies {
         words = words.saturating_add(items.len());
@@ -139,7 +139,7 @@ fn room(bodies: &[&[Item]]) -> usize {
 }
 
 /// The code of the functions, of which number `main` is called first.
-pub(crate) fn code(alloc: Global, main: usize, bodies: &[&[Item]]) -> Result<Code, AllocError>
+pub(crate) fn code(alloc: Global, main: usize, bodies: &[&[PieceItem]]) -> Result<Code, AllocError>
     requires main { main < length bodies.now }
     requires few { code_words (lent bodies.now) ≤ most_code }
     requires stay { AllStayIn (length bodies.now) (lent bodies.now) }

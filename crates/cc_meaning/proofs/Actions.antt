@@ -17,7 +17,7 @@ use Rattle.cc_resolve.specs.Operations.{operation}
 use Rattle.cc_c_laws.specs.Outcome as outcome
 use Rattle.cc_c_laws.specs.declared.cause.Cause.TheVariants.{Index}
 use Rattle.cc_c_laws.specs.Meaning as meaning
-use Rattle.cc_c_laws.specs.Meaning.{State, Run, Gives, Wrong, Flow, Falls, then_do, words_of, with_element, variable_word, stored, write_element, cause_of, given, ToVariable, ToElement, write, new_value}
+use Rattle.cc_c_laws.specs.Meaning.{State, Run, Gives, Wrong, Flow, Falls, then_do, global_words, with_element, variable_word, stored, write_element, cause_of, given, ToVariable, ToElement, write, new_value}
 use Rattle.cc_c_laws.specs.Resolved.{IsOneWord}
 use Rattle.cc_meaning.specs.internal.FormMeaning.{Activation, Configuration, Move, Goes, Stops, instruction_move, binary_result, cause_of_operation, only_if, with_word, operated}
 use Rattle.cc_c_laws.proofs.Named.{there}
@@ -74,7 +74,7 @@ module _ (form : FormTree) (cs : List Activation) (total : ℕ) where
       let q : (w : ℕ) → Sets v total most vs s x i w = λ w. sets_local v total most vs s x i w h e in
       let r = reads_local s.locals h.junk x i (ap (λ ns. number_in ns x) h.names ∙ e) in
       let here : slice_get vs i ≡ Some r.word = ap (λ (l : List ℕ). slice_get l i) h.holds ∙ r.by_number in
-      let old : r.word ≡ variable_word x s = sym (ap (λ (o : Option ℕ). unwrap_or o (unwrap_or (slice_get (words_of s.globals x) 0) 0)) r.by_name) in
+      let old : r.word ≡ variable_word x s = sym (ap (λ (o : Option ℕ). unwrap_or o (unwrap_or (slice_get (global_words s.globals x) 0) 0)) r.by_name) in
       let one : (p w : ℕ) → only_if (nat_lt i (length vs)) (Goes (conf p (slice_set vs i w) [] cs s)) ≡ Goes (conf p (slice_set vs i w) [] cs (stored x w s)) =
       λ p w. ap (λ b. only_if b (Goes (conf p (slice_set vs i w) [] cs s))) (q w).below ∙ ap Goes (sym ((q w).rest p cs)) in
       record {
@@ -102,11 +102,11 @@ module _ (form : FormTree) (cs : List Activation) (total : ℕ) where
       ap (λ b. only_if b (Goes (record (conf p vs [] cs s) { globals = slice_set (all_of s.globals) offset w }))) (subst (λ k. nat_lt k (length (all_of s.globals)) ≡ true) at (q w).below)
       ∙ ap (λ gs. Goes (record (conf p vs [] cs s) { globals = gs })) (subst (λ k. slice_set (all_of s.globals) k w ≡ all_of (with_element x 0 w s.globals)) at (subst (λ (u : Width). slice_set (all_of s.globals) (offset + 0) (kept u w) ≡ all_of (with_element x 0 w s.globals)) one.1 (q w).words))
       ∙ ap (λ t. Goes (conf p vs [] cs t)) (sym (is w)) in
-      let got = there (words_of s.globals x) 0 (let k = f.size in omega arith) in
+      let got = there (global_words s.globals x) 0 (let k = f.size in omega arith) in
       let here : slice_get (all_of s.globals) offset ≡ Some got.0 = ap (λ k. slice_get (all_of s.globals) k) (sym at) ∙ f.reads 0 (omega arith) ∙ got.1 in
       let none : meaning.local_word s.locals x ≡ None = no_local s.locals x (ap (λ ns. number_in ns x) h.names ∙ e) in
       let old : got.0 ≡ variable_word x s =
-      sym (ap (λ (o : Option ℕ). unwrap_or o 0) got.1) ∙ sym (ap (λ (o : Option ℕ). unwrap_or o (unwrap_or (slice_get (words_of s.globals x) 0) 0)) none) in
+      sym (ap (λ (o : Option ℕ). unwrap_or o 0) got.1) ∙ sym (ap (λ (o : Option ℕ). unwrap_or o (unwrap_or (slice_get (global_words s.globals x) 0) 0)) none) in
       record {
         variables = λ w. vs;
         fits = λ w. subst (λ t. Fits v total most vs t) (sym (is w)) (q w).fits;
@@ -171,7 +171,7 @@ module _ (form : FormTree) (cs : List Activation) (total : ℕ) where
       instructed_last form (instruction.SetElement ext) p vs (w ∷ i ∷ []) cs s (outcome.Wrong Index) e (ap (λ b. if b then move else Stops (outcome.Wrong Index)) is)
 
   -- the index is in the array of both
-  size_is : (v : Environment) (most : ℕ) (vs : List ℕ) (x : List ℕ) (i : ℕ) (s : State) → Fits v total most vs s → nat_lt i (length (words_of s.globals x)) ≡ nat_lt i (extent_of v.layout.objects x).length
+  size_is : (v : Environment) (most : ℕ) (vs : List ℕ) (x : List ℕ) (i : ℕ) (s : State) → Fits v total most vs s → nat_lt i (length (global_words s.globals x)) ≡ nat_lt i (extent_of v.layout.objects x).length
   size_is v most vs x i s h = ap (nat_lt i) (sym (found_object v total most vs s x h).size)
 
   in_array : (v : Environment) (i : ℕ) (x : List ℕ) → nat_lt i (extent_of v.layout.objects x).length ≡ true → i < (extent_of v.layout.objects x).length
@@ -234,12 +234,12 @@ module _ (form : FormTree) (cs : List Activation) (total : ℕ) where
       let whole : Option ℕ → Run Flow = λ o. then_do (then_do (elim o [ None ↦ Wrong Index s.output | Some k ↦ Gives k s ]) (λ old y. given op (binary_word op (working_type op t u) old w) y)) (λ new z. write_element x i new z) in
       elim (leb_tells (suc i) ext.length) [
         | inl lt ↦
-            (let got = there (words_of s.globals x) i (let k = f.size in let z = lt.1 in omega arith) in
-            meets_same form c (Acted form cs total c v most (p + 1)) (whole (slice_get (words_of s.globals x) i)) (rest got.0 s) (ap whole got.1)
+            (let got = there (global_words s.globals x) i (let k = f.size in let z = lt.1 in omega arith) in
+            meets_same form c (Acted form cs total c v most (p + 1)) (whole (slice_get (global_words s.globals x) i)) (rest got.0 s) (ap whole got.1)
             (element_update_by v most vs op (working_type op t u) x i p w got.0 s (binary_word op (working_type op t u) got.0 w) plain refl lt.0 h (f.reads i lt.1 ∙ got.1) e))
         | inr ge ↦
-            (let past : slice_get (words_of s.globals x) i ≡ None = get_past (words_of s.globals x) i (let k = f.size in let z = ge.1 in omega arith) in
-            meets_same form c (Acted form cs total c v most (p + 1)) (whole (slice_get (words_of s.globals x) i)) (Wrong Index s.output) (ap whole past)
+            (let past : slice_get (global_words s.globals x) i ≡ None = get_past (global_words s.globals x) i (let k = f.size in let z = ge.1 in omega arith) in
+            meets_same form c (Acted form cs total c v most (p + 1)) (whole (slice_get (global_words s.globals x) i)) (Wrong Index s.output) (ap whole past)
             (instructed_last form (instruction.Update (operation op (working_type op t u)) (slot.Element ext)) p vs (w ∷ i ∷ []) cs s (outcome.Wrong Index) e
             (ap (λ b. if b then with_word (slice_get (all_of s.globals) (ext.offset + i)) (λ k. operated (operation op (working_type op t u)) k w (λ new. only_if (nat_lt (ext.offset + i) (length (all_of s.globals)))
             (Goes (record (conf (p + 1) vs [] cs s) { globals = slice_set (all_of s.globals) (ext.offset + i) (kept ext.width new) })))) else Stops (outcome.Wrong Index)) ge.0)))

@@ -19,7 +19,7 @@ use Rattle.cc_resolve.specs.Layout.{Layout, extent_of}
 use Rattle.cc_resolve.specs.Operations.{operation}
 use Rattle.cc_c_laws.specs.Outcome as outcome
 use Rattle.cc_c_laws.specs.declared.cause.Cause.TheVariants.{Index}
-use Rattle.cc_c_laws.specs.Meaning.{State, Run, Gives, Wrong, then_do, choose, Calls, words_of, read_element, cause_of, given, unless_decided}
+use Rattle.cc_c_laws.specs.Meaning.{State, Run, Gives, Wrong, then_do, choose, Calls, global_words, read_element, cause_of, given, unless_decided}
 use Rattle.cc_meaning.specs.internal.FormMeaning.{Activation, Configuration, Move, Goes, Stops, instruction_move, cause_of_operation, with_word}
 use Rattle.cc_c_laws.proofs.Named.{there}
 use Rattle.cc_c_laws.proofs.Held.{all_of, get_past}
@@ -71,7 +71,7 @@ module _ (form : FormTree) (cs : List Activation) (total : ℕ) where
   -- ---- elements
 
   element_by : (v : Environment) (most : ℕ) (vs ops : List ℕ) (p i : ℕ) (x : List ℕ) (s : State) (o : Option ℕ) → slice_get form.code p ≡ Some (instruction.Element (extent_of v.layout.objects x)) → Fits v total most vs s
-      → slice_get (words_of s.globals x) i ≡ o
+      → slice_get (global_words s.globals x) i ≡ o
       → instruction_move form (instruction.Element (extent_of v.layout.objects x)) (conf (p + 1) vs (i ∷ ops) cs s)
       ≡ elim o [ None ↦ Stops (outcome.Wrong Index) | Some w ↦ Goes (conf (p + 1) vs (w ∷ ops) cs s) ]
       → Meets form (conf p vs (i ∷ ops) cs s) (Value form cs total (conf p vs (i ∷ ops) cs s) v most vs (p + 1) ops) (elim o [ None ↦ Wrong Index s.output | Some w ↦ Gives w s ])
@@ -81,7 +81,7 @@ module _ (form : FormTree) (cs : List Activation) (total : ℕ) where
   -- what the instruction does, by what is in the array
   element_move : (v : Environment) (most : ℕ) (vs ops : List ℕ) (p i : ℕ) (x : List ℕ) (s : State) → Fits v total most vs s
       → instruction_move form (instruction.Element (extent_of v.layout.objects x)) (conf p vs (i ∷ ops) cs s)
-      ≡ elim (slice_get (words_of s.globals x) i) [ None ↦ Stops (outcome.Wrong Index) | Some w ↦ Goes (conf p vs (w ∷ ops) cs s) ]
+      ≡ elim (slice_get (global_words s.globals x) i) [ None ↦ Stops (outcome.Wrong Index) | Some w ↦ Goes (conf p vs (w ∷ ops) cs s) ]
   element_move v most vs ops p i x s h =
       let ext : Extent = extent_of v.layout.objects x in
       let f = found_object v total most vs s x h in
@@ -89,19 +89,19 @@ module _ (form : FormTree) (cs : List Activation) (total : ℕ) where
       elim (leb_tells (suc i) ext.length) [
         | inl t ↦
             (let lt : i < ext.length = t.1 in
-            let got = there (words_of s.globals x) i (let k = f.size in omega arith) in
+            let got = there (global_words s.globals x) i (let k = f.size in omega arith) in
             ap (λ b. if b then going else Stops (outcome.Wrong Index)) t.0
             ∙ ap (λ (o : Option ℕ). with_word o (λ w. Goes (conf p vs (w ∷ ops) cs s))) (f.reads i lt ∙ got.1)
             ∙ ap (λ (o : Option ℕ). elim o [ None ↦ Stops (outcome.Wrong Index) | Some w ↦ Goes (conf p vs (w ∷ ops) cs s) ]) (sym got.1))
         | inr t ↦
-            (let past : slice_get (words_of s.globals x) i ≡ None = get_past (words_of s.globals x) i (let k = f.size in let u = t.1 in omega arith) in
+            (let past : slice_get (global_words s.globals x) i ≡ None = get_past (global_words s.globals x) i (let k = f.size in let u = t.1 in omega arith) in
             ap (λ b. if b then going else Stops (outcome.Wrong Index)) t.0
             ∙ ap (λ (o : Option ℕ). elim o [ None ↦ Stops (outcome.Wrong Index) | Some w ↦ Goes (conf p vs (w ∷ ops) cs s) ]) (sym past))
       ]
 
   pub element_meets : (v : Environment) (most : ℕ) (vs ops : List ℕ) (p i : ℕ) (x : List ℕ) (s : State) → slice_get form.code p ≡ Some (instruction.Element (extent_of v.layout.objects x)) → Fits v total most vs s
       → Meets form (conf p vs (i ∷ ops) cs s) (Value form cs total (conf p vs (i ∷ ops) cs s) v most vs (p + 1) ops) (read_element x i s)
-  element_meets v most vs ops p i x s e h = element_by v most vs ops p i x s (slice_get (words_of s.globals x) i) e h refl (element_move v most vs ops (p + 1) i x s h)
+  element_meets v most vs ops p i x s e h = element_by v most vs ops p i x s (slice_get (global_words s.globals x) i) e h refl (element_move v most vs ops (p + 1) i x s h)
 
   -- ---- operators
 

@@ -7,7 +7,7 @@ use Rattle.cc_meaning.specs.declared.form.Instruction.TheVariants as instruction
 use Rattle.cc_meaning.specs.internal.Form.{FormTree, load}
 use Rattle.cc_resolve.specs.Environment.{Environment, number_in}
 use Rattle.cc_resolve.specs.Layout.{extent_of}
-use Rattle.cc_c_laws.specs.Meaning.{State, local_word, words_of, with_local_word, with_element, variable_word, stored}
+use Rattle.cc_c_laws.specs.Meaning.{State, local_word, global_words, with_local_word, with_element, variable_word, stored}
 use Rattle.cc_meaning.specs.internal.FormMeaning.{Activation, Goes, instruction_move, with_word}
 use Rattle.cc_c_laws.proofs.Named.{there}
 use Rattle.cc_c_laws.proofs.Held.{names_of, words_in, reads_local, no_local, writes_local, all_of, layout_from, Finds, finds, layout_keep, length_slice_set, get_below}
@@ -38,21 +38,21 @@ load_local form v total most p vs ops cs s x i h e =
     let here : slice_get vs i ≡ Some r.word = ap (λ (l : List ℕ). slice_get l i) h.holds ∙ r.by_number in
     ap (λ (o : Option ℕ). instruction_move form (elim o [ None ↦ instruction.Global (extent_of v.layout.objects x).offset | Some k ↦ instruction.Local k ]) (conf p vs ops cs s)) e
     ∙ ap (λ (o : Option ℕ). with_word o (λ w. Goes (conf p vs (w ∷ ops) cs s))) here
-    ∙ ap (λ (o : Option ℕ). Goes (conf p vs (unwrap_or o (unwrap_or (slice_get (words_of s.globals x) 0) 0) ∷ ops) cs s)) (sym r.by_name)
+    ∙ ap (λ (o : Option ℕ). Goes (conf p vs (unwrap_or o (unwrap_or (slice_get (global_words s.globals x) 0) 0) ∷ ops) cs s)) (sym r.by_name)
 
 load_global : (form : FormTree) (v : Environment) (total most p : ℕ) (vs ops : List ℕ) (cs : List Activation) (s : State) (x : List ℕ) → Fits v total most vs s → number_in v.locals x ≡ None
     → (extent_of v.layout.objects x).length ≡ 1 → instruction_move form (load v x) (conf p vs ops cs s) ≡ Goes (conf p vs (variable_word x s ∷ ops) cs s)
 load_global form v total most p vs ops cs s x h e one =
     let offset : ℕ = (extent_of v.layout.objects x).offset in
     let f = found_object v total most vs s x h in
-    let got = there (words_of s.globals x) 0 (let k = f.size in omega arith) in
+    let got = there (global_words s.globals x) 0 (let k = f.size in omega arith) in
     let here : slice_get (all_of s.globals) offset ≡ Some got.0 =
     ap (λ k. slice_get (all_of s.globals) k) (let z : offset ≡ offset + 0 = omega arith in z) ∙ f.reads 0 (omega arith) ∙ got.1 in
     let none : local_word s.locals x ≡ None = no_local s.locals x (ap (λ ns. number_in ns x) h.names ∙ e) in
     ap (λ (o : Option ℕ). instruction_move form (elim o [ None ↦ instruction.Global (extent_of v.layout.objects x).offset | Some k ↦ instruction.Local k ]) (conf p vs ops cs s)) e
     ∙ ap (λ (o : Option ℕ). with_word o (λ w. Goes (conf p vs (w ∷ ops) cs s))) here
     ∙ ap (λ (o : Option ℕ). Goes (conf p vs (unwrap_or o 0 ∷ ops) cs s)) (sym got.1)
-    ∙ ap (λ (o : Option ℕ). Goes (conf p vs (unwrap_or o (unwrap_or (slice_get (words_of s.globals x) 0) 0) ∷ ops) cs s)) (sym none)
+    ∙ ap (λ (o : Option ℕ). Goes (conf p vs (unwrap_or o (unwrap_or (slice_get (global_words s.globals x) 0) 0) ∷ ops) cs s)) (sym none)
 
 pub load_move : (form : FormTree) (v : Environment) (total most p : ℕ) (vs ops : List ℕ) (cs : List Activation) (s : State) (x : List ℕ) → Fits v total most vs s → Readable v x
     → instruction_move form (load v x) (conf p vs ops cs s) ≡ Goes (conf p vs (variable_word x s ∷ ops) cs s)

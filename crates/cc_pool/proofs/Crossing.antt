@@ -29,7 +29,7 @@ use Rattle.cc_ltl.specs.contracts.block.Moves.TheInside as moves
 use Rattle.cc_ltl.specs.contracts.block.Block as Block
 use Rattle.cc_ltl.specs.contracts.ltl.Ltl as Ltl
 use Rattle.cc_ltl.specs.contracts.ltl.Ltl.TheInside as ltl
-use Rattle.cc_emit.specs.contracts.item.Item as Word
+use Rattle.cc_emit.specs.contracts.item.PieceItem as Word
 use Rattle.cc_emit.specs.contracts.piece.Piece as Piece
 use Rattle.cc_emit.specs.contracts.piece.Piece.TheInside as piece
 use Rattle.cc_pool.specs.contracts.answer.Refusal as Refusal

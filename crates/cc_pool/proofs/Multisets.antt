@@ -5,7 +5,7 @@ use Rattle.std.specs.Prelude.{IsPermutation}
 use Rattle.std.proofs.lemmas.List.Sums.{sum_by-cons, sum_by-append}
 use Rattle.std.proofs.lemmas.List.Sorted.{IsPermutation-refl, IsPermutation-cons, IsPermutation-trans, IsPermutation-sym, IsPermutation-middle}
 use Rattle.std.proofs.lemmas.Bool.Decides.{nat_tests}
-use Rattle.cc_pool.specs.Job.{Task}
+use Rattle.cc_pool.specs.Job.{JobFunction}
 use Rattle.cc_pool.specs.declared.item.Item.{Item}
 use Rattle.cc_pool.specs.declared.item.Item.TheVariants.{Piece, Stop}
 use Rattle.cc_pool.specs.Rule.{SameItems}
@@ -27,7 +27,7 @@ is_item (Piece a) Stop = 0
 is_item Stop (Piece b) = 0
 is_item Stop Stop = 1
 
-both_same : (a b : Task) → 0 < cond (eqb a.job b.job) (same a.function b.function) 0 → (a.job ≡ b.job) × (a.function ≡ b.function)
+both_same : (a b : JobFunction) → 0 < cond (eqb a.job b.job) (same a.function b.function) 0 → (a.job ≡ b.job) × (a.function ≡ b.function)
 both_same a b p = (grind (arith, nat_tests), grind (arith, nat_tests))
 
 item_self : (x : Item) → is_item x x ≡ 1

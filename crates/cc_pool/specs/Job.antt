@@ -2,7 +2,7 @@
 use Rattle.std.specs.Prelude.{ℕ, List}
 
 -- a function of a job: both by their numbers
-pub record Task : Type 0 where
+pub record JobFunction : Type 0 where
   pub job : ℕ
   pub function : ℕ
 

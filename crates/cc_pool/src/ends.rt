@@ -29,19 +29,19 @@ struct Queue {
 }
 
 /// A queue with nothing in it, for one pool, that no type names yet. Contracts see its name.
-pub struct Fresh {
+pub struct FreshQueue {
     queue: Queue,
     pass: Place,
 }
 
 // By hand, so that crates above call it and do not prove anew how each part is dropped.
-impl Drop for Fresh {
+impl Drop for FreshQueue {
     fn drop(self) {
-        let Fresh { queue, pass } = self;
+        let FreshQueue { queue, pass } = self;
     }
 }
 
-impl Model for Fresh {
+impl Model for FreshQueue {
     ghost use Rattle.std.specs.Prelude.{◌≡◌};
     ghost use Rattle.crossbeam_channel.specs.Ends.{sends_on, receives_on};
     ghost use Rattle.cc_pool.specs.Queue.{QueueName, name_of, IsSeatOf, known};
@@ -91,11 +91,11 @@ impl<N: Queued> Model for Ends<N> {
     ghost invariant = { λ e. (name_of (sends_on e.queue.sender) ≡ N.queue) × (name_of (receives_on e.queue.receiver) ≡ N.queue) };
 }
 
-impl Fresh {
+impl FreshQueue {
     /// A queue with nothing in it.
-    pub fn new(alloc: Global) -> Result<Fresh, AllocError> {
+    pub fn new(alloc: Global) -> Result<FreshQueue, AllocError> {
         let (sender, receiver, pass) = bounded_with::<Item, Hand, Law, Global>(alloc, PLACES)?;
-        Ok(Fresh {
+        Ok(FreshQueue {
             queue: Queue { sender, receiver },
             pass,
         })
@@ -106,7 +106,7 @@ impl Fresh {
         requires { self ≡ N.queue }
         ensures { result.1 ≡ first_hand }
     {
-        let Fresh { queue, pass } = self;
+        let FreshQueue { queue, pass } = self;
         let ends = Ends {
             queue,
             of: PhantomData,

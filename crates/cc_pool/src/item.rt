@@ -36,9 +36,9 @@ impl Model for Order {
     ghost use Rattle.cc_ast.specs.Source.{source};
     ghost use Rattle.cc_types.specs.Typed.{defined_names};
     ghost use Rattle.cc_types.specs.Limits.{most_functions};
-    ghost use Rattle.cc_pool.specs.Job.{Task};
+    ghost use Rattle.cc_pool.specs.Job.{JobFunction};
 
-    ghost Value = { Task };
+    ghost Value = { JobFunction };
 
     ghost view = { λ o. record { job = o.job; function = o.function } };
 

@@ -23,7 +23,7 @@ mod seats;
 mod ticket;
 mod worker;
 
-pub use ends::Fresh;
+pub use ends::FreshQueue;
 pub use fault::PoolFault;
 pub use gate::{Gate, NoGate};
 pub use named::Queued;

@@ -10,7 +10,7 @@ ghost use Rattle.cc_pool.specs.Fault.{IsJobRefusal};
 ghost use Rattle.cc_pool.specs.Shared.{pieces_of, HasSentSome, IsDrained};
 
 use crate::answer::Answer;
-use crate::ends::{Ends, Fresh};
+use crate::ends::{Ends, FreshQueue};
 use crate::fault::PoolFault;
 use crate::gate::Gate;
 use crate::hiring::{dismiss, hire, take_in};
@@ -65,7 +65,7 @@ impl<N: Queued + Send + Sync + 'static> Pool<N> {
     pub fn start<R, G>(
         rt: &R,
         alloc: Global,
-        fresh: Fresh,
+        fresh: FreshQueue,
         workers: usize,
         gate: G,
     ) -> Result<Pool<N>, PoolFault>

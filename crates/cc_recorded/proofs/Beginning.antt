@@ -5,7 +5,7 @@ use Rattle.std.specs.FinMap.{empty}
 use Rattle.cc_disk.specs.Images.{LeavesAlone}
 use Rattle.cc_disk.specs.Model.{bytes_of, IsImage, settled}
 use Rattle.cc_journal.specs.Format.{HoldsRecords, records}
-use Rattle.cc_library.specs.declared.command.Command as made
+use Rattle.cc_library.specs.declared.command.LibraryCommand.{LibraryCommand}
 use Rattle.cc_library.specs.Apply.{AreAccepted, library_of}
 use Rattle.cc_library.specs.Recovered.{StandFor}
 use Rattle.cc_core.specs.declared.command.Numbered.{Numbered}
@@ -26,16 +26,16 @@ use Rattle.cc_recorded.specs.Core.{IsBeside, IsPhase, Shows, ShowsDisk, ShowsOrd
 
 -- ---- commands with their numbers
 
-numbered_from : ℕ → List made.Command → List Numbered
+numbered_from : ℕ → List LibraryCommand → List Numbered
 numbered_from k [] = []
 numbered_from k (c ∷ cs) = record { number = record { value = k }; command = c } ∷ numbered_from (k + 1) cs
 
-commands_of : (k : ℕ) (cs : List made.Command) → commands (numbered_from k cs) ≡ cs
+commands_of : (k : ℕ) (cs : List LibraryCommand) → commands (numbered_from k cs) ≡ cs
 unfolding numbered_from
 commands_of k [] = refl
-commands_of k (c ∷ cs) = ap (λ (l : List made.Command). c ∷ l) (commands_of (k + 1) cs)
+commands_of k (c ∷ cs) = ap (λ (l : List LibraryCommand). c ∷ l) (commands_of (k + 1) cs)
 
-number_at : (k : ℕ) (cs : List made.Command) (i : ℕ) (a : Numbered) → slice_get (numbered_from k cs) i ≡ Some a → (a.number.value ≡ k + i) × (i < length cs)
+number_at : (k : ℕ) (cs : List LibraryCommand) (i : ℕ) (a : Numbered) → slice_get (numbered_from k cs) i ≡ Some a → (a.number.value ≡ k + i) × (i < length cs)
 unfolding numbered_from
 number_at k [] i a at = absurd (cc)
 number_at k (c ∷ cs) zero a at =
@@ -43,7 +43,7 @@ number_at k (c ∷ cs) zero a at =
     (sym (ap (λ (n : Numbered). n.number.value) same) ∙ omega arith, omega arith)
 number_at k (c ∷ cs) (suc i) a at = let rest = number_at (k + 1) cs i a at in (omega (arith, rest.0), omega (arith, rest.1))
 
-rising : (cs : List made.Command) → AreRising (numbered_from 0 cs)
+rising : (cs : List LibraryCommand) → AreRising (numbered_from 0 cs)
 rising cs i j a b less at_i at_j = omega (arith, (number_at 0 cs i a at_i).0, (number_at 0 cs j b at_j).0, less)
 
 -- ---- a settled disk
@@ -86,7 +86,7 @@ module _ {D P : Type 0} (seen : D → List ℕ) (may_leave : D → List ℕ → 
             earlier = stand.commands;
             base = sym stand.map_is ∙ sym same;
             accepted = stand.accepted;
-            acked = cs ∙ sym (nothing_behind stand.commands) ∙ ap (λ (l : List made.Command). stand.commands ++ l) (sym (ap changes none));
+            acked = cs ∙ sym (nothing_behind stand.commands) ∙ ap (λ (l : List LibraryCommand). stand.commands ++ l) (sym (ap changes none));
             failing = [];
             in_order = sym (nothing_behind order);
             failed = sym none_failed;
@@ -103,7 +103,7 @@ module _ {D P : Type 0} (seen : D → List ℕ) (may_leave : D → List ℕ → 
         record {
           phase = refl;
           library = sym leads;
-          accepted = subst (λ (l : List made.Command). AreAccepted empty l) (sym cs) stand.accepted;
+          accepted = subst (λ (l : List LibraryCommand). AreAccepted empty l) (sym cs) stand.accepted;
           rising = rising stand.commands;
           below = λ k a at. let n = number_at 0 stand.commands k a at in omega (arith, n.0, n.1);
           acknowledged = refl;

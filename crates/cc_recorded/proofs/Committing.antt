@@ -3,7 +3,7 @@ use Rattle.std.proofs.Common.{◌≡◌, ◌≢◌, ℕ, zero, suc, ◌+◌, inl
 use Rattle.std.specs.Prelude.{◌==◌, IsOk, if◌then◌else◌}
 use Rattle.cc_disk.specs.declared.disk.Disk.{Ghosts}
 use Rattle.cc_disk.specs.Images.{LeavesOnly}
-use Rattle.cc_library.specs.declared.command.Command as made
+use Rattle.cc_library.specs.declared.command.LibraryCommand as made
 use Rattle.cc_library.specs.declared.fault.LibraryFault.{LibraryFault}
 use Rattle.cc_library.specs.declared.fault.LibraryFault.TheVariants as fault
 use Rattle.cc_library.specs.Apply.{Units, after, after_all}
@@ -90,12 +90,12 @@ still moment may_leave left_since disk units units' only_now alone = record {
 pub alone_of : {D : Type 0} (honest : Bool) (may_leave : D → List ℕ → Type 0) (named : Units) (total : ℕ) (book : BookView D)
     → IsRecordedLibrary honest may_leave named total book → book.library.closed ≡ false → IsTrue honest → (image : List ℕ) → may_leave book.library.disk image → RecoversAlone image book.library.units
 alone_of honest may_leave named total book kept idle h image left =
-    subst (λ (failed : List made.Command). RecoversTo book.library.units failed image) (kept.idle idle) (kept.images h image left)
+    subst (λ (failed : List made.LibraryCommand). RecoversTo book.library.units failed image) (kept.idle idle) (kept.images h image left)
 
 -- ---- what the library answered
 
 -- a refusal without a device call leaves the library
-pub untouched : {D : Type 0} (change : made.Command) (old new : View D) (f : LibraryFault) → f ≢ fault.DiskFault → answers.ChangeLeaves {T = Unit {0}} change old new (Err f) → new ≡ old
+pub untouched : {D : Type 0} (change : made.LibraryCommand) (old new : View D) (f : LibraryFault) → f ≢ fault.DiskFault → answers.ChangeLeaves {T = Unit {0}} change old new (Err f) → new ≡ old
 untouched change old new fault.DiskFault away leaves = absurd (away refl)
 untouched change old new fault.Closed away leaves = leaves
 untouched change old new fault.Exists away leaves = leaves
@@ -149,33 +149,33 @@ change_agrees (commands.Add name unit) agrees = agrees
 change_agrees (commands.Replace name unit) agrees = agrees
 change_agrees (commands.Withdraw name) agrees = tt
 
-only_agreed : (c : made.Command) → AgreedChange c → AllAgreed (c ∷ [])
+only_agreed : (c : made.LibraryCommand) → AgreedChange c → AllAgreed (c ∷ [])
 only_agreed c agrees zero d at = let same : c ≡ d = cc in subst AgreedChange same agrees
 only_agreed c agrees (suc k) d at = absurd (cc)
 
 -- the type keeps what it keeps
-pub keeps_failed : {D : Type 0} (honest : Bool) (may_leave : D → List ℕ → Type 0) (named : Units) (total : ℕ) (before : BookView D) (new_library : View D) (history : List Entry) (failed : List made.Command) (command : Command) (change : made.Command)
+pub keeps_failed : {D : Type 0} (honest : Bool) (may_leave : D → List ℕ → Type 0) (named : Units) (total : ℕ) (before : BookView D) (new_library : View D) (history : List Entry) (failed : List made.LibraryCommand) (command : Command) (change : made.LibraryCommand)
     → IsRecordedLibrary honest may_leave named total before → HasAgreed command → history ≡ before.history → failed ≡ before.failed ++ change ∷ [] → before.library.closed ≡ false
     → new_library ≡ record before.library { disk = new_library.disk; closed = true } → change ≡ change_of command
     → (IsTrue honest → (image : List ℕ) → may_leave new_library.disk image → RecoversOneOf before.library.units (after before.library.units change) image)
     → (failed ≡ change_of command ∷ []) × IsRecordedLibrary honest may_leave named total (record before { library = new_library; history = history; failed = failed })
 keeps_failed honest may_leave named total before new_library history failed command change book agrees history_is failed_is idle library_is change_is images =
     let none = book.idle idle in
-    let one : failed ≡ change ∷ [] = failed_is ∙ ap (λ (l : List made.Command). l ++ change ∷ []) none in
+    let one : failed ≡ change ∷ [] = failed_is ∙ ap (λ (l : List made.LibraryCommand). l ++ change ∷ []) none in
     let units : new_library.units ≡ before.library.units = ap (λ (v : View _). v.units) library_is in
     let shut : new_library.closed ≡ true = ap (λ (v : View _). v.closed) library_is in (
-      one ∙ ap (λ (c : made.Command). c ∷ []) change_is,
+      one ∙ ap (λ (c : made.LibraryCommand). c ∷ []) change_is,
       record {
         replays = subst (λ (c : Chronicle). Replays c) (λ i. record { base = before.base; units = sym units i; history = sym history_is i }) book.replays;
         agreed = subst HaveAgreed (sym history_is) book.agreed;
-        agreed_failed = subst (λ (l : List made.Command). AllAgreed l) (sym one) (only_agreed change (subst (λ (c : made.Command). AgreedChange c) (sym change_is) (change_agrees command agrees)));
+        agreed_failed = subst (λ (l : List made.LibraryCommand). AllAgreed l) (sym one) (only_agreed change (subst (λ (c : made.LibraryCommand). AgreedChange c) (sym change_is) (change_agrees command agrees)));
         counted = book.counted ∙ ap length (sym history_is);
         base = book.base;
         idle = λ not. absurd (cc (shut, not));
         one = omega (arith, ap length one);
         images = λ h image left.
             subst (λ (u : Units). RecoversTo u failed image) (sym units)
-            (subst (λ (l : List made.Command). RecoversTo before.library.units l image) (sym one) (images h image left));
+            (subst (λ (l : List made.LibraryCommand). RecoversTo before.library.units l image) (sym one) (images h image left));
       },
     )
 
@@ -186,7 +186,7 @@ pub no_call_between : {Disk : Type 0} (D : Ghosts Disk) (book : BookView Disk) (
     → LeavesOnly D.moment D.left_since book.library.disk book.library.disk (RecoversOneOf book.library.units next)
 no_call_between D book next only_now images idle h usable = record {
   later = omega arith;
-  each = λ image left. inl (subst (λ (l : List made.Command). RecoversTo book.library.units l image) (idle usable) (images h image (only_now h image left)));
+  each = λ image left. inl (subst (λ (l : List made.LibraryCommand). RecoversTo book.library.units l image) (idle usable) (images h image (only_now h image left)));
   before = λ t image earlier left. inl left;
 }
 

@@ -13,8 +13,8 @@ use Rattle.cc_disk.proofs.Images.{bytes_of-synced}
 use Rattle.cc_journal.specs.Commit.{Commit, FailsIn, IsCommitted, append_commit, area_begin}
 use Rattle.cc_journal.specs.Format.{HasAreaByte, HoldsRecords, records}
 use Rattle.cc_journal.proofs.Records.{length-records_push, length-four_bytes}
-use Rattle.cc_library.specs.declared.command.Command as made
-use Rattle.cc_library.specs.declared.command.Command.TheVariants as change
+use Rattle.cc_library.specs.declared.command.LibraryCommand.{LibraryCommand}
+use Rattle.cc_library.specs.declared.command.LibraryCommand.TheVariants as change
 use Rattle.cc_library.specs.Apply.{Units, apply, after, exists, absent}
 use Rattle.cc_library.specs.Answers.{commit_of, room_with}
 use Rattle.cc_library.specs.Body.{body_of}
@@ -69,7 +69,7 @@ to_present : (there : Bool) (made : Units) → (if there then None else Some ref
 to_present true made = refl
 to_present false made = refl
 
-map_refuses : (units : Units) (c : made.Command) → job.map_refusal units c ≡ refusal_of (reply_of_change (apply units c))
+map_refuses : (units : Units) (c : LibraryCommand) → job.map_refusal units c ≡ refusal_of (reply_of_change (apply units c))
 map_refuses units (change.Add name unit) = to_add (contains_key units name) (insert units name unit)
 map_refuses units (change.Replace name unit) = to_present (contains_key units name) (insert units name unit)
 map_refuses units (change.Withdraw name) = to_present (contains_key units name) (remove units name)
@@ -78,14 +78,14 @@ ok_is_done : (r : Result Units ℕ) → IsOk r → refusal_of (reply_of_change r
 ok_is_done (Ok made) ok = refl
 ok_is_done (Err number) ok = absurd (cc)
 
-pub closed_phase : (failed : List made.Command) (phase : Phase) → IsPhase true failed phase → (job.closed phase ≡ Some refusal.Closed) × IsFree phase
+pub closed_phase : (failed : List LibraryCommand) (phase : Phase) → IsPhase true failed phase → (job.closed phase ≡ Some refusal.Closed) × IsFree phase
 closed_phase [] phase is = (ap job.closed is, subst IsFree (sym is) tt)
 closed_phase (c ∷ failed) phase is = (ap job.closed is.2, subst IsFree (sym is.2) tt)
 
-pub open_phase : (failed : List made.Command) (phase : Phase) → IsPhase false failed phase → (job.closed phase ≡ None) × IsFree phase
+pub open_phase : (failed : List LibraryCommand) (phase : Phase) → IsPhase false failed phase → (job.closed phase ≡ None) × IsFree phase
 open_phase failed phase is = (ap job.closed is.1, subst IsFree (sym is.1) tt)
 
-pub phase_at : (closed : Bool) (failed : List made.Command) (phase : Phase) (b : Bool) → closed ≡ b → IsPhase closed failed phase → IsPhase b failed phase
+pub phase_at : (closed : Bool) (failed : List LibraryCommand) (phase : Phase) (b : Bool) → closed ≡ b → IsPhase closed failed phase → IsPhase b failed phase
 phase_at closed failed phase b is here = subst (λ (c : Bool). IsPhase c failed phase) is here
 
 -- ---- the order
@@ -105,7 +105,7 @@ module _ {D : Type 0} where
     earlier = shows.earlier;
     base = shows.base ∙ sym base;
     accepted = shows.accepted;
-    acked = shows.acked ∙ ap (λ (l : List made.Command). shows.earlier ++ l) (sym same);
+    acked = shows.acked ∙ ap (λ (l : List LibraryCommand). shows.earlier ++ l) (sym same);
     failing = shows.failing;
     in_order = shows.in_order;
     failed = shows.failed ∙ sym failed;
@@ -125,9 +125,9 @@ module _ {D : Type 0} where
     accepted = shows.accepted;
     acked =
         map-append (λ (n : Numbered). n.command) acknowledged (one ∷ [])
-        ∙ ap (λ (l : List made.Command). l ++ one.command ∷ []) shows.acked
+        ∙ ap (λ (l : List LibraryCommand). l ++ one.command ∷ []) shows.acked
         ∙ append_assoc shows.earlier (changes before.history) (one.command ∷ [])
-        ∙ ap (λ (l : List made.Command). shows.earlier ++ l) (sym more);
+        ∙ ap (λ (l : List LibraryCommand). shows.earlier ++ l) (sym more);
     failing = [];
     in_order = ap (λ (l : List Numbered). l ++ one ∷ []) (all_acked before order acknowledged shows none) ∙ sym (nothing_behind (acknowledged ++ one ∷ []));
     failed = sym still;
@@ -140,7 +140,7 @@ module _ {D : Type 0} where
     earlier = shows.earlier;
     base = shows.base ∙ sym base;
     accepted = shows.accepted;
-    acked = shows.acked ∙ ap (λ (l : List made.Command). shows.earlier ++ l) (sym same);
+    acked = shows.acked ∙ ap (λ (l : List LibraryCommand). shows.earlier ++ l) (sym same);
     failing = one ∷ [];
     in_order = ap (λ (l : List Numbered). l ++ one ∷ []) (all_acked before order acknowledged shows none);
     failed = sym failed;
@@ -165,27 +165,27 @@ length-written cells offset bytes fits =
 
 module _ {D : Type 0} (seen : D → List ℕ) (may_leave : D → List ℕ → Type 0) where
   -- the commit of a change is that of the store
-  same_commit : (view : View D) (store : StoreState) (c : made.Command) → store.area ≡ view.area → store.used ≡ length (records view.bodies) → commit_of store.area_byte view c ≡ append_of store c
+  same_commit : (view : View D) (store : StoreState) (c : LibraryCommand) → store.area ≡ view.area → store.used ≡ length (records view.bodies) → commit_of store.area_byte view c ≡ append_of store c
   same_commit view store c area used = λ i. append_commit (area_begin store.area_byte (sym area i) + sym used i) (body_of c)
 
   pub has_byte : (view : View D) (store : StoreState) (h : HoldsRecords (seen view.disk) view.area view.bodies) → h.area_byte ≡ store.area_byte → HasAreaByte (seen view.disk) store.area_byte view.area
   has_byte view store h same = subst (λ (b : ℕ). HasAreaByte (seen view.disk) b view.area) same (_, h.bytes)
 
   -- the store after the first two steps of a commit, and after all four
-  abbrev staged_store : made.Command → StoreState → StoreState
+  abbrev staged_store : LibraryCommand → StoreState → StoreState
   staged_store c store = stepped due.SyncBody c (stepped due.WriteBody c store)
 
-  abbrev stored : made.Command → StoreState → StoreState
+  abbrev stored : LibraryCommand → StoreState → StoreState
   stored c store = stepped due.SyncGate c (stepped due.WriteGate c (staged_store c store))
 
-  abbrev done_view : View D → made.Command → D → Units → View D
+  abbrev done_view : View D → LibraryCommand → D → Units → View D
   done_view view c disk units = record { disk = disk; area = view.area; bodies = view.bodies ++ body_of c ∷ []; units = units; closed = false }
 
   abbrev failed_view : View D → D → View D
   failed_view view disk = record view { disk = disk; closed = true }
 
   -- a change that was done
-  disk_done : (honest : Bool) (view : View D) (store : StoreState) (c : made.Command) (disk : D) (units : Units) → ShowsDisk honest seen may_leave view store → view.closed ≡ false
+  disk_done : (honest : Bool) (view : View D) (store : StoreState) (c : LibraryCommand) (disk : D) (units : Units) → ShowsDisk honest seen may_leave view store → view.closed ≡ false
       → (IsTrue honest → HoldsRecords (seen disk) view.area (view.bodies ++ body_of c ∷ [])
       × ((area_byte : ℕ) → HasAreaByte (seen view.disk) area_byte view.area → IsCommitted (commit_of area_byte view c) (seen view.disk) (seen disk) × LeavesAlone (seen disk) (may_leave disk)))
       → ShowsDisk honest seen may_leave (done_view view c disk units) (stored c store)
@@ -208,7 +208,7 @@ module _ {D : Type 0} (seen : D → List ℕ) (may_leave : D → List ℕ → Ty
       }
 
   -- a commit fits the disk
-  fits_disk : (view : View D) (store : StoreState) (c : made.Command) (h : HoldsRecords (seen view.disk) view.area view.bodies) → store.area ≡ view.area → store.used ≡ length (records view.bodies) → bytes_of store.cells ≡ seen view.disk
+  fits_disk : (view : View D) (store : StoreState) (c : LibraryCommand) (h : HoldsRecords (seen view.disk) view.area view.bodies) → store.area ≡ view.area → store.used ≡ length (records view.bodies) → bytes_of store.cells ≡ seen view.disk
       → room_with view c ≤ view.area → ((append_of store c).offset + length (append_of store c).bytes ≤ length store.cells) × ((append_of store c).deciding_offset + 1 ≤ length store.cells)
   fits_disk view store c h area used bytes room =
       let most = begin_most store.area_byte store.area in
@@ -219,13 +219,13 @@ module _ {D : Type 0} (seen : D → List ℕ) (may_leave : D → List ℕ → Ty
       (omega (arith, most, size, long, more, space, room, area, used), omega (arith, most, size, more, space, room, area, used))
 
   -- a change in which the device failed, in the core's first write, or in its second
-  abbrev FailsFirst : Bool → View D → StoreState → made.Command → D → Type 0
+  abbrev FailsFirst : Bool → View D → StoreState → LibraryCommand → D → Type 0
   FailsFirst honest view store c disk = (new : StoreState) × FailsTo due.WriteBody c store new × ShowsDisk honest seen may_leave (failed_view view disk) new
 
-  abbrev FailsLast : Bool → View D → StoreState → made.Command → D → Type 0
+  abbrev FailsLast : Bool → View D → StoreState → LibraryCommand → D → Type 0
   FailsLast honest view store c disk = (new : StoreState) × FailsTo due.WriteGate c (staged_store c store) new × ShowsDisk honest seen may_leave (failed_view view disk) new
 
-  failed_first_disk : (view : View D) (store : StoreState) (c : made.Command) (disk : D) → ShowsDisk true seen may_leave view store → view.closed ≡ false → room_with view c ≤ view.area
+  failed_first_disk : (view : View D) (store : StoreState) (c : LibraryCommand) (disk : D) → ShowsDisk true seen may_leave view store → view.closed ≡ false → room_with view c ≤ view.area
       → ((image : List ℕ) → may_leave disk image → DiffersWithin (append_of store c).offset (length (append_of store c).bytes) (seen view.disk) image) → may_leave disk (seen disk) → FailsFirst true view store c disk
   failed_first_disk view store c disk shows idle room failed now =
       let k = append_of store c in
@@ -247,7 +247,7 @@ module _ {D : Type 0} (seen : D → List ℕ) (may_leave : D → List ℕ → Ty
         },
       )
 
-  failed_last_disk : (view : View D) (store : StoreState) (c : made.Command) (disk : D) → ShowsDisk true seen may_leave view store → view.closed ≡ false → room_with view c ≤ view.area
+  failed_last_disk : (view : View D) (store : StoreState) (c : LibraryCommand) (disk : D) → ShowsDisk true seen may_leave view store → view.closed ≡ false → room_with view c ≤ view.area
       → (was : List ℕ) → IsWritten (seen view.disk) (append_of store c).offset (append_of store c).bytes was → ((image : List ℕ) → may_leave disk image → DiffersWithin (append_of store c).deciding_offset 1 was image) → may_leave disk (seen disk)
       → FailsLast true view store c disk
   failed_last_disk view store c disk shows idle room was first failed now =
@@ -274,7 +274,7 @@ module _ {D : Type 0} (seen : D → List ℕ) (may_leave : D → List ℕ → Ty
         },
       )
 
-  disk_failed : (honest : Bool) (view : View D) (store : StoreState) (c : made.Command) (disk : D) → ShowsDisk honest seen may_leave view store → view.closed ≡ false → room_with view c ≤ view.area
+  disk_failed : (honest : Bool) (view : View D) (store : StoreState) (c : LibraryCommand) (disk : D) → ShowsDisk honest seen may_leave view store → view.closed ≡ false → room_with view c ≤ view.area
       → (IsTrue honest → (area_byte : ℕ) → HasAreaByte (seen view.disk) area_byte view.area → FailsIn (commit_of area_byte view c) (seen view.disk) (may_leave disk)) → (IsTrue honest → may_leave disk (seen disk))
       → FailsFirst honest view store c disk ⊎ FailsLast honest view store c disk
   disk_failed true view store c disk shows idle room fails now =
@@ -283,7 +283,7 @@ module _ {D : Type 0} (seen : D → List ℕ) (may_leave : D → List ℕ → Ty
       elim how [ inl first ↦ inl (failed_first_disk view store c disk shows idle room first (now refl)) | inr last ↦ inr (failed_last_disk view store c disk shows idle room last.0 last.1 last.2 (now refl)) ]
   disk_failed false view store c disk shows idle room fails now = inl (failed_anyhow view store c disk shows)
     where
-      failed_anyhow : (view : View D) (store : StoreState) (c : made.Command) (disk : D) → ShowsDisk false seen may_leave view store → FailsFirst false view store c disk
+      failed_anyhow : (view : View D) (store : StoreState) (c : LibraryCommand) (disk : D) → ShowsDisk false seen may_leave view store → FailsFirst false view store c disk
       failed_anyhow view store c disk shows = (
         with_cells store (written store.cells (append_of store c).offset (append_of store c).bytes),
         ((append_of store c).bytes, refl, refl),
@@ -299,7 +299,7 @@ module _ {D : Type 0} (seen : D → List ℕ) (may_leave : D → List ℕ → Ty
 -- ---- the steps
 
 module _ {D P : Type 0} (rules : Rules P) (honest : Bool) (seen : D → List ℕ) (may_leave : D → List ℕ → Type 0) where
-  verdict_is : (s : Contents P) (client : ClientId) (c : made.Command) (has : Has rules s client c) (why : Option Refusal) → job.command_refusal s.core.phase s.core.library s.core.store c ≡ why
+  verdict_is : (s : Contents P) (client : ClientId) (c : LibraryCommand) (has : Has rules s client c) (why : Option Refusal) → job.command_refusal s.core.phase s.core.library s.core.store c ≡ why
       → job.verdict rules s.core.phase s.core.library s.core.store has.its ≡ job.unless why (Ok c)
   verdict_is s client c has why is = ap (job.accepted s.core.phase s.core.library s.core.store) has.gives ∙ ap (λ (w : Option Refusal). job.unless w (Ok c)) is
 
@@ -307,7 +307,7 @@ module _ {D P : Type 0} (rules : Rules P) (honest : Bool) (seen : D → List ℕ
   abbrev refused_state : Contents P → ClientId → Contents P
   refused_state s client = record s { core = ticked s.core; jobs = remove s.jobs client.number }
 
-  refuses : (s : Contents P) (client : ClientId) (c : made.Command) (has : Has rules s client c) (why : Refusal) → IsFree s.core.phase → job.command_refusal s.core.phase s.core.library s.core.store c ≡ Some why
+  refuses : (s : Contents P) (client : ClientId) (c : LibraryCommand) (has : Has rules s client c) (why : Refusal) → IsFree s.core.phase → job.command_refusal s.core.phase s.core.library s.core.store c ≡ Some why
       → Steps rules s (refused_steps rules client why) (refused_state s client)
   refuses s client c has why free is =
       let verdict = verdict_is s client c has (Some why) is in (
@@ -317,18 +317,18 @@ module _ {D P : Type 0} (rules : Rules P) (honest : Bool) (seen : D → List ℕ
           free = free;
           held = has.held;
           ready = has.there;
-          begun = subst (λ (r : Result made.Command Refusal). Begun s.core client r (Some (replies.Refused why)) (ticked s.core)) (sym verdict) (refl, refl);
-          jobs = subst (λ (r : Result made.Command Refusal). remove s.jobs client.number ≡ jobs_begun s.jobs client r) (sym verdict) refl;
+          begun = subst (λ (r : Result LibraryCommand Refusal). Begun s.core client r (Some (replies.Refused why)) (ticked s.core)) (sym verdict) (refl, refl);
+          jobs = subst (λ (r : Result LibraryCommand Refusal). remove s.jobs client.number ≡ jobs_begun s.jobs client r) (sym verdict) refl;
           workers = refl;
         },
         refl,
       )
 
   -- a beginning that is not refused, and the states of its commit
-  abbrev begun_state : Contents P → ClientId → made.Command → Contents P
+  abbrev begun_state : Contents P → ClientId → LibraryCommand → Contents P
   begun_state s client c = record s { core = record (ticked s.core) { order = s.core.order ++ numbered_now s.core c ∷ []; phase = Committing client (numbered_now s.core c) due.WriteBody } }
 
-  begins : (s : Contents P) (client : ClientId) (c : made.Command) (has : Has rules s client c) → IsFree s.core.phase → job.command_refusal s.core.phase s.core.library s.core.store c ≡ None
+  begins : (s : Contents P) (client : ClientId) (c : LibraryCommand) (has : Has rules s client c) → IsFree s.core.phase → job.command_refusal s.core.phase s.core.library s.core.store c ≡ None
       → BeginsCommit rules client s None (begun_state s client c)
   begins s client c has free is =
       let verdict = verdict_is s client c has None is in
@@ -337,22 +337,22 @@ module _ {D P : Type 0} (rules : Rules P) (honest : Bool) (seen : D → List ℕ
         free = free;
         held = has.held;
         ready = has.there;
-        begun = subst (λ (r : Result made.Command Refusal). Begun s.core client r None (begun_state s client c).core) (sym verdict) (refl, refl);
-        jobs = subst (λ (r : Result made.Command Refusal). s.jobs ≡ jobs_begun s.jobs client r) (sym verdict) refl;
+        begun = subst (λ (r : Result LibraryCommand Refusal). Begun s.core client r None (begun_state s client c).core) (sym verdict) (refl, refl);
+        jobs = subst (λ (r : Result LibraryCommand Refusal). s.jobs ≡ jobs_begun s.jobs client r) (sym verdict) refl;
         workers = refl;
       }
 
-  abbrev at_step : Contents P → ClientId → made.Command → StoreState → Due → Contents P
+  abbrev at_step : Contents P → ClientId → LibraryCommand → StoreState → Due → Contents P
   at_step s client c store next = record s { core = record (begun_state s client c).core { store = store; phase = Committing client (numbered_now s.core c) next } }
 
-  abbrev done_state : Contents P → ClientId → made.Command → StoreState → Contents P
+  abbrev done_state : Contents P → ClientId → LibraryCommand → StoreState → Contents P
   done_state s client c store =
       record s {
         core = record (begun_state s client c).core { store = store; library = after s.core.library c; acknowledged = s.core.acknowledged ++ numbered_now s.core c ∷ []; phase = Idle };
         jobs = remove s.jobs client.number;
       }
 
-  does : (s : Contents P) (client : ClientId) (c : made.Command) (has : Has rules s client c) → IsFree s.core.phase → job.command_refusal s.core.phase s.core.library s.core.store c ≡ None
+  does : (s : Contents P) (client : ClientId) (c : LibraryCommand) (has : Has rules s client c) → IsFree s.core.phase → job.command_refusal s.core.phase s.core.library s.core.store c ≡ None
       → Steps rules s (done_steps rules client) (done_state s client c (stepped due.SyncGate c (stepped due.WriteGate c (stepped due.SyncBody c (stepped due.WriteBody c s.core.store)))))
   does s client c has free is =
       let one = numbered_now s.core c in
@@ -368,11 +368,11 @@ module _ {D P : Type 0} (rules : Rules P) (honest : Bool) (seen : D → List ℕ
       (at_step s client c t3 due.SyncGate, record { core_step = record { client = client; numbered = one; committing = refl; silent = refl; new_is = refl }; jobs = refl; workers = refl }, synced_gate) in
       (begun_state s client c, begins s client c has free is, (at_step s client c t1 due.SyncBody, record { core_step = record { client = client; numbered = one; committing = refl; silent = refl; new_is = refl }; jobs = refl; workers = refl }, (at_step s client c t2 due.WriteGate, record { core_step = record { client = client; numbered = one; committing = refl; silent = refl; new_is = refl }; jobs = refl; workers = refl }, wrote_gate)))
 
-  abbrev failed_state : Contents P → ClientId → made.Command → StoreState → Contents P
+  abbrev failed_state : Contents P → ClientId → LibraryCommand → StoreState → Contents P
   failed_state s client c store =
       record s { core = record (begun_state s client c).core { store = store; phase = Failed (Some (numbered_now s.core c)) }; jobs = remove s.jobs client.number }
 
-  fails_first : (s : Contents P) (client : ClientId) (c : made.Command) (has : Has rules s client c) (store : StoreState) → IsFree s.core.phase → job.command_refusal s.core.phase s.core.library s.core.store c ≡ None
+  fails_first : (s : Contents P) (client : ClientId) (c : LibraryCommand) (has : Has rules s client c) (store : StoreState) → IsFree s.core.phase → job.command_refusal s.core.phase s.core.library s.core.store c ≡ None
       → FailsTo due.WriteBody c s.core.store store → Steps rules s (failed_first rules client) (failed_state s client c store)
   fails_first s client c has store free is fails = (
     begun_state s client c,
@@ -384,7 +384,7 @@ module _ {D P : Type 0} (rules : Rules P) (honest : Bool) (seen : D → List ℕ
     ),
   )
 
-  fails_last : (s : Contents P) (client : ClientId) (c : made.Command) (has : Has rules s client c) (store : StoreState) → IsFree s.core.phase → job.command_refusal s.core.phase s.core.library s.core.store c ≡ None
+  fails_last : (s : Contents P) (client : ClientId) (c : LibraryCommand) (has : Has rules s client c) (store : StoreState) → IsFree s.core.phase → job.command_refusal s.core.phase s.core.library s.core.store c ≡ None
       → FailsTo due.WriteGate c (stepped due.SyncBody c (stepped due.WriteBody c s.core.store)) store → Steps rules s (failed_last rules client) (failed_state s client c store)
   fails_last s client c has store free is fails =
       let one = numbered_now s.core c in
@@ -408,35 +408,35 @@ module _ {D P : Type 0} (rules : Rules P) (honest : Bool) (seen : D → List ℕ
       let free = open_phase book.failed s.core.phase phase in
       (phase.0, free.0, free.1)
 
-  map_answers : (book : BookView D) (s : Contents P) (c : made.Command) (answer : history.Reply) → Shown book s → answer ≡ reply_of_change (apply book.library.units c) → job.map_refusal s.core.library c ≡ refusal_of answer
+  map_answers : (book : BookView D) (s : Contents P) (c : LibraryCommand) (answer : history.Reply) → Shown book s → answer ≡ reply_of_change (apply book.library.units c) → job.map_refusal s.core.library c ≡ refusal_of answer
   map_answers book s c answer shows is = ap (λ (u : Units). job.map_refusal u c) shows.library ∙ map_refuses book.library.units c ∙ ap refusal_of (sym is)
 
-  room_same : (book : BookView D) (s : Contents P) (c : made.Command) → Shown book s → book.library.closed ≡ false → s.core.store.used + (length (body_of c) + 6) ≡ room_with book.library c
+  room_same : (book : BookView D) (s : Contents P) (c : LibraryCommand) → Shown book s → book.library.closed ≡ false → s.core.store.used + (length (body_of c) + 6) ≡ room_with book.library c
   room_same book s c shows idle = omega (arith, shows.disk.used idle, length-records_push book.library.bodies (body_of c))
 
-  fits_is : (book : BookView D) (s : Contents P) (c : made.Command) → Shown book s → book.library.closed ≡ false → room_with book.library c ≤ book.library.area → job.full s.core.store c ≡ None
+  fits_is : (book : BookView D) (s : Contents P) (c : LibraryCommand) → Shown book s → book.library.closed ≡ false → room_with book.library c ≤ book.library.area → job.full s.core.store c ≡ None
   fits_is book s c shows idle fits =
       let same = room_same book s c shows idle in
       let area = shows.disk.area in
       ap (λ (b : Bool). if b then None else Some refusal.Full) (le-leb (s.core.store.used + (length (body_of c) + 6)) s.core.store.area (omega (arith, same, area, fits)))
 
-  over_is : (book : BookView D) (s : Contents P) (c : made.Command) → Shown book s → book.library.closed ≡ false → book.library.area < room_with book.library c → job.full s.core.store c ≡ Some refusal.Full
+  over_is : (book : BookView D) (s : Contents P) (c : LibraryCommand) → Shown book s → book.library.closed ≡ false → book.library.area < room_with book.library c → job.full s.core.store c ≡ Some refusal.Full
   over_is book s c shows idle over =
       let same = room_same book s c shows idle in
       let area = shows.disk.area in
       ap (λ (b : Bool). if b then None else Some refusal.Full) (lt-leb (s.core.store.used + (length (body_of c) + 6)) s.core.store.area (omega (arith, same, area, over)))
 
-  why_is : (s : Contents P) (c : made.Command) (first second third : Option Refusal) → job.closed s.core.phase ≡ first → job.map_refusal s.core.library c ≡ second → job.full s.core.store c ≡ third
+  why_is : (s : Contents P) (c : LibraryCommand) (first second third : Option Refusal) → job.closed s.core.phase ≡ first → job.map_refusal s.core.library c ≡ second → job.full s.core.store c ≡ third
       → job.command_refusal s.core.phase s.core.library s.core.store c ≡ job.first_of_two first (job.first_of_two second third)
   why_is s c first second third a b d = λ i. job.first_of_two (a i) (job.first_of_two (b i) (d i))
 
-  why_closed : (s : Contents P) (c : made.Command) → job.closed s.core.phase ≡ Some refusal.Closed → job.command_refusal s.core.phase s.core.library s.core.store c ≡ Some refusal.Closed
+  why_closed : (s : Contents P) (c : LibraryCommand) → job.closed s.core.phase ≡ Some refusal.Closed → job.command_refusal s.core.phase s.core.library s.core.store c ≡ Some refusal.Closed
   why_closed s c is = ap (λ (w : Option Refusal). job.first_of_two w (job.first_of_two (job.map_refusal s.core.library c) (job.full s.core.store c))) is
 
-  why_map : (s : Contents P) (c : made.Command) (why : Refusal) → job.closed s.core.phase ≡ None → job.map_refusal s.core.library c ≡ Some why → job.command_refusal s.core.phase s.core.library s.core.store c ≡ Some why
+  why_map : (s : Contents P) (c : LibraryCommand) (why : Refusal) → job.closed s.core.phase ≡ None → job.map_refusal s.core.library c ≡ Some why → job.command_refusal s.core.phase s.core.library s.core.store c ≡ Some why
   why_map s c why idle is = λ i. job.first_of_two (idle i) (job.first_of_two (is i) (job.full s.core.store c))
 
-  accepted_here : (book : BookView D) (s : Contents P) (c : made.Command) → Shown book s → IsOk (apply book.library.units c) → job.map_refusal s.core.library c ≡ None
+  accepted_here : (book : BookView D) (s : Contents P) (c : LibraryCommand) → Shown book s → IsOk (apply book.library.units c) → job.map_refusal s.core.library c ≡ None
   accepted_here book s c shows ok = ap (λ (u : Units). job.map_refusal u c) shows.library ∙ map_refuses book.library.units c ∙ ok_is_done (apply book.library.units c) ok
 
   -- a refused call changes nothing but the history, in which it changes nothing
@@ -445,7 +445,7 @@ module _ {D P : Type 0} (rules : Rules P) (honest : Bool) (seen : D → List ℕ
   refused_shown before after s client shows library failed base same = record {
     library = shows.library ∙ ap (λ (v : View D). v.units) (sym library);
     order = order_same before after s.core.order s.core.acknowledged shows.order base same failed;
-    phase = subst (λ (l : List made.Command). IsPhase after.library.closed l s.core.phase) (sym failed) (subst (λ (v : View D). IsPhase v.closed before.failed s.core.phase) (sym library) shows.phase);
+    phase = subst (λ (l : List LibraryCommand). IsPhase after.library.closed l s.core.phase) (sym failed) (subst (λ (v : View D). IsPhase v.closed before.failed s.core.phase) (sym library) shows.phase);
     disk = subst (λ (v : View D). ShowsDisk honest seen may_leave v s.core.store) (sym library) shows.disk;
   }
 
@@ -490,7 +490,7 @@ module _ {D P : Type 0} (rules : Rules P) (honest : Bool) (seen : D → List ℕ
   refused_changes before after_it old new command answer receipt nothing refused =
       ap changes refused.recorded.history ∙ changes-push before.history receipt.entry
       ∙ ap (λ (e : Entry). changes before.history ++ changes_of e.asked e.reply) refused.recorded.answered.entry
-      ∙ ap (λ (l : List made.Command). changes before.history ++ l) nothing ∙ nothing_behind (changes before.history)
+      ∙ ap (λ (l : List LibraryCommand). changes before.history ++ l) nothing ∙ nothing_behind (changes before.history)
 
   ticked_shown : (book : BookView D) (s : Contents P) (client : ClientId) → Shown book s → Shown book (refused_state s client)
   ticked_shown book s client shows = refused_shown book book s client shows refl refl refl refl

@@ -28,7 +28,7 @@ use Rattle.cc_library.specs.contracts.unit.SharedUnit as SharedUnit
 use Rattle.cc_library.specs.contracts.unit.SharedUnit.TheInside as shared
 use Rattle.cc_library.specs.contracts.units.UnitMap as UnitMap
 use Rattle.cc_library.specs.contracts.units.UnitMap.TheInside as maps
-use Rattle.cc_library.specs.contracts.command.Command as Change
+use Rattle.cc_library.specs.contracts.command.LibraryCommand as Change
 use Rattle.cc_library.specs.contracts.library.Library as Library
 use Rattle.cc_library.specs.contracts.library.Library.TheInside as libraries
 use Rattle.cc_history.specs.compiled_contract.CompiledUnit as CompiledUnit

@@ -1,6 +1,6 @@
 -- A commit behind a compaction: what was between is what the compaction left, so 34 does not come.
 use Rattle.std.proofs.Common.{◌≡◌, ◌≢◌, inl, inr, ℕ, ◌<◌, ◌≤◌, Bool, IsTrue, List, [], ◌∷◌, ◌++◌, Result, Ok, Err, refl, sym, ap, ◌∙◌, subst, arith, append_assoc}
-use Rattle.cc_library.specs.declared.command.Command as made
+use Rattle.cc_library.specs.declared.command.LibraryCommand.{LibraryCommand}
 use Rattle.cc_library.specs.Answers.{IsMended, room_with}
 use Rattle.cc_library.specs.Compact.{room_compacted}
 use Rattle.cc_history.specs.declared.command.Command.{Command}
@@ -34,7 +34,7 @@ module _ {D : Type 0} (honest : Bool) (failures : D → ℕ) (seen : D → List 
   -- ---- behind a compaction
 
   -- the record fits there
-  fits_behind : (before between : BookView D) (change : made.Command) → IsMended before.library change → CompactAnswers {T = Unit {0}} failures before between (Ok tt) → room_with between.library change ≤ between.library.area
+  fits_behind : (before between : BookView D) (change : LibraryCommand) → IsMended before.library change → CompactAnswers {T = Unit {0}} failures before between (Ok tt) → room_with between.library change ≤ between.library.area
   fits_behind before between change mended (_, _, _, is) = subst (λ (b : BookView D). room_with b.library change ≤ b.library.area) (sym is) mended.2
 
   not_full : (between after_it : BookView D) (old new : Holder) (command : Command) (result : Result Receipt BookFault) → room_with between.library (change_of command) ≤ between.library.area

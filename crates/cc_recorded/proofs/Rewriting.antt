@@ -7,7 +7,7 @@ use Rattle.cc_disk.specs.internal.Laws.{bytes_are_image}
 use Rattle.cc_disk.proofs.Images.{bytes_of-synced}
 use Rattle.cc_journal.specs.Commit.{Commit, FailsIn, IsCommitted, other_area, rewrite_commit}
 use Rattle.cc_journal.specs.Format.{HasAreaByte, HoldsRecords, records, room_of}
-use Rattle.cc_library.specs.declared.command.Command as made
+use Rattle.cc_library.specs.declared.command.LibraryCommand as made
 use Rattle.cc_library.specs.Apply.{Units}
 use Rattle.cc_library.specs.Answers.{rewrites_in}
 use Rattle.cc_library.specs.Compact.{compacted}
@@ -133,7 +133,7 @@ module _ {D P : Type 0} (rules : Rules P) (honest : Bool) (seen : D → List ℕ
   failed_shown before disk s store shows none area images = record {
     library = shows.library;
     order = order_same before (record before { library = record before.library { disk = disk; closed = true } }) s.core.order s.core.acknowledged shows.order refl refl refl;
-    phase = subst (λ (l : List made.Command). IsPhase true l (Failed None)) (sym none) refl;
+    phase = subst (λ (l : List made.LibraryCommand). IsPhase true l (Failed None)) (sym none) refl;
     disk = record {
       area = area ∙ shows.disk.area;
       used = λ never. absurd (cc never);

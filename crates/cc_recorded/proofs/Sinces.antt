@@ -2,7 +2,7 @@
 use Rattle.std.proofs.Common.{◌≡◌, ◌⊎◌, ℕ, ◌≤◌, inl, inr, false, List, [], ◌∷◌, ◌++◌, length, take, Result, Ok, Err, refl, sym, ap, ◌∙◌, subst, arith, append_assoc, length-append}
 use Rattle.std.proofs.lemmas.List.{take-append-le, take_all}
 use Rattle.cc_disk.specs.Images.{LeavesOnly, OnlyReads}
-use Rattle.cc_library.specs.declared.command.Command as made
+use Rattle.cc_library.specs.declared.command.LibraryCommand.{LibraryCommand}
 use Rattle.cc_library.specs.Apply.{Units, after}
 use Rattle.cc_library.specs.Recovered.{View, RecoversAlone, RecoversOneOf}
 use Rattle.cc_history.specs.declared.command.Command.{Command}
@@ -37,7 +37,7 @@ module _ {D : Type 0} (moment : D → ℕ) (may_leave : D → List ℕ → Type 
 
   -- what held of a shorter history holds of a longer one
   still_holds : (before after_it : BookView D) (more : List Entry) (n : ℕ) (image : List ℕ) → after_it.base ≡ before.base → after_it.history ≡ before.history ++ more
-      → ((c : made.Command) → before.failed ≡ c ∷ [] → (after_it.failed ≡ before.failed) × (after_it.library.units ≡ before.library.units)) → HoldsFrom before n image → HoldsFrom after_it n image
+      → ((c : LibraryCommand) → before.failed ≡ c ∷ [] → (after_it.failed ≡ before.failed) × (after_it.library.units ≡ before.library.units)) → HoldsFrom before n image → HoldsFrom after_it n image
   still_holds before after_it more n image base history failed (inl (j, few, within, recovers)) =
       let long = ap length history ∙ length-append before.history more in
       let cut : take j after_it.history ≡ take j before.history = ap (take j) history ∙ take-append-le j before.history more within in
@@ -47,7 +47,7 @@ module _ {D : Type 0} (moment : D → ℕ) (may_leave : D → List ℕ → Type 
       inr (c, same.0 ∙ is, subst (λ (u : Units). RecoversAlone image (after u c)) (sym same.1) recovers)
 
   -- an image of the disk now
-  holds_now : (book : BookView D) (image : List ℕ) (failed : List made.Command) → book.library.units ≡ units_after book.base book.history → book.failed ≡ failed → length failed ≤ 1 → RecoversTo book.library.units failed image → HoldsFrom book (length book.history) image
+  holds_now : (book : BookView D) (image : List ℕ) (failed : List LibraryCommand) → book.library.units ≡ units_after book.base book.history → book.failed ≡ failed → length failed ≤ 1 → RecoversTo book.library.units failed image → HoldsFrom book (length book.history) image
   holds_now book image [] map is one recovers = of_prefix book (length book.history) image book.history [] book.base book.library.units refl (sym (nothing_behind book.history)) map (omega arith) recovers
   holds_now book image (c ∷ []) map is one (inl recovers) = of_prefix book (length book.history) image book.history [] book.base book.library.units refl (sym (nothing_behind book.history)) map (omega arith) recovers
   holds_now book image (c ∷ []) map is one (inr recovers) = inr (c, is, recovers)

@@ -2,14 +2,14 @@
 use Rattle.std.proofs.Common.{◌≡◌, ◌⊎◌, ℕ, zero, suc, inl, inr, List, [], ◌∷◌, ◌++◌, take, Some, None, refl, sym, ap, subst, ◌∙◌, append_assoc}
 use Rattle.std.specs.Prelude.{slice_get}
 use Rattle.std.proofs.lemmas.List.{map-append}
-use Rattle.cc_library.specs.declared.command.Command as made
+use Rattle.cc_library.specs.declared.command.LibraryCommand.{LibraryCommand}
 use Rattle.cc_core.specs.declared.command.Numbered.{Numbered}
 use Rattle.cc_core.specs.Rules.{Rules}
 use Rattle.cc_core.specs.Step.{commands}
 use Rattle.cc_core.specs.declared.contents.Contents.{Contents}
 use Rattle.cc_core.specs.declared.event.Event.{Event}
 use Rattle.cc_core.specs.Run.{EachImageIsRight, EachImageSurvives, EachUnit, IsBeginning, IsRightCommand, IsRightOr, Run}
-use Rattle.cc_library.specs.declared.command.Command.TheVariants as change
+use Rattle.cc_library.specs.declared.command.LibraryCommand.TheVariants as change
 use Rattle.cc_library.specs.Apply.{Units, after}
 use Rattle.cc_library.specs.Recovered.{Recovers}
 use Rattle.cc_history.specs.declared.entry.Entry.{Entry}
@@ -51,7 +51,7 @@ got_before (suc j) [] k x at = at
 got_before (suc j) (y ∷ l) zero x at = at
 got_before (suc j) (y ∷ l) (suc k) x at = got_before j l k x at
 
-right_change : (base : Units) (c : made.Command) → HasAgreedUnit c → IsRightCommand (IsRightOr is_right base) c
+right_change : (base : Units) (c : LibraryCommand) → HasAgreedUnit c → IsRightCommand (IsRightOr is_right base) c
 right_change base (change.Add name unit) agreed = inr agreed
 right_change base (change.Replace name unit) agreed = inr agreed
 right_change base (change.Withdraw name) agreed = tt
@@ -60,14 +60,14 @@ each_right : (base units : Units) → EachAgrees base units → EachUnit (IsRigh
 each_right base units each name unit at = elim (each name unit at) [ inl there ↦ inl (name, there) | inr agreed ↦ inr agreed ]
 
 pub held_agrees : {D : Type 0} → ((base : Units) (history : List Entry) → HaveAgreed history → EachAgrees base (units_after base history))
-    → ((base library : Units) (c : made.Command) → EachUnit (IsRightOr is_right base) library → IsRightCommand (IsRightOr is_right base) c → EachUnit (IsRightOr is_right base) (after library c))
+    → ((base library : Units) (c : LibraryCommand) → EachUnit (IsRightOr is_right base) library → IsRightCommand (IsRightOr is_right base) c → EachUnit (IsRightOr is_right base) (after library c))
     → (book : BookView D) → Replays (chronicle_of book) → HaveAgreed book.history → AllAgreed book.failed
     → (entries : ℕ) (image : List ℕ) (library : Units) → HoldsFrom book entries image → Recovers image library → EachUnit (IsRightOr is_right book.base) library
 held_agrees law stays book replays agreed failed entries image library (inl (j, _, _, alone)) recovers =
     subst (λ (u : Units). EachUnit (IsRightOr is_right book.base) u) (sym (alone.alone library recovers))
     (each_right book.base (units_after book.base (take j book.history)) (law book.base (take j book.history) (λ k e at. agreed k e (got_before j book.history k e at))))
 held_agrees law stays book replays agreed failed entries image library (inr (c, is, alone)) recovers =
-    let one : HasAgreedUnit c = failed 0 c (ap (λ (l : List made.Command). slice_get l 0) is) in
+    let one : HasAgreedUnit c = failed 0 c (ap (λ (l : List LibraryCommand). slice_get l 0) is) in
     let map : EachUnit (IsRightOr is_right book.base) book.library.units =
     subst (λ (u : Units). EachUnit (IsRightOr is_right book.base) u) (sym replays.units) (each_right book.base (units_after book.base book.history) (law book.base book.history agreed)) in
     subst (λ (u : Units). EachUnit (IsRightOr is_right book.base) u) (sym (alone.alone library recovers))

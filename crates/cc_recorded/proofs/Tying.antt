@@ -3,7 +3,7 @@
 use Rattle.std.proofs.Common.{◌≡◌, ℕ, ◌+◌, ◌^◌, ◌<◌, ◌≤◌, length, inl, inr, Bool, true, false, List, [], ◌∷◌, ◌++◌, map, Option, Some, None, Result, Ok, Err, refl, sym, ap, ◌∙◌, subst, arith}
 use Rattle.std.specs.FinMap.{FinMap, get, get-empty}
 use Rattle.std.specs.Ordering.{nat_cmp}
-use Rattle.cc_library.specs.declared.command.Command as made
+use Rattle.cc_library.specs.declared.command.LibraryCommand as made
 use Rattle.cc_library.specs.Body.{IsCommand, body_of}
 use Rattle.cc_library.specs.Recovered.{StandFor, View}
 use Rattle.cc_disk.specs.Images.{LeavesAlone}
@@ -51,7 +51,7 @@ pub record TurnLaw {P : Type 0} (rules : Rules P) (keeps : P → Type 0) : Type 
   pub goes_on : (old mid new : Contents P) (events later : List (Event P)) → Run rules keeps old events mid → Run rules keeps mid later new → Run rules keeps old (events ++ later) new
   pub no_job : (old new : Contents P) (event : Event P) (reply : Option Reply) → Step rules old event reply new → IsNoSubmit event → (k : ℕ) → get old.jobs k ≡ None → get new.jobs k ≡ None
   pub no_work : (old new : Contents P) (event : Event P) (reply : Option Reply) → Step rules old event reply new → IsNoTake event → (k : ℕ) → get old.workers k ≡ None → get new.workers k ≡ None
-  pub ready : (old : Contents P) (client : ClientId) (worker : WorkerId) (command : made.Command) → IsUp old.core.phase → get old.jobs client.number ≡ None → get old.workers worker.number ≡ None
+  pub ready : (old : Contents P) (client : ClientId) (worker : WorkerId) (command : made.LibraryCommand) → IsUp old.core.phase → get old.jobs client.number ≡ None → get old.workers worker.number ≡ None
       → HasBuilt rules keeps command → CanBeReady rules keeps old client worker command
 
 module _ {P : Type 0} where
@@ -90,12 +90,12 @@ module _ {P : Type 0} where
 module _ {P : Type 0} (rules : Rules P) (keeps : P → Type 0) (law : TurnLaw rules keeps) where
   -- The command of a state's job can be spelled where its record fits, and the area of a state in which no device step failed is no larger
   -- than any area.
-  pub record CanSpell (old : Contents P) (c : made.Command) : Type 0 where
+  pub record CanSpell (old : Contents P) (c : made.LibraryCommand) : Type 0 where
     pub command : length (body_of c) < 2 ^ 32 → IsCommand c
     pub area : closed old.core.phase ≡ None → old.core.store.area ≤ 2 ^ 30
 
   -- the beginning of a job whose command has a spelling
-  spelled : (old : Contents P) (client : ClientId) (c : made.Command) → Has rules old client c → CanSpell old c → BeginsSpelled rules old (event.Begin client)
+  spelled : (old : Contents P) (client : ClientId) (c : made.LibraryCommand) → Has rules old client c → CanSpell old c → BeginsSpelled rules old (event.Begin client)
   spelled old client c has can other job command is held comes open' fits =
       let same : client ≡ other = cc in
       let both : Some job ≡ Some has.its = sym held ∙ ap (λ (d : ClientId). get old.jobs d.number) (sym same) ∙ has.held in
@@ -103,7 +103,7 @@ module _ {P : Type 0} (rules : Rules P) (keeps : P → Type 0) (law : TurnLaw ru
       let gives : Ok command ≡ Ok c = sym comes ∙ ap (λ (j : Job P). command_of rules j j.request) its ∙ has.gives in
       let it : c ≡ command = cc in
       let few = can.area open' in
-      subst IsCommand it (can.command (subst (λ (d : made.Command). length (body_of d) < 2 ^ 32) (sym it) (omega (arith, fits, few))))
+      subst IsCommand it (can.command (subst (λ (d : made.LibraryCommand). length (body_of d) < 2 ^ 32) (sym it) (omega (arith, fits, few))))
 
   -- these events lead on, and give no client a job and no worker a piece
   pub record LeadsOn (old : Contents P) (events : List (Event P)) (new : Contents P) : Type 0 where
@@ -131,19 +131,19 @@ module _ {P : Type 0} (rules : Rules P) (keeps : P → Type 0) (law : TurnLaw ru
       one_on old one.0 one.1 is.0 (events_of others) new (omega (arith, plain.0)) (no_begin rules old one.0 plain.0) is.1 (all_on is.0 others new plain.1 is.2)
 
   -- steps that begin a commit, and go on by plain ones
-  begun_steps : (old : Contents P) (client : ClientId) (reply : Option Reply) (others : List (Event P × Option Reply)) (new : Contents P) (c : made.Command) → Has rules old client c → CanSpell old c → AllPlain others
+  begun_steps : (old : Contents P) (client : ClientId) (reply : Option Reply) (others : List (Event P × Option Reply)) (new : Contents P) (c : made.LibraryCommand) → Has rules old client c → CanSpell old c → AllPlain others
       → Steps rules old ((event.Begin client, reply) ∷ others) new → LeadsOn old (event.Begin client ∷ events_of others) new
   begun_steps old client reply others new c has can plain is =
       one_on old (event.Begin client) reply is.0 (events_of others) new (omega arith) (spelled old client c has can) is.1 (all_on is.0 others new plain is.2)
 
 -- ---- the tie
 
-phase_up : (closed : Bool) (failed : List made.Command) (phase : Phase) → IsPhase closed failed phase → IsUp phase
+phase_up : (closed : Bool) (failed : List made.LibraryCommand) (phase : Phase) → IsPhase closed failed phase → IsUp phase
 phase_up false failed phase is = subst IsUp (sym is.1) tt
 phase_up true [] phase is = subst IsUp (sym is) tt
 phase_up true (c ∷ failed) phase is = subst IsUp (sym is.2) tt
 
-not_open : (failed : List made.Command) (phase : Phase) → IsPhase true failed phase → closed phase ≡ None → ⊥
+not_open : (failed : List made.LibraryCommand) (phase : Phase) → IsPhase true failed phase → closed phase ≡ None → ⊥
 not_open [] phase is open' = let h : ◌≡◌ {A = Option Refusal} (Some refusal.Closed) None = ap closed (sym is) ∙ open' in cc
 not_open (c ∷ failed) phase is open' = let h : ◌≡◌ {A = Option Refusal} (Some refusal.Closed) None = ap closed (sym is.2) ∙ open' in cc
 
@@ -163,7 +163,7 @@ module _ {D P : Type 0} (rules : Rules P) (keeps : P → Type 0) (seen : D → L
   shown_same before after_it s shows library failed base same = record {
     library = shows.library ∙ ap (λ (v : View D). v.units) (sym library);
     order = order_same before after_it s.core.order s.core.acknowledged shows.order base same failed;
-    phase = subst (λ (l : List made.Command). IsPhase after_it.library.closed l s.core.phase) (sym failed) (subst (λ (v : View D). IsPhase v.closed before.failed s.core.phase) (sym library) shows.phase);
+    phase = subst (λ (l : List made.LibraryCommand). IsPhase after_it.library.closed l s.core.phase) (sym failed) (subst (λ (v : View D). IsPhase v.closed before.failed s.core.phase) (sym library) shows.phase);
     disk = subst (λ (v : View D). ShowsDisk true seen may_leave v s.core.store) (sym library) shows.disk;
   }
 
@@ -172,7 +172,7 @@ module _ {D P : Type 0} (rules : Rules P) (keeps : P → Type 0) (seen : D → L
       let same : changes after_it.history ≡ changes before.history =
       ap changes recorded.history ∙ changes-push before.history receipt.entry
       ∙ ap (λ (e : Entry). changes before.history ++ changes_of e.asked e.reply) recorded.answered.entry
-      ∙ ap (λ (l : List made.Command). changes before.history ++ l) (look_changes_nothing asked (reply_of before.library.units asked) look) ∙ nothing_behind (changes before.history) in
+      ∙ ap (λ (l : List made.LibraryCommand). changes before.history ++ l) (look_changes_nothing asked (reply_of before.library.units asked) look) ∙ nothing_behind (changes before.history) in
       record {
         first = tied.first;
         opened = tied.opened;
@@ -242,7 +242,7 @@ module _ {D P : Type 0} (rules : Rules P) (keeps : P → Type 0) (law : TurnLaw 
   abbrev next : (book : BookView D) → TiedSo book → ClientId
   next book tied = record { number = tied.clients }
 
-  abbrev IsReadyFor : (book : BookView D) → TiedSo book → made.Command → Type 0
+  abbrev IsReadyFor : (book : BookView D) → TiedSo book → made.LibraryCommand → Type 0
   IsReadyFor book tied c = CanBeReady rules keeps tied.now (next book tied) worker c
 
   -- while no device call has failed, the disk's area is within its limits
@@ -254,7 +254,7 @@ module _ {D P : Type 0} (rules : Rules P) (keeps : P → Type 0) (law : TurnLaw 
       by true e is = absurd (not_open book.failed s.core.phase is open')
 
   -- a commit that begins
-  begun_on : (before after_it : BookView D) (tied : TiedSo before) → after_it.base ≡ before.base → (c : made.Command) → (length (body_of c) < 2 ^ 32 → IsCommand c) → (ready_for : IsReadyFor before tied c)
+  begun_on : (before after_it : BookView D) (tied : TiedSo before) → after_it.base ≡ before.base → (c : made.LibraryCommand) → (length (body_of c) < 2 ^ 32 → IsCommand c) → (ready_for : IsReadyFor before tied c)
       → (reply : Option Reply) (others : List (Event P × Option Reply)) → AllPlain rules keeps law others → (new : Contents P)
       → Steps rules ready_for.new ((event.Begin (next before tied), reply) ∷ others) new → ShownBy after_it new → TiedSo after_it
   begun_on before after_it tied base c can ready_for reply others plain new steps shows =

@@ -2,8 +2,8 @@
 use Rattle.std.specs.Prelude.{◌≡◌, ℕ, ◌≤◌, Bool, false, IsTrue, List, [], ◌∷◌, length, Some, slice_get, refl}
 use Rattle.std.specs.Coded.{Coded, code_by, coded×, coded_list}
 use Rattle.cc_history.specs.Agree.{Agree}
-use Rattle.cc_library.specs.declared.command.Command as made
-use Rattle.cc_library.specs.declared.command.Command.TheVariants as change
+use Rattle.cc_library.specs.declared.command.LibraryCommand.{LibraryCommand}
+use Rattle.cc_library.specs.declared.command.LibraryCommand.TheVariants as change
 use Rattle.cc_library.specs.Apply.{Units, after}
 use Rattle.cc_library.specs.Recovered.{View, RecoversAlone, RecoversOneOf, view_code}
 use Rattle.cc_history.specs.declared.entry.Entry.{Entry}
@@ -15,12 +15,12 @@ pub record BookView (D : Type 0) : Type 0 where
   pub base : Units
   pub library : View D
   pub history : List Entry
-  pub failed : List made.Command
+  pub failed : List LibraryCommand
 
 -- it is stored as the tuple of its fields
-abbrev pub book_code : {D : Type 0} → Coded D → Coded Units → Coded Entry → Coded made.Command → Coded (BookView D)
+abbrev pub book_code : {D : Type 0} → Coded D → Coded Units → Coded Entry → Coded LibraryCommand → Coded (BookView D)
 book_code {D} disk units entry command =
-    code_by (Units × (View D × (List Entry × List made.Command))) (coded× units (coded× (view_code disk units) (coded× (coded_list entry) (coded_list command))))
+    code_by (Units × (View D × (List Entry × List LibraryCommand))) (coded× units (coded× (view_code disk units) (coded× (coded_list entry) (coded_list command))))
     (λ b. (b.base, (b.library, (b.history, b.failed)))) (λ p. record { base = p.0; library = p.1.0; history = p.1.1.0; failed = p.1.1.1 }) (λ _. refl)
 
 module _ {D : Type 0} where
@@ -29,16 +29,16 @@ module _ {D : Type 0} where
   chronicle_of book = record { base = book.base; units = book.library.units; history = book.history }
 
 -- the unit of a change, where it has one, was compiled
-abbrev pub HasAgreedUnit : made.Command → Type 0
+abbrev pub HasAgreedUnit : LibraryCommand → Type 0
 HasAgreedUnit (change.Add name unit) = Agree unit.source unit.image
 HasAgreedUnit (change.Replace name unit) = Agree unit.source unit.image
 HasAgreedUnit (change.Withdraw name) = Unit {0}
 
-abbrev pub AllAgreed : List made.Command → Type 0
-AllAgreed changes = (k : ℕ) (c : made.Command) → slice_get changes k ≡ Some c → HasAgreedUnit c
+abbrev pub AllAgreed : List LibraryCommand → Type 0
+AllAgreed changes = (k : ℕ) (c : LibraryCommand) → slice_get changes k ≡ Some c → HasAgreedUnit c
 
 -- what an image of the disk recovers to: the map; after a change that failed, the map with or without it
-abbrev pub RecoversTo : Units → (failed : List made.Command) → List ℕ → Type 0
+abbrev pub RecoversTo : Units → (failed : List LibraryCommand) → List ℕ → Type 0
 RecoversTo units [] image = RecoversAlone image units
 RecoversTo units (failed ∷ others) image = RecoversOneOf units (after units failed) image
 

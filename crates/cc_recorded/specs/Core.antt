@@ -5,7 +5,7 @@ use Rattle.std.specs.Prelude.{◌≡◌, ◌⊎◌, ℕ, Bool, true, false, IsTr
 use Rattle.std.specs.FinMap.{empty, get}
 use Rattle.cc_disk.specs.Model.{bytes_of, IsImage}
 use Rattle.cc_journal.specs.Format.{HoldsRecords, records}
-use Rattle.cc_library.specs.declared.command.Command as made
+use Rattle.cc_library.specs.declared.command.LibraryCommand.{LibraryCommand}
 use Rattle.cc_library.specs.Apply.{AreAccepted, library_of}
 use Rattle.cc_library.specs.Recovered.{View}
 use Rattle.cc_core.specs.declared.command.Numbered.{Numbered}
@@ -33,7 +33,7 @@ use Rattle.cc_recorded.specs.declared.fault.BookFault.TheVariants.{Exists, Absen
 -- Acknowledged are some commands that lead to the base, all that were there at the opening, and then the changes of the history, each of
 -- which was answered Ok. The order has these, and behind them the change that failed, where one did.
 pub record ShowsOrder {D : Type 0} (book : BookView D) (order acknowledged : List Numbered) : Type 0 where
-  pub earlier : List made.Command
+  pub earlier : List LibraryCommand
   pub base : library_of earlier ≡ book.base
   pub accepted : AreAccepted empty earlier
   pub acked : commands acknowledged ≡ earlier ++ changes book.history
@@ -42,7 +42,7 @@ pub record ShowsOrder {D : Type 0} (book : BookView D) (order acknowledged : Lis
   pub failed : commands failing ≡ book.failed
 
 -- idle; once the device has failed, failed, with the change that failed, where one did
-abbrev pub IsPhase : (closed : Bool) (failed : List made.Command) → Phase → Type 0
+abbrev pub IsPhase : (closed : Bool) (failed : List LibraryCommand) → Phase → Type 0
 IsPhase false failed phase = (failed ≡ []) × (phase ≡ Idle)
 IsPhase true [] phase = phase ≡ Failed None
 IsPhase true (change ∷ others) phase = (last : Numbered) × (last.command ≡ change) × (phase ≡ Failed (Some last))
@@ -89,7 +89,7 @@ module _ {P : Type 0} (rules : Rules P) where
       (event.Begin client, None) ∷ (event.WriteBody, None) ∷ (event.SyncBody, None) ∷ (event.Fail, Some (replies.Refused refusal.DiskFault)) ∷ []
 
   -- a client has a job whose pieces are all there and give this change
-  pub record Has (s : Contents P) (client : ClientId) (c : made.Command) : Type 0 where
+  pub record Has (s : Contents P) (client : ClientId) (c : LibraryCommand) : Type 0 where
     pub its : Job P
     pub held : get s.jobs client.number ≡ Some its
     pub there : IsTrue (all_there its.pieces)

@@ -4,7 +4,7 @@ use Rattle.std.specs.Prelude.{ℕ, List, Result, Ok, Err}
 use Rattle.cc_disk.specs.Images.{LeavesAlone}
 use Rattle.cc_journal.specs.Commit.{FailsIn, IsCommitted}
 use Rattle.cc_journal.specs.Format.{HasAreaByte, HoldsRecords}
-use Rattle.cc_library.specs.declared.command.Command as made
+use Rattle.cc_library.specs.declared.command.LibraryCommand.{LibraryCommand}
 use Rattle.cc_library.specs.Answers.{commit_of, rewrites_in}
 use Rattle.cc_library.specs.Recovered.{View}
 use Rattle.cc_recorded.specs.declared.fault.BookFault.{BookFault}
@@ -12,7 +12,7 @@ use Rattle.cc_recorded.specs.declared.fault.BookFault.TheVariants.{Exists, Absen
 
 -- at Ok the journal's commit of the change's record is made, all is settled, and the records are the library's; after 35 that commit
 -- was left in its first write, or in its last one
-abbrev pub ChangesDisk : {D T : Type 0} → (seen : D → List ℕ) (may_leave : D → List ℕ → Type 0) → made.Command → (old new : View D) → Result T BookFault → Type 0
+abbrev pub ChangesDisk : {D T : Type 0} → (seen : D → List ℕ) (may_leave : D → List ℕ → Type 0) → LibraryCommand → (old new : View D) → Result T BookFault → Type 0
 ChangesDisk seen may_leave change old new (Ok done) =
     HoldsRecords (seen new.disk) new.area new.bodies
     × ((area_byte : ℕ) → HasAreaByte (seen old.disk) area_byte old.area → IsCommitted (commit_of area_byte old change) (seen old.disk) (seen new.disk) × LeavesAlone (seen new.disk) (may_leave new.disk))

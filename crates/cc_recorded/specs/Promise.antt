@@ -1,6 +1,6 @@
 -- What the type of a book keeps, and what follows from it for whatever a crash leaves.
 use Rattle.std.specs.Prelude.{◌≡◌, ◌⊎◌, ℕ, Bool, false, IsTrue, List, [], ◌++◌}
-use Rattle.cc_library.specs.declared.command.Command as made
+use Rattle.cc_library.specs.declared.command.LibraryCommand.{LibraryCommand}
 use Rattle.cc_library.specs.Apply.{Units, library_of}
 use Rattle.cc_library.specs.Recovered.{Recovers}
 use Rattle.cc_core.specs.declared.command.Numbered.{Numbered}
@@ -25,7 +25,7 @@ pub record IsBook {D : Type 0} (honest : Bool) (seen : D → List ℕ) (may_leav
 -- the base, then the changes of the history, then the one in which the device failed. The prefix holds each that was acknowledged, as often as
 -- it was: those of the base, and those of the history. Each unit in it is one that was found at the opening, or its image agrees with its source.
 pub record SurvivesCrash {D : Type 0} (book : BookView D) (image : List ℕ) : Type 0 where
-  pub earlier : List made.Command
+  pub earlier : List LibraryCommand
   pub base : library_of earlier ≡ book.base
   pub order : List Numbered
   pub acknowledged : List Numbered

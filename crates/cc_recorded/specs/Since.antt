@@ -1,7 +1,7 @@
 -- What a crash at any moment since an earlier call has left, the opening among them.
 use Rattle.std.specs.Prelude.{◌≡◌, ◌⊎◌, ℕ, ◌≤◌, List, [], ◌∷◌, ◌++◌, length, take, Some, slice_get, refl}
 use Rattle.std.specs.Coded.{Coded, code_by, coded×, coded_list}
-use Rattle.cc_library.specs.declared.command.Command as made
+use Rattle.cc_library.specs.declared.command.LibraryCommand.{LibraryCommand}
 use Rattle.cc_library.specs.Apply.{after}
 use Rattle.cc_library.specs.Recovered.{RecoversAlone}
 use Rattle.cc_history.specs.declared.entry.Entry.{Entry}
@@ -24,7 +24,7 @@ module _ {D : Type 0} where
   abbrev pub HoldsFrom : BookView D → ℕ → List ℕ → Type 0
   HoldsFrom book entries image =
       ((j : ℕ) × (entries ≤ j) × (j ≤ length book.history) × RecoversAlone image (units_after book.base (take j book.history)))
-      ⊎ ((c : made.Command) × (book.failed ≡ c ∷ []) × RecoversAlone image (after book.library.units c))
+      ⊎ ((c : LibraryCommand) × (book.failed ≡ c ∷ []) × RecoversAlone image (after book.library.units c))
 
   -- Whatever a crash left since the book was as `old` says holds all calls that were in the history then.
   pub record IsSince (moment : D → ℕ) (left_since : D → ℕ → List ℕ → Type 0) (book old : BookView D) : Type 0 where

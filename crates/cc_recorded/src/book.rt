@@ -57,7 +57,7 @@ impl<N: Based, D: Disk> Model for Book<N, D> {
     ghost use Rattle.cc_recorded.specs.Promise.{IsBook};
     ghost use Rattle.cc_recorded.specs.Book.{BookView, book_code};
     ghost use Rattle.cc_library.specs.contracts.units.UnitMap as units;
-    ghost use Rattle.cc_library.specs.contracts.command.Command as change;
+    ghost use Rattle.cc_library.specs.contracts.command.LibraryCommand as change;
     ghost use Rattle.cc_history.specs.contracts.entry.Entry as entry;
 
     ghost Value = { BookSince D };

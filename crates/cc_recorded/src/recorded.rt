@@ -19,7 +19,7 @@ use cc_disk::{Disk, History};
 use cc_history::{
     Asked, Command, Entry, NameList, Receipt, Reply, SharedEntry, calls_are_recorded, last_stands,
 };
-use cc_library::{Command as Change, Library, LibraryFault, SharedUnit, UnitMap};
+use cc_library::{LibraryCommand, Library, LibraryFault, SharedUnit, UnitMap};
 use std::alloc::{AllocError, Global};
 use std::marker::Model;
 use std::sync::Arc;
@@ -34,13 +34,13 @@ pub struct RecordedLibrary<N: Based, D: Disk> {
     pub(crate) history: Vec<SharedEntry>,
     pub(crate) calls: ledger::Book<N>,
     // For contracts alone.
-    pub(crate) failed: History<Change>,
+    pub(crate) failed: History<LibraryCommand>,
 }
 
 impl<N: Based, D: Disk> Model for RecordedLibrary<N, D> {
     ghost use Rattle.std.specs.Coded.{codes};
     ghost use Rattle.cc_library.specs.contracts.units.UnitMap as units;
-    ghost use Rattle.cc_library.specs.contracts.command.Command as change;
+    ghost use Rattle.cc_library.specs.contracts.command.LibraryCommand as change;
     ghost use Rattle.cc_history.specs.contracts.entry.Entry as entry;
     ghost use Rattle.cc_recorded.specs.Book.{BookView, IsRecordedLibrary, book_code};
 
@@ -60,7 +60,7 @@ pub struct Ended<D: Disk> {
     pub library: Library<D>,
     pub history: Vec<SharedEntry>,
     /// The change in whose call the device failed, where one did. For contracts alone.
-    pub failed: History<Change>,
+    pub failed: History<LibraryCommand>,
 }
 
 impl<N: Based, D: Disk> RecordedLibrary<N, D> {

@@ -1,7 +1,7 @@
 // What is told of a run that went wrong.
 
 use super::replay::{Replay, Trouble, Wrong};
-use cc_diagnostic::{Code, Diagnostic, Element, Operation, Part, code_of, message};
+use cc_diagnostic::{Bytecode, Diagnostic, Element, TypedOperator, MessagePart, code_of, message};
 use cc_meaning::{Cause, MOST_OPEN};
 use cc_resolve::lay_out;
 use cc_syntax::{BinaryOperator, Identifier, SyntaxFault, Unit, parse};
@@ -11,21 +11,21 @@ fn of_index<'a>(
     alloc: Global,
     element: Element<'a>,
     index: u32,
-    function: Part<'a>,
+    function: MessagePart<'a>,
 ) -> Result<String, AllocError> {
-    let index = Part::Word(element.index, index);
-    let array = Part::Name(element.array.bytes.as_slice());
-    let length = Part::Count(element.extent.length);
+    let index = MessagePart::Word(element.index, index);
+    let array = MessagePart::Name(element.array.bytes.as_slice());
+    let length = MessagePart::Count(element.extent.length);
     message(
         alloc,
         &[
-            Part::Words("index "),
+            MessagePart::Words("index "),
             index,
-            Part::Words(" is outside "),
+            MessagePart::Words(" is outside "),
             array,
-            Part::Words("["),
+            MessagePart::Words("["),
             length,
-            Part::Words("], in "),
+            MessagePart::Words("], in "),
             function,
         ],
     )
@@ -33,19 +33,19 @@ fn of_index<'a>(
 
 fn of_operation(
     alloc: Global,
-    operation: Operation,
+    operation: TypedOperator,
     left: u32,
     right: u32,
-    function: Part<'_>,
+    function: MessagePart<'_>,
 ) -> Result<String, AllocError> {
-    let first = Part::Word(operation.working, left);
-    let second = Part::Word(operation.right, right);
-    let behind = Part::Words(", in ");
+    let first = MessagePart::Word(operation.working, left);
+    let second = MessagePart::Word(operation.right, right);
+    let behind = MessagePart::Words(", in ");
     match operation.operator {
         BinaryOperator::ShiftLeft | BinaryOperator::ShiftRight => {
-            let outside = Part::Words(" is outside 0 to 31");
+            let outside = MessagePart::Words(" is outside 0 to 31");
             let parts = [
-                Part::Words("shift count "),
+                MessagePart::Words("shift count "),
                 second,
                 outside,
                 behind,
@@ -59,8 +59,8 @@ fn of_operation(
                 BinaryOperator::Remainder => "remainder of ",
                 _ => "division of ",
             };
-            let by = Part::Words(" by ");
-            let parts = [Part::Words(what), first, by, second, behind, function];
+            let by = MessagePart::Words(" by ");
+            let parts = [MessagePart::Words(what), first, by, second, behind, function];
             message(alloc, &parts)
         }
     }
@@ -69,9 +69,9 @@ fn of_operation(
 fn of_depth<'a>(
     alloc: Global,
     name: &'a Identifier,
-    function: Part<'a>,
+    function: MessagePart<'a>,
 ) -> Result<String, AllocError> {
-    let name = Part::Token(name.bytes.as_slice());
+    let name = MessagePart::Token(name.bytes.as_slice());
     let past = MOST_OPEN + 1;
     format!(in alloc; "this call of {name} would be the {past}th open call, in {function}")
 }
@@ -80,7 +80,7 @@ fn of_depth<'a>(
 fn message_of<'a>(
     alloc: Global,
     wrong: Wrong<'a>,
-    function: Part<'a>,
+    function: MessagePart<'a>,
 ) -> Result<String, AllocError> {
     match wrong {
         Wrong::Index(element, index) => of_index(alloc, element, index, function),
@@ -113,8 +113,8 @@ fn has_cause(wrong: Wrong<'_>, cause: Cause) -> bool {
 
 fn told(alloc: Global, trouble: Trouble<'_>) -> Result<Diagnostic, AllocError> {
     let function = match trouble.function {
-        Some(name) => Part::Name(name.bytes.as_slice()),
-        None => Part::Words("main"),
+        Some(name) => MessagePart::Name(name.bytes.as_slice()),
+        None => MessagePart::Words("main"),
     };
     let message = message_of(alloc, trouble.wrong, function)?;
     Ok(Diagnostic {
@@ -158,7 +158,7 @@ fn of_replay(
 fn of_code(
     alloc: Global,
     unit: &Unit,
-    code: &Code<'_>,
+    code: &Bytecode<'_>,
     run: Run<'_>,
 ) -> Result<Option<Diagnostic>, AllocError> {
     let words = words(alloc, unit)?;

@@ -4,8 +4,8 @@ use Rattle.std.proofs.Common.{◌≡◌, ℕ, ◌+◌, ◌*◌, ◌%◌, ◌^◌
 use Rattle.std.proofs.lemmas.Bool.Decides.{nat_tests}
 use Rattle.cc_rv32.specs.declared.instr.Instr.{Instr}
 use Rattle.cc_rv32.specs.declared.instr.Instr.TheVariants.{Op, OpImm, Shift, Load, Store, Branch, Lui, Auipc, Jal, Jalr, Ecall}
-use Rattle.cc_rv32.specs.declared.instr.Operation.{Operation}
-use Rattle.cc_rv32.specs.declared.instr.Operation.TheVariants.{Add, Sub, Sll, Slt, Sltu, Xor, Srl, Sra, Or, And, Mul, Mulh, Mulhsu, Mulhu, Div, Divu, Rem, Remu}
+use Rattle.cc_rv32.specs.declared.instr.RegisterOperation.{RegisterOperation}
+use Rattle.cc_rv32.specs.declared.instr.RegisterOperation.TheVariants.{Add, Sub, Sll, Slt, Sltu, Xor, Srl, Sra, Or, And, Mul, Mulh, Mulhsu, Mulhu, Div, Divu, Rem, Remu}
 use Rattle.cc_rv32.specs.declared.instr.ImmediateOperation.{ImmediateOperation}
 use Rattle.cc_rv32.specs.declared.instr.ImmediateOperation.TheVariants.{Addi, Slti, Sltiu, Xori, Ori, Andi}
 use Rattle.cc_rv32.specs.declared.instr.ShiftOperation.{ShiftOperation}
@@ -38,7 +38,7 @@ HasFields-fields_word o d f3 s1 s2 f7 ho hd h3 h1 h2 h7 = record {
   funct7_is = omega arith;
 }
 
-operation_of-same : (o : Operation) → operation_of (operation_funct7 o) (operation_funct3 o) ≡ Some o
+operation_of-same : (o : RegisterOperation) → operation_of (operation_funct7 o) (operation_funct3 o) ≡ Some o
 operation_of-same Add = refl
 operation_of-same Sub = refl
 operation_of-same Sll = refl
@@ -58,7 +58,7 @@ operation_of-same Divu = refl
 operation_of-same Rem = refl
 operation_of-same Remu = refl
 
-operation_instruction : (w : ℕ) (o : Operation) (d s1 s2 : ℕ) → HasFields w 0x33 d (operation_funct3 o) s1 s2 (operation_funct7 o) → instruction_of w ≡ Some (Op o d s1 s2)
+operation_instruction : (w : ℕ) (o : RegisterOperation) (d s1 s2 : ℕ) → HasFields w 0x33 d (operation_funct3 o) s1 s2 (operation_funct7 o) → instruction_of w ≡ Some (Op o d s1 s2)
 unfolding instruction_of
 operation_instruction w o d s1 s2 h = rw (h.opcode_is, h.rd_is, h.rs1_is, h.rs2_is, h.funct7_is, h.funct3_is, operation_of-same o)
 
@@ -120,7 +120,7 @@ branch_instruction w o s1 s2 i eo e3 e1 e2 ei = rw (eo, e3, e1, e2, ei, branch_o
 
 -- ---- the fields of each form's word
 
-operation_below : (o : Operation) → (operation_funct3 o < 8) × (operation_funct7 o < 128)
+operation_below : (o : RegisterOperation) → (operation_funct3 o < 8) × (operation_funct7 o < 128)
 operation_below Add = (lit< tt, lit< tt)
 operation_below Sub = (lit< tt, lit< tt)
 operation_below Sll = (lit< tt, lit< tt)

@@ -4,8 +4,8 @@ use Rattle.std.specs.Fmt.{decimal, signed_decimal}
 use Rattle.cc_words.specs.Words.{signed_value}
 use Rattle.cc_rv32.specs.declared.instr.Instr.{Instr}
 use Rattle.cc_rv32.specs.declared.instr.Instr.TheVariants.{Op, OpImm, Shift, Load, Store, Branch, Lui, Auipc, Jal, Jalr, Ecall}
-use Rattle.cc_rv32.specs.declared.instr.Operation.{Operation}
-use Rattle.cc_rv32.specs.declared.instr.Operation.TheVariants.{Add, Sub, Sll, Slt, Sltu, Xor, Srl, Sra, Or, And, Mul, Mulh, Mulhsu, Mulhu, Div, Divu, Rem, Remu}
+use Rattle.cc_rv32.specs.declared.instr.RegisterOperation.{RegisterOperation}
+use Rattle.cc_rv32.specs.declared.instr.RegisterOperation.TheVariants.{Add, Sub, Sll, Slt, Sltu, Xor, Srl, Sra, Or, And, Mul, Mulh, Mulhsu, Mulhu, Div, Divu, Rem, Remu}
 use Rattle.cc_rv32.specs.declared.instr.ImmediateOperation.{ImmediateOperation}
 use Rattle.cc_rv32.specs.declared.instr.ImmediateOperation.TheVariants.{Addi, Slti, Sltiu, Xori, Ori, Andi}
 use Rattle.cc_rv32.specs.declared.instr.ShiftOperation.{ShiftOperation}
@@ -40,7 +40,7 @@ register_text r = codes "x" ++ decimal r
 
 -- ---- names
 
-abbrev pub operation_text : Operation → List ℕ
+abbrev pub operation_text : RegisterOperation → List ℕ
 operation_text Add = codes "add"
 operation_text Sub = codes "sub"
 operation_text Sll = codes "sll"

@@ -5,7 +5,7 @@ ghost use Rattle.cc_rv32.specs.Fields as fields;
 ghost use Rattle.cc_rv32.specs.Table.{instruction_of, encoding_of, operation_of, immediate_operation_of, shift_operation_of, load_operation_of, store_operation_of, branch_operation_of, operation_funct3, operation_funct7, immediate_operation_funct3, shift_operation_funct3, shift_operation_funct7, load_operation_funct3, store_operation_funct3, branch_operation_funct3};
 
 use crate::instr::{
-    BranchOperation, ImmediateOperation, Instr, LoadOperation, Operation, ShiftOperation,
+    BranchOperation, ImmediateOperation, Instr, LoadOperation, RegisterOperation, ShiftOperation,
     StoreOperation,
 };
 use crate::operand::{BranchOffset, Immediate, JumpOffset, Register, ShiftCount, UpperImmediate};
@@ -141,43 +141,43 @@ fn branch(word: u32) -> Option<Instr>
     })
 }
 
-fn operation_in(funct7: u32, funct3: u32) -> Option<Operation>
+fn operation_in(funct7: u32, funct3: u32) -> Option<RegisterOperation>
     requires { funct3 < 8 }
     ensures table { result ≡ operation_of funct7 funct3 }
     ensures funct3 { IfSome result (λ o. operation_funct3 o ≡ funct3) }
     ensures funct7 { IfSome result (λ o. operation_funct7 o ≡ funct7) }
 {
     match (funct7, funct3) {
-        (0x00, 0) => Some(Operation::Add),
-        (0x20, 0) => Some(Operation::Sub),
-        (0x00, 1) => Some(Operation::Sll),
-        (0x00, 2) => Some(Operation::Slt),
-        (0x00, 3) => Some(Operation::Sltu),
-        (0x00, 4) => Some(Operation::Xor),
-        (0x00, 5) => Some(Operation::Srl),
-        (0x20, 5) => Some(Operation::Sra),
-        (0x00, 6) => Some(Operation::Or),
-        (0x00, 7) => Some(Operation::And),
+        (0x00, 0) => Some(RegisterOperation::Add),
+        (0x20, 0) => Some(RegisterOperation::Sub),
+        (0x00, 1) => Some(RegisterOperation::Sll),
+        (0x00, 2) => Some(RegisterOperation::Slt),
+        (0x00, 3) => Some(RegisterOperation::Sltu),
+        (0x00, 4) => Some(RegisterOperation::Xor),
+        (0x00, 5) => Some(RegisterOperation::Srl),
+        (0x20, 5) => Some(RegisterOperation::Sra),
+        (0x00, 6) => Some(RegisterOperation::Or),
+        (0x00, 7) => Some(RegisterOperation::And),
         (0x01, _) => Some(multiplication_in(funct3)),
         _ => None,
     }
 }
 
-fn multiplication_in(funct3: u32) -> Operation
+fn multiplication_in(funct3: u32) -> RegisterOperation
     requires { funct3 < 8 }
     ensures table { Some result ≡ operation_of 0x01 funct3 }
     ensures funct3 { operation_funct3 result ≡ funct3 }
     ensures funct7 { operation_funct7 result ≡ 1 }
 {
     match funct3 {
-        0 => Operation::Mul,
-        1 => Operation::Mulh,
-        2 => Operation::Mulhsu,
-        3 => Operation::Mulhu,
-        4 => Operation::Div,
-        5 => Operation::Divu,
-        6 => Operation::Rem,
-        _ => Operation::Remu,
+        0 => RegisterOperation::Mul,
+        1 => RegisterOperation::Mulh,
+        2 => RegisterOperation::Mulhsu,
+        3 => RegisterOperation::Mulhu,
+        4 => RegisterOperation::Div,
+        5 => RegisterOperation::Divu,
+        6 => RegisterOperation::Rem,
+        _ => RegisterOperation::Remu,
     }
 }
 

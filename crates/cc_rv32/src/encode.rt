@@ -4,7 +4,7 @@ ghost use Rattle.std.specs.Prelude.{◌≡◌, ◌<◌, Some};
 ghost use Rattle.cc_rv32.specs.Table.{instruction_of, encoding_of, IsEncodable, fields_word, immediate_word, upper_word};
 
 use crate::instr::{
-    BranchOperation, ImmediateOperation, Instr, LoadOperation, Operation, ShiftOperation,
+    BranchOperation, ImmediateOperation, Instr, LoadOperation, RegisterOperation, ShiftOperation,
     StoreOperation,
 };
 use crate::operand::{BranchOffset, Immediate, JumpOffset, Register, ShiftCount, UpperImmediate};
@@ -102,7 +102,7 @@ fn with_upper(opcode: u32, rd: Register, upper: u32) -> u32
 }
 
 #[tactic(auto, unfolding(crate::specs::Table::encoding_of))]
-fn operation_word(operation: Operation, rd: Register, rs1: Register, rs2: Register) -> u32
+fn operation_word(operation: RegisterOperation, rd: Register, rs1: Register, rs2: Register) -> u32
     ensures table { result ≡ encoding_of (Instr.Op operation rd rs1 rs2) }
     ensures encodable { IsEncodable (Instr.Op operation rd rs1 rs2) }
 {

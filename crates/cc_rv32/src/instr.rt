@@ -8,7 +8,7 @@ use crate::operand::{BranchOffset, Immediate, JumpOffset, Register, ShiftCount, 
 
 /// What an instruction on two registers computes (opcode OP).
 #[derive(Clone, Copy)]
-pub enum Operation {
+pub enum RegisterOperation {
     /// Sum modulo 2^32.
     Add,
     /// Difference modulo 2^32.
@@ -47,31 +47,31 @@ pub enum Operation {
     Remu,
 }
 
-impl Operation {
+impl RegisterOperation {
     /// The field funct3 of its word.
     pub(crate) fn funct3(self) -> u32
         ensures table { result ≡ operation_funct3 self }
         ensures in_range { result < 8 }
     {
         match self {
-            Operation::Add => 0,
-            Operation::Sub => 0,
-            Operation::Sll => 1,
-            Operation::Slt => 2,
-            Operation::Sltu => 3,
-            Operation::Xor => 4,
-            Operation::Srl => 5,
-            Operation::Sra => 5,
-            Operation::Or => 6,
-            Operation::And => 7,
-            Operation::Mul => 0,
-            Operation::Mulh => 1,
-            Operation::Mulhsu => 2,
-            Operation::Mulhu => 3,
-            Operation::Div => 4,
-            Operation::Divu => 5,
-            Operation::Rem => 6,
-            Operation::Remu => 7,
+            RegisterOperation::Add => 0,
+            RegisterOperation::Sub => 0,
+            RegisterOperation::Sll => 1,
+            RegisterOperation::Slt => 2,
+            RegisterOperation::Sltu => 3,
+            RegisterOperation::Xor => 4,
+            RegisterOperation::Srl => 5,
+            RegisterOperation::Sra => 5,
+            RegisterOperation::Or => 6,
+            RegisterOperation::And => 7,
+            RegisterOperation::Mul => 0,
+            RegisterOperation::Mulh => 1,
+            RegisterOperation::Mulhsu => 2,
+            RegisterOperation::Mulhu => 3,
+            RegisterOperation::Div => 4,
+            RegisterOperation::Divu => 5,
+            RegisterOperation::Rem => 6,
+            RegisterOperation::Remu => 7,
         }
     }
 
@@ -81,24 +81,24 @@ impl Operation {
         ensures in_range { result < 128 }
     {
         match self {
-            Operation::Add => 0x00,
-            Operation::Sub => 0x20,
-            Operation::Sll => 0x00,
-            Operation::Slt => 0x00,
-            Operation::Sltu => 0x00,
-            Operation::Xor => 0x00,
-            Operation::Srl => 0x00,
-            Operation::Sra => 0x20,
-            Operation::Or => 0x00,
-            Operation::And => 0x00,
-            Operation::Mul => 0x01,
-            Operation::Mulh => 0x01,
-            Operation::Mulhsu => 0x01,
-            Operation::Mulhu => 0x01,
-            Operation::Div => 0x01,
-            Operation::Divu => 0x01,
-            Operation::Rem => 0x01,
-            Operation::Remu => 0x01,
+            RegisterOperation::Add => 0x00,
+            RegisterOperation::Sub => 0x20,
+            RegisterOperation::Sll => 0x00,
+            RegisterOperation::Slt => 0x00,
+            RegisterOperation::Sltu => 0x00,
+            RegisterOperation::Xor => 0x00,
+            RegisterOperation::Srl => 0x00,
+            RegisterOperation::Sra => 0x20,
+            RegisterOperation::Or => 0x00,
+            RegisterOperation::And => 0x00,
+            RegisterOperation::Mul => 0x01,
+            RegisterOperation::Mulh => 0x01,
+            RegisterOperation::Mulhsu => 0x01,
+            RegisterOperation::Mulhu => 0x01,
+            RegisterOperation::Div => 0x01,
+            RegisterOperation::Divu => 0x01,
+            RegisterOperation::Rem => 0x01,
+            RegisterOperation::Remu => 0x01,
         }
     }
 }
@@ -269,7 +269,7 @@ impl BranchOperation {
 pub enum Instr {
     /// `add x3, x1, x2`: `rd` takes what the operation makes of `rs1` and `rs2`.
     Op {
-        operation: Operation,
+        operation: RegisterOperation,
         rd: Register,
         rs1: Register,
         rs2: Register,

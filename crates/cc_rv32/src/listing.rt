@@ -10,7 +10,7 @@ use crate::decode::decode;
 use crate::fault::MachineFault;
 use crate::image::Image;
 use crate::instr::{
-    BranchOperation, ImmediateOperation, Instr, LoadOperation, Operation, ShiftOperation,
+    BranchOperation, ImmediateOperation, Instr, LoadOperation, RegisterOperation, ShiftOperation,
     StoreOperation,
 };
 use crate::map::CODE_FROM;
@@ -73,7 +73,7 @@ impl fmt::Display for UpperImmediate {
     }
 }
 
-impl fmt::Display for Operation {
+impl fmt::Display for RegisterOperation {
     ghost output = { λ o. Some (operation_text o) };
 
     fn fmt<W: fmt::Write>(&self, f: &mut fmt::Formatter<W>) -> fmt::Result {
@@ -289,28 +289,28 @@ fn parts_of(instr: Instr) -> Parts
     }
 }
 
-fn operation_name(operation: Operation) -> &'static str
+fn operation_name(operation: RegisterOperation) -> &'static str
     ensures { result.now ≡ operation_text operation }
 {
     match operation {
-        Operation::Add => "add",
-        Operation::Sub => "sub",
-        Operation::Sll => "sll",
-        Operation::Slt => "slt",
-        Operation::Sltu => "sltu",
-        Operation::Xor => "xor",
-        Operation::Srl => "srl",
-        Operation::Sra => "sra",
-        Operation::Or => "or",
-        Operation::And => "and",
-        Operation::Mul => "mul",
-        Operation::Mulh => "mulh",
-        Operation::Mulhsu => "mulhsu",
-        Operation::Mulhu => "mulhu",
-        Operation::Div => "div",
-        Operation::Divu => "divu",
-        Operation::Rem => "rem",
-        Operation::Remu => "remu",
+        RegisterOperation::Add => "add",
+        RegisterOperation::Sub => "sub",
+        RegisterOperation::Sll => "sll",
+        RegisterOperation::Slt => "slt",
+        RegisterOperation::Sltu => "sltu",
+        RegisterOperation::Xor => "xor",
+        RegisterOperation::Srl => "srl",
+        RegisterOperation::Sra => "sra",
+        RegisterOperation::Or => "or",
+        RegisterOperation::And => "and",
+        RegisterOperation::Mul => "mul",
+        RegisterOperation::Mulh => "mulh",
+        RegisterOperation::Mulhsu => "mulhsu",
+        RegisterOperation::Mulhu => "mulhu",
+        RegisterOperation::Div => "div",
+        RegisterOperation::Divu => "divu",
+        RegisterOperation::Rem => "rem",
+        RegisterOperation::Remu => "remu",
     }
 }
 

@@ -12,7 +12,7 @@ use Rattle.std.proofs.lemmas.List.Elements.{All-push}
 use Rattle.cc_script.specs.Reading.{Ahead, HasFewer, IsLine, IsLineEnd, IsNext, IsNoSource, IsNotRead, IsRead, IsSource, Known, rest_from}
 use Rattle.cc_script.specs.declared.fault.ScriptFault.{ScriptFault}
 use Rattle.cc_script.specs.declared.fault.ScriptFault.TheVariants.{BadLine, EndOfScript, ScriptTooLong, ReadFault, WriteFault}
-use Rattle.cc_script.specs.declared.script.Next.TheVariants.{TooLong}
+use Rattle.cc_script.specs.declared.script.NextLine.TheVariants.{TooLong}
 
 -- a range begins with its first byte
 pub range_more : (bytes : List ℕ) (at end : ℕ) → at < end → at < length bytes

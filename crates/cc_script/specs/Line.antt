@@ -3,25 +3,25 @@ use Rattle.std.specs.Prelude.{ℕ, ◌+◌, ◌-◌, ◌*◌, Bool, ◌&&◌, �
 use Rattle.std.specs.List.{slice_split}
 use Rattle.std.specs.Char.{is_ascii_digit}
 use Rattle.std.specs.Str.{bytes_eq}
-use Rattle.cc_script.specs.declared.command.Command.{Command}
-use Rattle.cc_script.specs.declared.command.Command.TheVariants as command
+use Rattle.cc_script.specs.declared.command.ScriptCommand.{ScriptCommand}
+use Rattle.cc_script.specs.declared.command.ScriptCommand.TheVariants as command
 use Rattle.cc_script.specs.declared.command.Dialect.{Dialect}
 use Rattle.cc_script.specs.declared.command.Dialect.TheVariants.{Plain, Served}
 
 -- what a script asks for: a change with a number of bytes of source behind its line, one without, or a look
-pub data Asked : Type 0 where
-  Add : (name : List ℕ) → (length : ℕ) → Asked
-  Replace : (name : List ℕ) → (length : ℕ) → Asked
-  Withdraw : (name : List ℕ) → Asked
-  Names : Asked
-  Run : (name : List ℕ) → (steps : ℕ) → Asked
-  Compact : Asked
-  Audit : Asked
-  Image : (name : List ℕ) → Asked
-  Source : (name : List ℕ) → Asked
+pub data ScriptRequest : Type 0 where
+  Add : (name : List ℕ) → (length : ℕ) → ScriptRequest
+  Replace : (name : List ℕ) → (length : ℕ) → ScriptRequest
+  Withdraw : (name : List ℕ) → ScriptRequest
+  Names : ScriptRequest
+  Run : (name : List ℕ) → (steps : ℕ) → ScriptRequest
+  Compact : ScriptRequest
+  Audit : ScriptRequest
+  Image : (name : List ℕ) → ScriptRequest
+  Source : (name : List ℕ) → ScriptRequest
 
 -- what a command of the code asks for
-abbrev pub asked_by : Command → Asked
+abbrev pub asked_by : ScriptCommand → ScriptRequest
 asked_by (command.Add name length) = Add name.now length
 asked_by (command.Replace name length) = Replace name.now length
 asked_by (command.Withdraw name) = Withdraw name.now
@@ -66,33 +66,33 @@ words line = slice_split (λ b. b == 32) line
 abbrev pub is_word : List ℕ → Bool
 is_word bytes = nat_lt 0 (length bytes)
 
-abbrev pub one_word : (verb : List ℕ) → Option Asked
+abbrev pub one_word : (verb : List ℕ) → Option ScriptRequest
 one_word verb =
     if bytes_eq verb (codes "list") then Some Names
     else if bytes_eq verb (codes "compact") then Some Compact
     else if bytes_eq verb (codes "audit") then Some Audit
     else None
 
-abbrev pub two_plain_words : (verb name : List ℕ) → Option Asked
+abbrev pub two_plain_words : (verb name : List ℕ) → Option ScriptRequest
 two_plain_words verb name = if bytes_eq verb (codes "withdraw") && is_word name then Some (Withdraw name) else None
 
 -- a script that is left for a server has two lines more
-abbrev pub two_served_words : (verb name : List ℕ) → Option Asked
+abbrev pub two_served_words : (verb name : List ℕ) → Option ScriptRequest
 two_served_words verb name =
     if bytes_eq verb (codes "image") && is_word name then Some (Image name)
     else if bytes_eq verb (codes "source") && is_word name then Some (Source name)
     else two_plain_words verb name
 
-abbrev pub two_words : Dialect → (verb name : List ℕ) → Option Asked
+abbrev pub two_words : Dialect → (verb name : List ℕ) → Option ScriptRequest
 two_words Plain verb name = two_plain_words verb name
 two_words Served verb name = two_served_words verb name
 
 -- what is asked of a name with a number, where there is one
-abbrev pub with_number : (ℕ → Asked) → Option ℕ → Option Asked
+abbrev pub with_number : (ℕ → ScriptRequest) → Option ℕ → Option ScriptRequest
 with_number make (Some n) = Some (make n)
 with_number make None = None
 
-abbrev pub three_words : (verb name digits : List ℕ) → Option Asked
+abbrev pub three_words : (verb name digits : List ℕ) → Option ScriptRequest
 three_words verb name digits =
     if is_word name then
     (if bytes_eq verb (codes "add") then with_number (Add name) (length_in digits)
@@ -101,12 +101,12 @@ three_words verb name digits =
     else None)
     else None
 
-abbrev pub asked_in : Dialect → (words : List (List ℕ)) → Option Asked
+abbrev pub asked_in : Dialect → (words : List (List ℕ)) → Option ScriptRequest
 asked_in dialect (verb ∷ []) = one_word verb
 asked_in dialect (verb ∷ name ∷ []) = two_words dialect verb name
 asked_in dialect (verb ∷ name ∷ digits ∷ []) = three_words verb name digits
 asked_in dialect words = None
 
 -- what a line of a script asks for, if anything
-abbrev pub asked_of : Dialect → (line : List ℕ) → Option Asked
+abbrev pub asked_of : Dialect → (line : List ℕ) → Option ScriptRequest
 asked_of dialect line = asked_in dialect (words line)

@@ -1,8 +1,8 @@
 -- What comes next in a script.
 use Rattle.std.specs.Prelude.{ℕ, ◌+◌, ◌≡◌, ◌≤◌, ◌≢◌, ◌⊎◌, ◌<◌, Bool, true, false, List, [], ◌∷◌, ◌++◌, Option, Some, None, IfSome, All, length, take}
 use Rattle.std.specs.Io.KnownBytes.{prepend_known}
-use Rattle.cc_script.specs.declared.script.Next.{Next}
-use Rattle.cc_script.specs.declared.script.Next.TheVariants.{Line, TooLong, End}
+use Rattle.cc_script.specs.declared.script.NextLine.{NextLine}
+use Rattle.cc_script.specs.declared.script.NextLine.TheVariants.{Line, TooLong, End}
 use Rattle.cc_script.specs.declared.fault.ScriptFault.{ScriptFault}
 use Rattle.cc_script.specs.declared.fault.ScriptFault.TheVariants.{BadLine, EndOfScript, ScriptTooLong, ReadFault, WriteFault}
 
@@ -13,7 +13,7 @@ pub record ScriptView : Type 0 where
   pub left : ℕ
 
 -- a line is no longer than it may be
-abbrev pub IsWithinLine : Next → Type 0
+abbrev pub IsWithinLine : NextLine → Type 0
 IsWithinLine (Line length) = length ≤ 128
 IsWithinLine TooLong = Unit {0}
 IsWithinLine End = Unit {0}
@@ -57,7 +57,7 @@ pub record IsLine (before line after : List ℕ) : Type 0 where
   pub ends : (before ≡ line ++ 10 ∷ after) ⊎ ((before ≡ line) × (after ≡ []))
 
 -- what comes next: a line, where a byte is left; the first 129 bytes of a longer one; the end
-abbrev pub IsNext : (before : List ℕ) → Next → (line after : List ℕ) → Type 0
+abbrev pub IsNext : (before : List ℕ) → NextLine → (line after : List ℕ) → Type 0
 IsNext before (Line length) line after = (before ≢ []) × IsLine before (take length line) after
 IsNext before TooLong line after = (prefix : List ℕ) × (before ≡ prefix ++ after) × (length prefix ≡ 129) × All (λ byte. byte ≢ 10) prefix
 IsNext before End line after = before ≡ []

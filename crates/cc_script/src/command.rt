@@ -21,7 +21,7 @@ pub enum Dialect {
 
 /// What a line of a script asks for.
 #[derive(Clone, Copy, Drop)]
-pub enum Command<'a> {
+pub enum ScriptCommand<'a> {
     /// Add a unit by that name, compiled from `length` bytes of source behind the line.
     Add { name: &'a [u8], length: usize },
     /// Replace the unit by that name, in the same way.
@@ -83,46 +83,46 @@ fn length_in(bytes: &[u8]) -> Option<usize>
 }
 
 // A command of one word.
-fn one_word<'a>(verb: &[u8]) -> Option<Command<'a>>
+fn one_word<'a>(verb: &[u8]) -> Option<ScriptCommand<'a>>
     ensures { option_map asked_by result ≡ one_word verb.now }
 {
     if verb == b"list".as_slice() {
-        Some(Command::List)
+        Some(ScriptCommand::List)
     } else if verb == b"compact".as_slice() {
-        Some(Command::Compact)
+        Some(ScriptCommand::Compact)
     } else if verb == b"audit".as_slice() {
-        Some(Command::Audit)
+        Some(ScriptCommand::Audit)
     } else {
         None
     }
 }
 
 // A command of two words, where it is one of a session's script.
-fn two_plain_words<'a>(verb: &[u8], name: &'a [u8]) -> Option<Command<'a>>
+fn two_plain_words<'a>(verb: &[u8], name: &'a [u8]) -> Option<ScriptCommand<'a>>
     ensures { option_map asked_by result ≡ two_plain_words verb.now name.now }
 {
     if verb == b"withdraw".as_slice() && !name.is_empty() {
-        Some(Command::Withdraw { name })
+        Some(ScriptCommand::Withdraw { name })
     } else {
         None
     }
 }
 
 // The same of a script that is left for a server.
-fn two_served_words<'a>(verb: &[u8], name: &'a [u8]) -> Option<Command<'a>>
+fn two_served_words<'a>(verb: &[u8], name: &'a [u8]) -> Option<ScriptCommand<'a>>
     ensures { option_map asked_by result ≡ two_served_words verb.now name.now }
 {
     if verb == b"image".as_slice() && !name.is_empty() {
-        Some(Command::Image { name })
+        Some(ScriptCommand::Image { name })
     } else if verb == b"source".as_slice() && !name.is_empty() {
-        Some(Command::Source { name })
+        Some(ScriptCommand::Source { name })
     } else {
         two_plain_words(verb, name)
     }
 }
 
 // A command of two words.
-fn two_words<'a>(dialect: Dialect, verb: &[u8], name: &'a [u8]) -> Option<Command<'a>>
+fn two_words<'a>(dialect: Dialect, verb: &[u8], name: &'a [u8]) -> Option<ScriptCommand<'a>>
     ensures { option_map asked_by result ≡ two_words dialect verb.now name.now }
 {
     match dialect {
@@ -132,7 +132,7 @@ fn two_words<'a>(dialect: Dialect, verb: &[u8], name: &'a [u8]) -> Option<Comman
 }
 
 // A command of three words.
-fn three_words<'a>(verb: &[u8], name: &'a [u8], digits: &[u8]) -> Option<Command<'a>>
+fn three_words<'a>(verb: &[u8], name: &'a [u8], digits: &[u8]) -> Option<ScriptCommand<'a>>
     ensures { option_map asked_by result ≡ three_words verb.now name.now digits.now }
 {
     if name.is_empty() {
@@ -140,21 +140,21 @@ fn three_words<'a>(verb: &[u8], name: &'a [u8], digits: &[u8]) -> Option<Command
     }
     if verb == b"add".as_slice() {
         let length = length_in(digits)?;
-        return Some(Command::Add { name, length });
+        return Some(ScriptCommand::Add { name, length });
     }
     if verb == b"replace".as_slice() {
         let length = length_in(digits)?;
-        return Some(Command::Replace { name, length });
+        return Some(ScriptCommand::Replace { name, length });
     }
     if verb == b"run".as_slice() {
         let steps = number_in(digits, 10, MOST_STEPS)?;
-        return Some(Command::Run { name, steps });
+        return Some(ScriptCommand::Run { name, steps });
     }
     None
 }
 
 /// What a line of a script asks for, which is said without its newline; none where it is no command of that dialect.
-pub fn command_of(dialect: Dialect, line: &[u8]) -> Option<Command<'_>>
+pub fn command_of(dialect: Dialect, line: &[u8]) -> Option<ScriptCommand<'_>>
     ensures { option_map asked_by result ≡ asked_of dialect line.now }
 {
     let (verb, rest) = cut(line);

@@ -2,7 +2,7 @@
 //!
 //! `command` is what a line asks for, in a session's script or in one that is left for a server; `commands` lists what lines may ask for,
 //! for a person; `script` reads lines and sources from a reader; `fault` is why a script or a line of it is refused.
-//! It knows nothing of libraries and services. Hands out `command_of`, `Command`, `Dialect`, `COMMANDS`, `Script`, `Next`, `ScriptFault`
+//! It knows nothing of libraries and services. Hands out `command_of`, `ScriptCommand`, `Dialect`, `COMMANDS`, `Script`, `NextLine`, `ScriptFault`
 //! and the limits.
 #![tactic(auto)]
 
@@ -11,7 +11,7 @@ mod commands;
 mod fault;
 mod script;
 
-pub use command::{Command, Dialect, MOST_STEPS, command_of};
+pub use command::{ScriptCommand, Dialect, MOST_STEPS, command_of};
 pub use commands::{COMMANDS, PLAIN_COMMANDS};
 pub use fault::ScriptFault;
-pub use script::{LINE_BYTES, MOST_BYTES, Next, Script};
+pub use script::{LINE_BYTES, MOST_BYTES, NextLine, Script};

@@ -23,7 +23,7 @@ const KEPT_BYTES: usize = 65_537;
 
 /// What comes next in a script.
 #[derive(Clone, Copy, Drop)]
-pub enum Next {
+pub enum NextLine {
     /// A line of this many bytes, without its newline. One is there where the script ends behind at least one byte.
     Line(usize),
     /// More bytes of a line than it may have. The rest of it is still to be skipped.
@@ -119,7 +119,7 @@ impl Script {
         &mut self,
         reader: &mut R,
         line: &mut [u8; LINE_BYTES],
-    ) -> Result<Next, ScriptFault>
+    ) -> Result<NextLine, ScriptFault>
         ensures within { IfOk result IsWithinLine }
         ensures bytes { IfOk result (λ next. Between (ahead_of self.old (R.remaining reader.old))
             (ahead_of self.new (R.remaining reader.new)) (λ before after. IsNext before next line.new after)) }
@@ -127,14 +127,14 @@ impl Script {
     {
         for length in 0..LINE_BYTES {
             match self.byte(reader)? {
-                None if length == 0 => return Ok(Next::End),
-                None | Some(b'\n') => return Ok(Next::Line(length)),
+                None if length == 0 => return Ok(NextLine::End),
+                None | Some(b'\n') => return Ok(NextLine::Line(length)),
                 Some(byte) => line[length] = byte,
             }
         }
         match self.byte(reader)? {
-            None | Some(b'\n') => Ok(Next::Line(LINE_BYTES)),
-            Some(_) => Ok(Next::TooLong),
+            None | Some(b'\n') => Ok(NextLine::Line(LINE_BYTES)),
+            Some(_) => Ok(NextLine::TooLong),
         }
     }
 

@@ -3,8 +3,8 @@ use Rattle.std.proofs.Common.{◌≡◌, ℕ, Option, Some, None, true, false, B
 use Rattle.std.specs.Prelude.{if◌then◌else◌, ◌==◌, not}
 use Rattle.cc_words.specs.declared.operators.Width.{Width}
 use Rattle.cc_words.specs.declared.operators.Binary as binary
-use Rattle.cc_linear_language.specs.declared.item.Item as linear
-use Rattle.cc_linear_language.specs.declared.item.Item.TheVariants.{Jump, IfNonzero, IfZero, Binary, Load, Store}
+use Rattle.cc_linear_language.specs.declared.item.LinearItem.{LinearItem}
+use Rattle.cc_linear_language.specs.declared.item.LinearItem.TheVariants.{Jump, IfNonzero, IfZero, Binary, Load, Store}
 use Rattle.cc_select.specs.declared.step.Step.{Step}
 use Rattle.cc_select.specs.declared.step.Step.TheVariants.{One, Immediate, LoadAt, StoreAt}
 use Rattle.cc_select.specs.Immediates.{Form, has_word, immediate_of, immediate_of_left}
@@ -44,7 +44,7 @@ module _ (P : Step → Type 0) where
   pub store_gives : (k : Known) (width : Width) (g i a : ℕ) → ((w : ℕ) → k i ≡ Some w → P (StoreAt width g w a)) → P (One (Store width g i a)) → P (choose k (Store width g i a))
   store_gives k width g i a f x = number_gives (k i) (One (Store width g i a)) (λ w. StoreAt width g w a) f x
 
-  test_gives : (nonzero : Bool) (z : Option ℕ) (i : linear.Item) (n : ℕ) → ((w : ℕ) → z ≡ Some w → (w == 0) ≡ not nonzero → P (One (Jump n))) → P (One i) → P (if is_taken nonzero z then One (Jump n) else One i)
+  test_gives : (nonzero : Bool) (z : Option ℕ) (i : LinearItem) (n : ℕ) → ((w : ℕ) → z ≡ Some w → (w == 0) ≡ not nonzero → P (One (Jump n))) → P (One i) → P (if is_taken nonzero z then One (Jump n) else One i)
   test_gives nonzero None i n f x = x
   test_gives true (Some w) i n f x = by (w == 0) refl
     where

@@ -15,8 +15,8 @@ use Rattle.cc_simulation.proofs.Lockstep.{same_run, same_work}
 use Rattle.cc_ltl.specs.declared.location.Location.TheVariants.{Register, Slot}
 use Rattle.cc_ltl.specs.declared.operation.Move.TheVariants.{Between, Reload, Spill}
 use Rattle.cc_ltl.specs.Ltl.{Locations, put, after_call}
-use Rattle.cc_linear_language.specs.declared.item.Item as linear
-use Rattle.cc_linear_language.specs.declared.item.Item.TheVariants.{Label, Jump, IfNonzero, IfZero, Copy, Const, Unary, Binary, Load, Store, Call, Read, Write, Return}
+use Rattle.cc_linear_language.specs.declared.item.LinearItem.{LinearItem}
+use Rattle.cc_linear_language.specs.declared.item.LinearItem.TheVariants.{Label, Jump, IfNonzero, IfZero, Copy, Const, Unary, Binary, Load, Store, Call, Read, Write, Return}
 use Rattle.cc_linear_language.specs.Linear as above
 use Rattle.cc_linear_language.specs.Linear.{at_items, linear_move, linear_output, linear_start}
 use Rattle.cc_select.specs.declared.step.Step.{Step}
@@ -64,11 +64,11 @@ call_holds v ws k l h r w e = by (10 == r) refl (survives r) refl e
 
 -- ---- places
 
-chosen_if : (b : Bool) (n : ℕ) (is js : List linear.Item) (ss : List Step) → ss ≡ chosen unknown js → (if b then One (Label n) ∷ chosen unknown is else ss) ≡ chosen unknown (if b then Label n ∷ is else js)
+chosen_if : (b : Bool) (n : ℕ) (is js : List LinearItem) (ss : List Step) → ss ≡ chosen unknown js → (if b then One (Label n) ∷ chosen unknown is else ss) ≡ chosen unknown (if b then Label n ∷ is else js)
 chosen_if true n is js ss e = refl
 chosen_if false n is js ss e = e
 
-pub chosen_place : (k : Known) (is : List linear.Item) (l : ℕ) → place (chosen k is) l ≡ chosen unknown (above.place is l)
+pub chosen_place : (k : Known) (is : List LinearItem) (l : ℕ) → place (chosen k is) l ≡ chosen unknown (above.place is l)
 chosen_place k [] l = refl
 chosen_place k (Label n ∷ is) l = chosen_if (n == l) n is (above.place is l) (place (chosen unknown is) l) (chosen_place unknown is l)
 chosen_place k (IfNonzero r n ∷ is) l = there_place (choose k (IfNonzero r n)) (chosen k is) l (nonzero_there k r n) ∙ chosen_place k is l
@@ -80,7 +80,7 @@ chosen_place k (i ∷ is) l = chosen_place (known_behind i k) is l
 
 -- ---- hand in hand
 
-module _ (arity : ℕ → ℕ) (code : List linear.Item) where
+module _ (arity : ℕ → ℕ) (code : List LinearItem) where
   abbrev steps : List Step
   steps = chosen unknown code
 
@@ -95,15 +95,15 @@ module _ (arity : ℕ → ℕ) (code : List linear.Item) where
   abbrev Both : Moving above.Configuration → Moving Configuration → Type 0
   Both m n = Alike Same m n
 
-  same : (k : Known) (is : List linear.Item) (ss : List Step) (l : Locations) (h : World) (ws : List ℕ) → Holds k l → ss ≡ chosen k is → Same (at_items is l h ws) (at_steps ss l h ws)
+  same : (k : Known) (is : List LinearItem) (ss : List Step) (l : Locations) (h : World) (ws : List ℕ) → Holds k l → ss ≡ chosen k is → Same (at_items is l h ws) (at_steps ss l h ws)
   same k is ss l h ws p e = record { known = k; holds = p; steps = e; locations = refl; world = refl; words = refl }
 
   same_place : (n : ℕ) (l : Locations) (h : World) (ws : List ℕ) → Same (at_items (above.place code n) l h ws) (at_steps (place steps n) l h ws)
   same_place n l h ws = same unknown (above.place code n) (place steps n) l h ws (unknown_holds l) (chosen_place unknown code n)
 
-  either_alike : (b : Bool) (is js : List linear.Item) (ss ts : List Step) (l : Locations) (h : World) (ws : List ℕ) → Same (at_items is l h ws) (at_steps ss l h ws) → Same (at_items js l h ws) (at_steps ts l h ws)
+  either_alike : (b : Bool) (is js : List LinearItem) (ss ts : List Step) (l : Locations) (h : World) (ws : List ℕ) → Same (at_items is l h ws) (at_steps ss l h ws) → Same (at_items js l h ws) (at_steps ts l h ws)
       → Same (at_items (if b then is else js) l h ws) (at_steps (if b then ss else ts) l h ws)
-  either_alike b is js ss ts l h ws p q = if_alike (λ (xs : List linear.Item) (ys : List Step). Same (at_items xs l h ws) (at_steps ys l h ws)) b is js ss ts p q
+  either_alike b is js ss ts l h ws p q = if_alike (λ (xs : List LinearItem) (ys : List Step). Same (at_items xs l h ws) (at_steps ys l h ws)) b is js ss ts p q
 
   tried_alike : {X : Type 0} (x y : Option X) (f : X → Moving above.Configuration) (g : X → Moving Configuration) → x ≡ y → ((v : X) → Both (f v) (g v)) → Both (tried x f) (tried y g)
   tried_alike {X} x y f g e b = subst (λ z. Both (tried x f) (tried z g)) e (by x)
@@ -113,20 +113,20 @@ module _ (arity : ℕ → ℕ) (code : List linear.Item) where
       by (Some v) = b v
 
   -- a word is made and put into a register
-  put_alike : (x y : Option ℕ) (to : ℕ) (k : Known) (is : List linear.Item) (l : Locations) (h : World) (ws : List ℕ) → Holds k l → x ≡ y
+  put_alike : (x y : Option ℕ) (to : ℕ) (k : Known) (is : List LinearItem) (l : Locations) (h : World) (ws : List ℕ) → Holds k l → x ≡ y
       → Both (tried x (λ w. Goes (at_items is (put (Register to) w l) h ws))) (tried y (λ w. Goes (at_steps (chosen (forget to k) is) (put (Register to) w l) h ws)))
   put_alike x y to k is l h ws p e =
       tried_alike x y (λ w. Goes (at_items is (put (Register to) w l) h ws)) (λ w. Goes (at_steps (chosen (forget to k) is) (put (Register to) w l) h ws)) e
       (λ v. same (forget to k) is (chosen (forget to k) is) (put (Register to) v l) h ws (forget_holds to v k l p) refl)
 
-  stored_alike : (x y : Option World) (k : Known) (is : List linear.Item) (l : Locations) (ws : List ℕ) → Holds k l → x ≡ y → Both (tried x (λ w. Goes (at_items is l w ws))) (tried y (λ w. Goes (at_steps (chosen k is) l w ws)))
+  stored_alike : (x y : Option World) (k : Known) (is : List LinearItem) (l : Locations) (ws : List ℕ) → Holds k l → x ≡ y → Both (tried x (λ w. Goes (at_items is l w ws))) (tried y (λ w. Goes (at_steps (chosen k is) l w ws)))
   stored_alike x y k is l ws p e = tried_alike x y (λ w. Goes (at_items is l w ws)) (λ w. Goes (at_steps (chosen k is) l w ws)) e (λ v. same k is (chosen k is) l v ws p refl)
 
   -- what a step for an operation has to do
-  abbrev Right : (o : binary.Binary) (to b c : ℕ) (k : Known) (is : List linear.Item) (l : Locations) (h : World) (ws : List ℕ) → Step → Type 0
+  abbrev Right : (o : binary.Binary) (to b c : ℕ) (k : Known) (is : List LinearItem) (l : Locations) (h : World) (ws : List ℕ) → Step → Type 0
   Right o to b c k is l h ws s = Both (above.does arity code (Binary o to b c ∷ is) l h ws) (does arity steps (s ∷ chosen (forget to k) is) l h ws)
 
-  binary_alike : (o : binary.Binary) (to b c : ℕ) (k : Known) (is : List linear.Item) (l : Locations) (h : World) (ws : List ℕ) → Holds k l → Right o to b c k is l h ws (choose k (Binary o to b c))
+  binary_alike : (o : binary.Binary) (to b c : ℕ) (k : Known) (is : List LinearItem) (l : Locations) (h : World) (ws : List ℕ) → Holds k l → Right o to b c k is l h ws (choose k (Binary o to b c))
   binary_alike o to b c k is l h ws p =
       binary_gives (Right o to b c k is l h ws) k o to b c
       (λ w f known is_f has. put_alike _ _ to k is l h ws p (ap (λ n. apply_binary o (l (Register b)) n) (p c w known) ∙ (right_is o w f is_f).same (l (Register b)) has))
@@ -134,39 +134,39 @@ module _ (arity : ℕ → ℕ) (code : List linear.Item) where
       (put_alike (apply_binary o (l (Register b)) (l (Register c))) (apply_binary o (l (Register b)) (l (Register c))) to k is l h ws p refl)
 
   -- a branch that is certain leads where the jump does
-  certain_alike : (b c : Bool) (is js there : List linear.Item) (ss : List Step) (l : Locations) (h : World) (ws : List ℕ) → b ≡ c → (if c then is else js) ≡ there → Same (at_items there l h ws) (at_steps ss l h ws)
+  certain_alike : (b c : Bool) (is js there : List LinearItem) (ss : List Step) (l : Locations) (h : World) (ws : List ℕ) → b ≡ c → (if c then is else js) ≡ there → Same (at_items there l h ws) (at_steps ss l h ws)
       → Same (at_items (if b then is else js) l h ws) (at_steps ss l h ws)
-  certain_alike b c is js there ss l h ws e leads same = subst (λ (xs : List linear.Item). Same (at_items xs l h ws) (at_steps ss l h ws)) (sym (ap (λ (x : Bool). if x then is else js) e ∙ leads)) same
+  certain_alike b c is js there ss l h ws e leads same = subst (λ (xs : List LinearItem). Same (at_items xs l h ws) (at_steps ss l h ws)) (sym (ap (λ (x : Bool). if x then is else js) e ∙ leads)) same
 
-  nonzero_alike : (r n : ℕ) (k : Known) (is : List linear.Item) (l : Locations) (h : World) (ws : List ℕ) → Holds k l
+  nonzero_alike : (r n : ℕ) (k : Known) (is : List LinearItem) (l : Locations) (h : World) (ws : List ℕ) → Holds k l
       → Both (above.does arity code (IfNonzero r n ∷ is) l h ws) (does arity steps (choose k (IfNonzero r n) ∷ chosen k is) l h ws)
   nonzero_alike r n k is l h ws p =
       nonzero_gives (λ s. Both (above.does arity code (IfNonzero r n ∷ is) l h ws) (does arity steps (s ∷ chosen k is) l h ws)) k r n
       (λ w known e. certain_alike (l (Register r) == 0) false is (above.place code n) (above.place code n) (place steps n) l h ws (ap (λ v. v == 0) (p r w known) ∙ e) refl (same_place n l h ws))
       (either_alike (l (Register r) == 0) is (above.place code n) (chosen k is) (place steps n) l h ws (same k is (chosen k is) l h ws p refl) (same_place n l h ws))
 
-  zero_alike : (r n : ℕ) (k : Known) (is : List linear.Item) (l : Locations) (h : World) (ws : List ℕ) → Holds k l
+  zero_alike : (r n : ℕ) (k : Known) (is : List LinearItem) (l : Locations) (h : World) (ws : List ℕ) → Holds k l
       → Both (above.does arity code (IfZero r n ∷ is) l h ws) (does arity steps (choose k (IfZero r n) ∷ chosen k is) l h ws)
   zero_alike r n k is l h ws p =
       zero_gives (λ s. Both (above.does arity code (IfZero r n ∷ is) l h ws) (does arity steps (s ∷ chosen k is) l h ws)) k r n
       (λ w known e. certain_alike (l (Register r) == 0) true (above.place code n) is (above.place code n) (place steps n) l h ws (ap (λ v. v == 0) (p r w known) ∙ e) refl (same_place n l h ws))
       (either_alike (l (Register r) == 0) (above.place code n) is (place steps n) (chosen k is) l h ws (same_place n l h ws) (same k is (chosen k is) l h ws p refl))
 
-  load_alike : (width : Width) (g to i : ℕ) (k : Known) (is : List linear.Item) (l : Locations) (h : World) (ws : List ℕ) → Holds k l
+  load_alike : (width : Width) (g to i : ℕ) (k : Known) (is : List LinearItem) (l : Locations) (h : World) (ws : List ℕ) → Holds k l
       → Both (above.does arity code (Load width g to i ∷ is) l h ws) (does arity steps (choose k (Load width g to i) ∷ chosen (forget to k) is) l h ws)
   load_alike width g to i k is l h ws p =
       load_gives (λ s. Both (above.does arity code (Load width g to i ∷ is) l h ws) (does arity steps (s ∷ chosen (forget to k) is) l h ws)) k width g to i
       (λ w known. put_alike (element h width g (l (Register i))) (element h width g w) to k is l h ws p (ap (element h width g) (p i w known)))
       (put_alike (element h width g (l (Register i))) (element h width g (l (Register i))) to k is l h ws p refl)
 
-  store_alike : (width : Width) (g i b : ℕ) (k : Known) (is : List linear.Item) (l : Locations) (h : World) (ws : List ℕ) → Holds k l
+  store_alike : (width : Width) (g i b : ℕ) (k : Known) (is : List LinearItem) (l : Locations) (h : World) (ws : List ℕ) → Holds k l
       → Both (above.does arity code (Store width g i b ∷ is) l h ws) (does arity steps (choose k (Store width g i b) ∷ chosen k is) l h ws)
   store_alike width g i b k is l h ws p =
       store_gives (λ s. Both (above.does arity code (Store width g i b ∷ is) l h ws) (does arity steps (s ∷ chosen k is) l h ws)) k width g i b
       (λ w known. stored_alike (stored h width g (l (Register i)) (l (Register b))) (stored h width g w (l (Register b))) k is l ws p (ap (λ n. stored h width g n (l (Register b))) (p i w known)))
       (stored_alike (stored h width g (l (Register i)) (l (Register b))) (stored h width g (l (Register i)) (l (Register b))) k is l ws p refl)
 
-  pub does_alike : (k : Known) (is : List linear.Item) (l : Locations) (h : World) (ws : List ℕ) → Holds k l → Both (above.does arity code is l h ws) (does arity steps (chosen k is) l h ws)
+  pub does_alike : (k : Known) (is : List LinearItem) (l : Locations) (h : World) (ws : List ℕ) → Holds k l → Both (above.does arity code is l h ws) (does arity steps (chosen k is) l h ws)
   does_alike k [] l h ws p = tt
   does_alike k (Label n ∷ is) l h ws p = does_alike unknown is l h ws (unknown_holds l)
   does_alike k (Jump n ∷ is) l h ws p = same_place n l h ws
@@ -197,7 +197,7 @@ module _ (arity : ℕ → ℕ) (code : List linear.Item) where
 -- ---- the whole
 
 -- what keeps up with a function keeps up by the steps that are chosen, at the same rate
-pub chosen_tracks : (meaning : Meaning) (f rate slots : ℕ) (code : List linear.Item)
+pub chosen_tracks : (meaning : Meaning) (f rate slots : ℕ) (code : List LinearItem)
     → TracksForAll meaning f rate (linear_move meaning.arity code) linear_output (linear_start slots code)
     → TracksForAll meaning f rate (selected_move meaning.arity (chosen unknown code)) selected_output (selected_start slots (chosen unknown code))
 chosen_tracks meaning f rate slots code keeps d below ws h is_call n =

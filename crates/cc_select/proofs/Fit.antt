@@ -7,8 +7,8 @@ use Rattle.std.specs.List.{AllByRecursion, AllPairs}
 use Rattle.cc_simulation.specs.Unknown.{survives}
 use Rattle.cc_ltl.specs.declared.operation.Move.TheVariants.{Between, Reload, Spill}
 use Rattle.cc_ltl.specs.Ltl.{IsWord}
-use Rattle.cc_linear_language.specs.declared.item.Item as linear
-use Rattle.cc_linear_language.specs.declared.item.Item.TheVariants.{Label, Jump, IfNonzero, IfZero, Copy, Const, Unary, Binary, Load, Store, Call, Read, Write, Return}
+use Rattle.cc_linear_language.specs.declared.item.LinearItem.{LinearItem}
+use Rattle.cc_linear_language.specs.declared.item.LinearItem.TheVariants.{Label, Jump, IfNonzero, IfZero, Copy, Const, Unary, Binary, Load, Store, Call, Read, Write, Return}
 use Rattle.cc_linear_language.specs.Linear as above
 use Rattle.cc_linear_language.specs.Linear.{IsItem, IsLinear}
 use Rattle.cc_select.specs.declared.step.Step.{Step}
@@ -28,7 +28,7 @@ use Rattle.cc_select.proofs.Threading_fits.{threaded_linear}
 
 -- ---- labels
 
-chosen_labels : (k : Known) (is : List linear.Item) → labels (chosen k is) ≡ above.labels is
+chosen_labels : (k : Known) (is : List LinearItem) → labels (chosen k is) ≡ above.labels is
 chosen_labels k [] = refl
 chosen_labels k (Label n ∷ is) = ap (λ (ls : List ℕ). n ∷ ls) (chosen_labels unknown is)
 chosen_labels k (IfNonzero r n ∷ is) = there_labels (choose k (IfNonzero r n)) (chosen k is) (nonzero_there k r n) ∙ chosen_labels k is
@@ -63,7 +63,7 @@ fused_labels at [] = refl
 fused_labels at (One (Label n) ∷ steps) = ap (λ (ls : List ℕ). n ∷ ls) (fused_labels at steps)
 fused_labels at (s ∷ steps) = joined_labels at s (truth_of s) (test_of steps) steps refl refl tt ∙ fused_labels at steps
 
-trimmed_labels : (is : List linear.Item) → labels (trimmed (chosen unknown is)) ≡ above.labels is
+trimmed_labels : (is : List LinearItem) → labels (trimmed (chosen unknown is)) ≡ above.labels is
 trimmed_labels is =
     let steps = chosen unknown is in
     fused_labels (table steps) (lean (table steps) steps) ∙ lean_labels (table steps) steps ∙ chosen_labels unknown is
@@ -106,7 +106,7 @@ module _ (slots functions : ℕ) (all : List ℕ) where
   abbrev AreFit : List Step → Type 0
   AreFit steps = AllByRecursion (IsStep slots functions all) steps
 
-  words_behind : (i : linear.Item) (k : Known) → IsItem slots functions all i → AreWords k → AreWords (known_behind i k)
+  words_behind : (i : LinearItem) (k : Known) → IsItem slots functions all i → AreWords k → AreWords (known_behind i k)
   words_behind (Label n) k f p = words_unknown
   words_behind (Jump n) k f p = words_unknown
   words_behind (IfNonzero r n) k f p = p
@@ -124,7 +124,7 @@ module _ (slots functions : ℕ) (all : List ℕ) where
   words_behind Write k f p = words_forget 17 k p
   words_behind Return k f p = words_unknown
 
-  choose_fits : (i : linear.Item) (k : Known) → IsItem slots functions all i → AreWords k → Fits (choose k i)
+  choose_fits : (i : LinearItem) (k : Known) → IsItem slots functions all i → AreWords k → Fits (choose k i)
   choose_fits (IfNonzero r n) k f p = nonzero_gives Fits k r n (λ w known is. f.1) f
   choose_fits (IfZero r n) k f p = zero_gives Fits k r n (λ w known is. f.1) f
   choose_fits (Binary o to a b) k f p =
@@ -133,7 +133,7 @@ module _ (slots functions : ℕ) (all : List ℕ) where
   choose_fits (Store width g i a) k f p = store_gives Fits k width g i a (λ w known. (f.0, p i w known, f.2)) f
   choose_fits i k f p = f
 
-  chosen_fits : (is : List linear.Item) (k : Known) → AllByRecursion (IsItem slots functions all) is → AreWords k → AreFit (chosen k is)
+  chosen_fits : (is : List LinearItem) (k : Known) → AllByRecursion (IsItem slots functions all) is → AreWords k → AreFit (chosen k is)
   chosen_fits [] k f p = tt
   chosen_fits (i ∷ is) k f p = (choose_fits i k f.0 p, chosen_fits is (known_behind i k) f.1 (words_behind i k f.0 p))
 
@@ -163,14 +163,14 @@ module _ (slots functions : ℕ) (all : List ℕ) where
   fused_fits at [] f = tt
   fused_fits at (s ∷ steps) f = joined_fits at s (truth_of s) (test_of steps) steps (fused at steps) refl refl f.0 f.1 (fused_fits at steps f.1)
 
-  trimmed_fits : (is : List linear.Item) → AllByRecursion (IsItem slots functions all) is → AreFit (trimmed (chosen unknown is))
+  trimmed_fits : (is : List LinearItem) → AllByRecursion (IsItem slots functions all) is → AreFit (trimmed (chosen unknown is))
   trimmed_fits is f =
       let steps = chosen unknown is in
       fused_fits (table steps) (lean (table steps) steps) (lean_fits (table steps) steps (chosen_fits is unknown f words_unknown))
 
 -- ---- the whole
 
-are_trimmed : (slots functions : ℕ) (is : List linear.Item) → IsLinear slots functions is → IsSelected slots functions (trimmed (chosen unknown is))
+are_trimmed : (slots functions : ℕ) (is : List LinearItem) → IsLinear slots functions is → IsSelected slots functions (trimmed (chosen unknown is))
 are_trimmed slots functions is p =
     let e = sym (trimmed_labels is) in
     record {
@@ -179,5 +179,5 @@ are_trimmed slots functions is p =
       fit = subst (λ (ls : List ℕ). AllByRecursion (IsStep slots functions ls) (trimmed (chosen unknown is))) e (trimmed_fits slots functions (above.labels is) is p.fit);
     }
 
-pub is_selected : (slots functions : ℕ) (is : List linear.Item) → IsLinear slots functions is → IsSelected slots functions (selected is)
+pub is_selected : (slots functions : ℕ) (is : List LinearItem) → IsLinear slots functions is → IsSelected slots functions (selected is)
 is_selected slots functions is p = are_trimmed slots functions (threaded is) (threaded_linear slots functions is p)

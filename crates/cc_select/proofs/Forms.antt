@@ -8,8 +8,8 @@ use Rattle.cc_words.specs.Operators.{apply_binary}
 use Rattle.cc_words.specs.declared.operators.Binary as binary
 use Rattle.cc_words.specs.declared.operators.Binary.TheVariants as operators
 use Rattle.cc_ltl.specs.Ltl.{IsWord}
-use Rattle.cc_select.specs.declared.step.Immediate as immediate
-use Rattle.cc_select.specs.declared.step.Immediate.TheVariants.{Add, Sub, Shl, ShrS, ShrU, And, Or, Xor, Eq, Ne, LtS, LtU, LeS, LeU, GtS, GtU, GeS, GeU}
+use Rattle.cc_select.specs.declared.step.WordOperator.{WordOperator}
+use Rattle.cc_select.specs.declared.step.WordOperator.TheVariants.{Add, Sub, Shl, ShrS, ShrU, And, Or, Xor, Eq, Ne, LtS, LtU, LeS, LeU, GtS, GtU, GeS, GeU}
 use Rattle.cc_select.specs.Immediates.{apply_immediate, has_word, exponent, is_power, Form, immediate_of, immediate_of_left}
 use Rattle.cc_select.proofs.Basics.{none_some, eqb_says, eqb_turned}
 
@@ -20,7 +20,7 @@ pub record Stands (gives : ℕ → Option ℕ) (w : ℕ) (f : Form) : Type 0 whe
 
 -- ---- with the same word
 
-with_it : (gives : ℕ → Option ℕ) (w : ℕ) (o : immediate.Immediate) (f : Form) → Some (o, w) ≡ Some f → ((a : ℕ) → gives a ≡ apply_immediate o a w) → Stands gives w f
+with_it : (gives : ℕ → Option ℕ) (w : ℕ) (o : WordOperator) (f : Form) → Some (o, w) ≡ Some f → ((a : ℕ) → gives a ≡ apply_immediate o a w) → Stands gives w f
 with_it gives w o f e same = let is : (o, w) ≡ f = cc in subst (Stands gives w) is (record { same = λ a has. same a; word = λ p. p })
 
 -- ---- powers of two

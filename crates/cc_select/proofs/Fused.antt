@@ -18,9 +18,9 @@ use Rattle.cc_simulation.proofs.Simulating.{coarser}
 use Rattle.cc_ltl.specs.declared.location.Location.TheVariants.{Register}
 use Rattle.cc_ltl.specs.Registers.{IsAllocatable}
 use Rattle.cc_ltl.specs.Ltl.{Locations, put}
-use Rattle.cc_linear_language.specs.declared.item.Item.TheVariants.{Label, IfNonzero, IfZero, Unary, Binary}
-use Rattle.cc_select.specs.declared.step.Immediate as immediate
-use Rattle.cc_select.specs.declared.step.Immediate.TheVariants as immediate_operators
+use Rattle.cc_linear_language.specs.declared.item.LinearItem.TheVariants.{Label, IfNonzero, IfZero, Unary, Binary}
+use Rattle.cc_select.specs.declared.step.WordOperator.{WordOperator}
+use Rattle.cc_select.specs.declared.step.WordOperator.TheVariants as immediate_operators
 use Rattle.cc_select.specs.declared.step.Step.{Step}
 use Rattle.cc_select.specs.declared.step.Step.TheVariants.{One, Immediate, Branch, BranchImmediate}
 use Rattle.cc_select.specs.Immediates.{operator_of, apply_immediate, is_comparison, gains}
@@ -174,7 +174,7 @@ xor_truth to a b = record {
       ap (λ (xs : List Step). Goes (at_steps xs l h ws)) (same_led nonzero (ne x y) (xor x y) steps (place code n) (differ_tests x y) ∙ ap (λ v. led nonzero v steps (place code n)) q);
 }
 
-gains_test : (o : immediate.Immediate) (w : ℕ) → gains o w ≡ true → is_comparison (operator_of o) ≡ true
+gains_test : (o : WordOperator) (w : ℕ) → gains o w ≡ true → is_comparison (operator_of o) ≡ true
 gains_test immediate_operators.Eq w e = refl
 gains_test immediate_operators.Ne w e = refl
 gains_test immediate_operators.LtS w e = refl
@@ -187,7 +187,7 @@ gains_test immediate_operators.GeS w e = refl
 gains_test immediate_operators.GeU w e = refl
 gains_test o w e = absurd (let z : false ≡ true = e in cc)
 
-immediate_truth : (o : immediate.Immediate) (to a w : ℕ) → gains o w ≡ true → IsTruth (Immediate o to a w) (record { register = to; branch = λ nonzero n. BranchImmediate o nonzero a w n })
+immediate_truth : (o : WordOperator) (to a w : ℕ) → gains o w ≡ true → IsTruth (Immediate o to a w) (record { register = to; branch = λ nonzero n. BranchImmediate o nonzero a w n })
 immediate_truth o to a w gains = record {
   value = λ l. apply_immediate o (l (Register a)) w;
   makes = λ arity code steps l h ws. refl;

@@ -9,7 +9,7 @@ use Rattle.cc_simulation.specs.Tracks.{TracksForAll}
 use Rattle.cc_simulation.proofs.Simulating.{coarser}
 use Rattle.cc_ltl.specs.declared.location.Location.TheVariants.{Register}
 use Rattle.cc_ltl.specs.Ltl.{Locations, put}
-use Rattle.cc_linear_language.specs.declared.item.Item.TheVariants.{Label, Const}
+use Rattle.cc_linear_language.specs.declared.item.LinearItem.TheVariants.{Label, Const}
 use Rattle.cc_select.specs.declared.step.Step.{Step}
 use Rattle.cc_select.specs.declared.step.Step.TheVariants.{One}
 use Rattle.cc_select.specs.Selected.{Configuration, at_steps, place, does, selected_move, selected_output, selected_start}

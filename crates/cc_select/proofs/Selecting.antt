@@ -7,7 +7,7 @@ use Rattle.cc_linear_language.specs.Meaning.{functions}
 use Rattle.cc_simulation.specs.Meaning.{Meaning}
 use Rattle.cc_simulation.specs.Tracks.{TracksForAll}
 use Rattle.cc_simulation.proofs.Simulating.{coarser}
-use Rattle.cc_linear_language.specs.declared.item.Item as linear
+use Rattle.cc_linear_language.specs.declared.item.LinearItem.{LinearItem}
 use Rattle.cc_linear_language.specs.Linear.{labels, linear_move, linear_output, linear_start}
 use Rattle.cc_linear_language.specs.Pair as above
 use Rattle.cc_select.specs.declared.step.Step.{Step}
@@ -37,16 +37,16 @@ trimmed_tracks meaning f rate slots steps few keeps =
     let settled = is_settled steps in
     fused_tracks meaning f (coarser rate (length steps)) slots (lean at steps) at (lean_settled at steps settled) few (lean_tracks meaning f rate slots steps at settled few keeps)
 
-abbrev selected_rate : (rate : ℕ) → List linear.Item → ℕ
+abbrev selected_rate : (rate : ℕ) → List LinearItem → ℕ
 selected_rate rate items = trimmed_rate (coarser rate 1) (chosen unknown (threaded items))
 
-pub selected_tracks : (meaning : Meaning) (f rate slots : ℕ) (items : List linear.Item) → Distinct (labels items) → ((g : ℕ) → meaning.arity g ≤ 8)
+pub selected_tracks : (meaning : Meaning) (f rate slots : ℕ) (items : List LinearItem) → Distinct (labels items) → ((g : ℕ) → meaning.arity g ≤ 8)
     → TracksForAll meaning f rate (linear_move meaning.arity items) linear_output (linear_start slots items)
     → TracksForAll meaning f (selected_rate rate items) (selected_move meaning.arity (selected items)) selected_output (selected_start slots (selected items))
 selected_tracks meaning f rate slots items distinct few keeps =
     trimmed_tracks meaning f (coarser rate 1) slots (chosen unknown (threaded items)) few (chosen_tracks meaning f (coarser rate 1) slots (threaded items) (threaded_tracks meaning f rate slots items distinct keeps))
 
-pub keeps_up_selected : (unit : List External) (f slots : ℕ) (items : List linear.Item) → IsWithinLimits unit → Distinct (labels items) → above.KeepsUp unit f slots items → KeepsUp unit f slots (selected items)
+pub keeps_up_selected : (unit : List External) (f slots : ℕ) (items : List LinearItem) → IsWithinLimits unit → Distinct (labels items) → above.KeepsUp unit f slots items → KeepsUp unit f slots (selected items)
 keeps_up_selected unit f slots items limits distinct (rate, keeps) = (
   selected_rate rate items,
   λ meaning is. selected_tracks meaning f rate slots items distinct (few_of_meaning unit meaning limits is) (keeps meaning is),

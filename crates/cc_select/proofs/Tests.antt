@@ -8,8 +8,8 @@ use Rattle.cc_simulation.specs.World.{World}
 use Rattle.cc_simulation.specs.Run.{Goes}
 use Rattle.cc_ltl.specs.declared.location.Location.TheVariants.{Register}
 use Rattle.cc_ltl.specs.Ltl.{Locations}
-use Rattle.cc_linear_language.specs.declared.item.Item.{Item}
-use Rattle.cc_linear_language.specs.declared.item.Item.TheVariants.{Label, Jump, IfNonzero, IfZero}
+use Rattle.cc_linear_language.specs.declared.item.LinearItem.{LinearItem}
+use Rattle.cc_linear_language.specs.declared.item.LinearItem.TheVariants.{Label, Jump, IfNonzero, IfZero}
 use Rattle.cc_linear_language.specs.Linear.{labels, place, at_items, does}
 use Rattle.cc_select.specs.Known.{Known, is_taken}
 use Rattle.cc_select.specs.Threading.{Tests, branches_to, first_test, test_behind, tests, way, before_jump}
@@ -18,24 +18,24 @@ use Rattle.cc_select.proofs.Choosing.{Holds}
 
 -- ---- a test
 
-abbrev pub IsTest : Item → Type 0
+abbrev pub IsTest : LinearItem → Type 0
 IsTest (IfNonzero r m) = Unit {0}
 IsTest (IfZero r m) = Unit {0}
 IsTest i = ⊥
 
 -- where it leads
-abbrev pub target_of : Item → ℕ
+abbrev pub target_of : LinearItem → ℕ
 target_of (IfNonzero r m) = m
 target_of (IfZero r m) = m
 target_of i = 0
 
 -- whether it leads there
-abbrev pub leads : Item → Locations → Bool
+abbrev pub leads : LinearItem → Locations → Bool
 leads (IfNonzero r m) l = not (l (Register r) == 0)
 leads (IfZero r m) l = l (Register r) == 0
 leads i l = false
 
-pub test_does : (arity : ℕ → ℕ) (code : List Item) (t : Item) (items : List Item) (l : Locations) (h : World) (ws : List ℕ) → IsTest t → does arity code (t ∷ items) l h ws ≡ Goes (at_items (if leads t l then place code (target_of t) else items) l h ws)
+pub test_does : (arity : ℕ → ℕ) (code : List LinearItem) (t : LinearItem) (items : List LinearItem) (l : Locations) (h : World) (ws : List ℕ) → IsTest t → does arity code (t ∷ items) l h ws ≡ Goes (at_items (if leads t l then place code (target_of t) else items) l h ws)
 test_does arity code (IfNonzero r m) items l h ws is = ap (λ xs. Goes (at_items xs l h ws)) (turned (l (Register r) == 0))
   where
     turned : (b : Bool) → (if b then items else place code m) ≡ (if not b then place code m else items)
@@ -54,13 +54,13 @@ zero_known : (z : Option ℕ) → is_taken false z ≡ true → (w : ℕ) × (z 
 zero_known None e = absurd (let z : false ≡ true = e in cc)
 zero_known (Some w) e = (w, refl, e)
 
-module _ (P : Item → Type 0) (k : Known) (l : Locations) (holds : Holds k l) (n : ℕ) where
-  one_of : (b c out : Bool) (m : ℕ) (t : Item) → (b ≡ true → out ≡ true) → (c ≡ true → out ≡ false) → (out ≡ true → P (Jump m)) → (out ≡ false → P (Jump n)) → P t → P (if b then Jump m else (if c then Jump n else t))
+module _ (P : LinearItem → Type 0) (k : Known) (l : Locations) (holds : Holds k l) (n : ℕ) where
+  one_of : (b c out : Bool) (m : ℕ) (t : LinearItem) → (b ≡ true → out ≡ true) → (c ≡ true → out ≡ false) → (out ≡ true → P (Jump m)) → (out ≡ false → P (Jump n)) → P t → P (if b then Jump m else (if c then Jump n else t))
   one_of true c out m t there on f g p = f (there refl)
   one_of false true out m t there on f g p = g (on refl)
   one_of false false out m t there on f g p = p
 
-  pub way_gives : (t : Item) → IsTest t → (leads t l ≡ true → P (Jump (target_of t))) → (leads t l ≡ false → P (Jump n)) → P t → P (way k t n)
+  pub way_gives : (t : LinearItem) → IsTest t → (leads t l ≡ true → P (Jump (target_of t))) → (leads t l ≡ false → P (Jump n)) → P t → P (way k t n)
   way_gives (IfNonzero r m) is f g p =
       one_of (is_taken true (k r)) (is_taken false (k r)) (not (l (Register r) == 0)) m (IfNonzero r m)
       (λ e. let c = nonzero_known (k r) e in ap (λ v. not (v == 0)) (holds r c.0 c.1) ∙ ap not c.2)
@@ -72,12 +72,12 @@ module _ (P : Item → Type 0) (k : Known) (l : Locations) (holds : Holds k l) (
   way_gives i is f g p = absurd is
 
 -- whatever is known
-pub way_is : (P : Item → Type 0) (k : Known) (t : Item) (n : ℕ) → IsTest t → P (Jump (target_of t)) → P (Jump n) → P t → P (way k t n)
+pub way_is : (P : LinearItem → Type 0) (k : Known) (t : LinearItem) (n : ℕ) → IsTest t → P (Jump (target_of t)) → P (Jump n) → P t → P (way k t n)
 way_is P k (IfNonzero r m) n is f g p = either_way P (is_taken true (k r)) (Jump m) (if is_taken false (k r) then Jump n else IfNonzero r m) f (either_way P (is_taken false (k r)) (Jump n) (IfNonzero r m) g p)
 way_is P k (IfZero r m) n is f g p = either_way P (is_taken false (k r)) (Jump m) (if is_taken true (k r) then Jump n else IfZero r m) f (either_way P (is_taken true (k r)) (Jump n) (IfZero r m) g p)
 way_is P k i n is f g p = absurd is
 
-pub test_before_jump : (t : Item) (n : ℕ) → IsTest t → before_jump t n ≡ t ∷ Jump n ∷ []
+pub test_before_jump : (t : LinearItem) (n : ℕ) → IsTest t → before_jump t n ≡ t ∷ Jump n ∷ []
 test_before_jump (IfNonzero r m) n is = refl
 test_before_jump (IfZero r m) n is = refl
 test_before_jump i n is = absurd is
@@ -85,22 +85,22 @@ test_before_jump i n is = absurd is
 -- ---- where it stands
 
 -- at the label's place it stands behind the label
-pub record Gone (code : List Item) (n : ℕ) (t : Item) : Type 0 where
-  pub rest : List Item
+pub record Gone (code : List LinearItem) (n : ℕ) (t : LinearItem) : Type 0 where
+  pub rest : List LinearItem
   pub at : place code n ≡ Label n ∷ t ∷ rest
   pub test : IsTest t
 
-first_says : (items : List Item) (t : Item) → first_test items ≡ Some t → (rest : List Item) × (items ≡ t ∷ rest) × IsTest t
+first_says : (items : List LinearItem) (t : LinearItem) → first_test items ≡ Some t → (rest : List LinearItem) × (items ≡ t ∷ rest) × IsTest t
 first_says [] t e = none_some t e
 first_says (IfNonzero r m ∷ items) t e = let q : IfNonzero r m ≡ t = cc in (items, ap (λ x. x ∷ items) q, subst IsTest q tt)
 first_says (IfZero r m ∷ items) t e = let q : IfZero r m ≡ t = cc in (items, ap (λ x. x ∷ items) q, subst IsTest q tt)
 first_says (i ∷ items) t e = none_some t e
 
-found_behind : (items : List Item) (n : ℕ) (t : Item) → test_behind items n ≡ Some t → Gone items n t
+found_behind : (items : List LinearItem) (n : ℕ) (t : LinearItem) → test_behind items n ≡ Some t → Gone items n t
 found_behind [] n t e = none_some t e
 found_behind (Label m ∷ items) n t e = by (m == n) refl e (λ x. found_behind items n t x)
   where
-    here : (rest : List Item) × (items ≡ t ∷ rest) × IsTest t → m ≡ n → place (Label m ∷ items) n ≡ Label m ∷ items → Gone (Label m ∷ items) n t
+    here : (rest : List LinearItem) × (items ≡ t ∷ rest) × IsTest t → m ≡ n → place (Label m ∷ items) n ≡ Label m ∷ items → Gone (Label m ∷ items) n t
     here (rest, is, test) same at = record { rest = rest; at = at ∙ ap (λ l. Label l ∷ items) same ∙ ap (λ xs. Label n ∷ xs) is; test = test }
 
     by : (b : Bool) → (m == n) ≡ b → (if b then first_test items else test_behind items n) ≡ Some t → (test_behind items n ≡ Some t → Gone items n t) → Gone (Label m ∷ items) n t
@@ -108,7 +108,7 @@ found_behind (Label m ∷ items) n t e = by (m == n) refl e (λ x. found_behind 
     by false q x ih = let g = ih x in record { rest = g.rest; at = ap (λ (b : Bool). if b then Label m ∷ items else place items n) q ∙ g.at; test = g.test }
 found_behind (i ∷ items) n t e = let g = found_behind items n t e in record { rest = g.rest; at = g.at; test = g.test }
 
-pub gone_tests : (code : List Item) (n : ℕ) (t : Item) → tests code n ≡ Some t → Gone code n t
+pub gone_tests : (code : List LinearItem) (n : ℕ) (t : LinearItem) → tests code n ≡ Some t → Gone code n t
 gone_tests code n t e = by (branches_to code n) e
   where
     by : (b : Bool) → (if b then None else test_behind code n) ≡ Some t → Gone code n t
@@ -117,14 +117,14 @@ gone_tests code n t e = by (branches_to code n) e
 
 -- ---- items whose labels stand first, and whose branches lead to labels before which no test goes
 
-abbrev pub Fine : (code : List Item) (ts : Tests) → List Item → Type 0
+abbrev pub Fine : (code : List LinearItem) (ts : Tests) → List LinearItem → Type 0
 Fine code ts [] = Unit {0}
 Fine code ts (Label n ∷ items) = (place code n ≡ Label n ∷ items) × Fine code ts items
 Fine code ts (IfNonzero r n ∷ items) = (ts n ≡ None) × Fine code ts items
 Fine code ts (IfZero r n ∷ items) = (ts n ≡ None) × Fine code ts items
 Fine code ts (i ∷ items) = Fine code ts items
 
-pub fine_place : (code : List Item) (ts : Tests) (items : List Item) (n : ℕ) → Fine code ts items → Fine code ts (place items n)
+pub fine_place : (code : List LinearItem) (ts : Tests) (items : List LinearItem) (n : ℕ) → Fine code ts items → Fine code ts (place items n)
 fine_place code ts [] n f = tt
 fine_place code ts (Label m ∷ items) n f = either_way (Fine code ts) (m == n) (Label m ∷ items) (place items n) f (fine_place code ts items n f.1)
 fine_place code ts (IfNonzero r m ∷ items) n f = fine_place code ts items n f.1
@@ -146,17 +146,17 @@ distinct_first x xs h l (k, lt, e) same = h 0 (suc k) l (omega arith) (let z : s
 distinct_rest : (x : ℕ) (xs : List ℕ) → Distinct (x ∷ xs) → Distinct xs
 distinct_rest x xs h = λ i j d lt below. h (suc i) (suc j) d (omega arith) (let z : suc j < suc (length xs) = omega arith in z)
 
-place_here : (m : ℕ) (items : List Item) → place (Label m ∷ items) m ≡ Label m ∷ items
+place_here : (m : ℕ) (items : List LinearItem) → place (Label m ∷ items) m ≡ Label m ∷ items
 place_here m items = ap (λ (b : Bool). if b then Label m ∷ items else place items m) (eqb_yes m m refl)
 
-place_on : (m n : ℕ) (items : List Item) → m ≢ n → place (Label m ∷ items) n ≡ place items n
+place_on : (m n : ℕ) (items : List LinearItem) → m ≢ n → place (Label m ∷ items) n ≡ place items n
 place_on m n items f = elim (eqb_tells m n) [ inl q ↦ absurd (f q.1) | inr q ↦ ap (λ (b : Bool). if b then Label m ∷ items else place items n) q.0 ]
 
-module _ (code : List Item) where
+module _ (code : List LinearItem) where
   none_there : (m : ℕ) → branches_to code m ≡ true → tests code m ≡ None
   none_there m e = ap (λ (b : Bool). if b then None else test_behind code m) e
 
-  fine_from : (items : List Item) → Distinct (labels items) → ((n : ℕ) → Contains (labels items) n → place code n ≡ place items n) → ((n : ℕ) → branches_to items n ≡ true → branches_to code n ≡ true) → Fine code (tests code) items
+  fine_from : (items : List LinearItem) → Distinct (labels items) → ((n : ℕ) → Contains (labels items) n → place code n ≡ place items n) → ((n : ℕ) → branches_to items n ≡ true → branches_to code n ≡ true) → Fine code (tests code) items
   fine_from [] d p b = tt
   fine_from (Label m ∷ items) d p b = (
     p m (contains_first m (labels items)) ∙ place_here m items,

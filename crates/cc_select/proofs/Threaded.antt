@@ -13,8 +13,8 @@ use Rattle.cc_simulation.proofs.Simulating.{coarser, tracks_on_for_all}
 use Rattle.cc_ltl.specs.declared.location.Location.TheVariants.{Register, Slot}
 use Rattle.cc_ltl.specs.declared.operation.Move.TheVariants.{Between, Reload, Spill}
 use Rattle.cc_ltl.specs.Ltl.{Locations, put, at_entry}
-use Rattle.cc_linear_language.specs.declared.item.Item.{Item}
-use Rattle.cc_linear_language.specs.declared.item.Item.TheVariants.{Label, Jump, IfNonzero, IfZero, Copy, Const, Unary, Binary, Load, Store, Call, Read, Write, Return}
+use Rattle.cc_linear_language.specs.declared.item.LinearItem.{LinearItem}
+use Rattle.cc_linear_language.specs.declared.item.LinearItem.TheVariants.{Label, Jump, IfNonzero, IfZero, Copy, Const, Unary, Binary, Load, Store, Call, Read, Write, Return}
 use Rattle.cc_linear_language.specs.Linear.{Configuration, at_items, labels, place, does, linear_move, linear_output, linear_start}
 use Rattle.cc_select.specs.Known.{Known, unknown, forget, learn, known_behind}
 use Rattle.cc_select.specs.Threading.{Tests, tests, way, is_jump, before_label, before_jump, in_jump, is_some, threaded_by, threaded}
@@ -25,100 +25,100 @@ use Rattle.cc_select.proofs.Tests.{IsTest, target_of, leads, test_does, way_give
 -- ---- places
 
 -- an item that is no label
-abbrev IsNone : Item → Type 0
+abbrev IsNone : LinearItem → Type 0
 IsNone (Label n) = ⊥
 IsNone i = Unit {0}
 
-none_place : (i : Item) (items : List Item) (n : ℕ) → IsNone i → place (i ∷ items) n ≡ place items n
+none_place : (i : LinearItem) (items : List LinearItem) (n : ℕ) → IsNone i → place (i ∷ items) n ≡ place items n
 none_place (Label m) items n is = absurd is
 none_place i items n is = refl
 
-way_none : (k : Known) (t : Item) (n : ℕ) → IsTest t → IsNone (way k t n)
+way_none : (k : Known) (t : LinearItem) (n : ℕ) → IsTest t → IsNone (way k t n)
 way_none k t n is = way_is IsNone k t n is tt tt (test_none t is)
   where
-    test_none : (t : Item) → IsTest t → IsNone t
+    test_none : (t : LinearItem) → IsTest t → IsNone t
     test_none (IfNonzero r m) is = tt
     test_none (IfZero r m) is = tt
     test_none i is = absurd is
 
-jump_place : (w : Item) (m n : ℕ) (items : List Item) → IsNone w → place (before_jump w m ++ items) n ≡ place items n
+jump_place : (w : LinearItem) (m n : ℕ) (items : List LinearItem) → IsNone w → place (before_jump w m ++ items) n ≡ place items n
 jump_place w m n items is = none_place w ((if is_jump w then [] else Jump m ∷ []) ++ items) n is ∙ behind (is_jump w)
   where
     behind : (b : Bool) → place ((if b then [] else Jump m ∷ []) ++ items) n ≡ place items n
     behind true = refl
     behind false = refl
 
-none_labels : (i : Item) (items : List Item) → IsNone i → labels (i ∷ items) ≡ labels items
+none_labels : (i : LinearItem) (items : List LinearItem) → IsNone i → labels (i ∷ items) ≡ labels items
 none_labels (Label m) items is = absurd is
 none_labels i items is = refl
 
-jump_labels : (w : Item) (m : ℕ) (items : List Item) → IsNone w → labels (before_jump w m ++ items) ≡ labels items
+jump_labels : (w : LinearItem) (m : ℕ) (items : List LinearItem) → IsNone w → labels (before_jump w m ++ items) ≡ labels items
 jump_labels w m items is = none_labels w ((if is_jump w then [] else Jump m ∷ []) ++ items) is ∙ behind (is_jump w)
   where
     behind : (b : Bool) → labels ((if b then [] else Jump m ∷ []) ++ items) ≡ labels items
     behind true = refl
     behind false = refl
 
-if_place : (b : Bool) (u v u' v' : List Item) → (b ≡ true → u ≡ u') → (b ≡ false → v ≡ v') → (if b then u else v) ≡ (if b then u' else v')
+if_place : (b : Bool) (u v u' v' : List LinearItem) → (b ≡ true → u ≡ u') → (b ≡ false → v ≡ v') → (if b then u else v) ≡ (if b then u' else v')
 if_place true u v u' v' f g = f refl
 if_place false u v u' v' f g = g refl
 
-if_both : (b : Bool) (f : List Item → List Item) (u v : List Item) → (if b then f u else f v) ≡ f (if b then u else v)
+if_both : (b : Bool) (f : List LinearItem → List LinearItem) (u v : List LinearItem) → (if b then f u else f v) ≡ f (if b then u else v)
 if_both true f u v = refl
 if_both false f u v = refl
 
-abbrev rest_of : List Item → List Item
+abbrev rest_of : List LinearItem → List LinearItem
 rest_of [] = []
 rest_of (i ∷ items) = items
 
-module _ (code : List Item) (ts : Tests) (stands : (n : ℕ) (t : Item) → ts n ≡ Some t → Gone code n t) where
+module _ (code : List LinearItem) (ts : Tests) (stands : (n : ℕ) (t : LinearItem) → ts n ≡ Some t → Gone code n t) where
   -- items begin with a test, where one has gone before their label
-  abbrev Begins : Bool → List Item → Type 0
+  abbrev Begins : Bool → List LinearItem → Type 0
   Begins false items = Unit {0}
   Begins true [] = Unit {0}
   Begins true (i ∷ items) = IsTest i
 
-  behind_label : (n : ℕ) (t : Item) (items : List Item) (e : ts n ≡ Some t) → place code n ≡ Label n ∷ items → items ≡ t ∷ (stands n t e).rest
+  behind_label : (n : ℕ) (t : LinearItem) (items : List LinearItem) (e : ts n ≡ Some t) → place code n ≡ Label n ∷ items → items ≡ t ∷ (stands n t e).rest
   behind_label n t items e at = ap rest_of (sym at ∙ (stands n t e).at)
 
-  begins : (n : ℕ) (items : List Item) → place code n ≡ Label n ∷ items → Begins (is_some (ts n)) items
+  begins : (n : ℕ) (items : List LinearItem) → place code n ≡ Label n ∷ items → Begins (is_some (ts n)) items
   begins n items at = by (ts n) refl
     where
-      by : (z : Option Item) → ts n ≡ z → Begins (is_some z) items
+      by : (z : Option LinearItem) → ts n ≡ z → Begins (is_some z) items
       by None e = tt
       by (Some t) e = subst (λ xs. Begins true xs) (sym (behind_label n t items e at)) (stands n t e).test
 
   -- what stands at a label's place
-  abbrev seen : Option Item → List Item → List Item
+  abbrev seen : Option LinearItem → List LinearItem → List LinearItem
   seen None items = threaded_by ts unknown false items
   seen (Some t) [] = []
   seen (Some t) (i ∷ items) = i ∷ threaded_by ts unknown true items
 
-  seen_nothing : (z : Option Item) → [] ≡ seen z []
+  seen_nothing : (z : Option LinearItem) → [] ≡ seen z []
   seen_nothing None = refl
   seen_nothing (Some t) = refl
 
-  at_label : (n m : ℕ) (k : Known) (items : List Item) (z : Option Item) → ts m ≡ z → place (threaded_by ts unknown (is_some z) items) n ≡ seen (ts n) (place items n)
+  at_label : (n m : ℕ) (k : Known) (items : List LinearItem) (z : Option LinearItem) → ts m ≡ z → place (threaded_by ts unknown (is_some z) items) n ≡ seen (ts n) (place items n)
       → place (before_label k z m ++ threaded_by ts unknown (is_some z) items) n ≡ seen (ts n) (if m == n then Label m ∷ items else place items n)
   at_label n m k items None e ih =
       if_place (m == n) (Label m ∷ threaded_by ts unknown false items) (place (threaded_by ts unknown false items) n) (seen (ts n) (Label m ∷ items)) (seen (ts n) (place items n))
       (λ q.
-      sym (ap (λ (z : Option Item). before_label unknown z m ++ threaded_by ts unknown (is_some z) items) e)
-      ∙ sym (ap (λ (z : Option Item). seen z (Label m ∷ items)) (ap ts (sym (eqb_says m n q)) ∙ e)))
+      sym (ap (λ (z : Option LinearItem). before_label unknown z m ++ threaded_by ts unknown (is_some z) items) e)
+      ∙ sym (ap (λ (z : Option LinearItem). seen z (Label m ∷ items)) (ap ts (sym (eqb_says m n q)) ∙ e)))
       (λ q. ih)
       ∙ if_both (m == n) (seen (ts n)) (Label m ∷ items) (place items n)
   at_label n m k items (Some t) e ih =
       none_place (way k t m) (Label m ∷ threaded_by ts unknown true items) n (way_none k t m (stands m t e).test)
       ∙ if_place (m == n) (Label m ∷ threaded_by ts unknown true items) (place (threaded_by ts unknown true items) n) (seen (ts n) (Label m ∷ items)) (seen (ts n) (place items n))
-      (λ q. sym (ap (λ (z : Option Item). seen z (Label m ∷ items)) (ap ts (sym (eqb_says m n q)) ∙ e)))
+      (λ q. sym (ap (λ (z : Option LinearItem). seen z (Label m ∷ items)) (ap ts (sym (eqb_says m n q)) ∙ e)))
       (λ q. ih)
       ∙ if_both (m == n) (seen (ts n)) (Label m ∷ items) (place items n)
 
-  at_jump : (n m : ℕ) (k : Known) (items : List Item) (z : Option Item) → ts m ≡ z → place (in_jump k z m ++ items) n ≡ place items n
+  at_jump : (n m : ℕ) (k : Known) (items : List LinearItem) (z : Option LinearItem) → ts m ≡ z → place (in_jump k z m ++ items) n ≡ place items n
   at_jump n m k items None e = refl
   at_jump n m k items (Some t) e = jump_place (way k t m) m n items (way_none k t m (stands m t e).test)
 
-  place_is : (n : ℕ) (k : Known) (b : Bool) (items : List Item) → Fine code ts items → Begins b items → place (threaded_by ts k b items) n ≡ seen (ts n) (place items n)
+  place_is : (n : ℕ) (k : Known) (b : Bool) (items : List LinearItem) → Fine code ts items → Begins b items → place (threaded_by ts k b items) n ≡ seen (ts n) (place items n)
   place_is n k b [] f g = seen_nothing (ts n)
   place_is n k true (IfNonzero r m ∷ items) f g = place_is n k false items f.1 tt
   place_is n k true (IfZero r m ∷ items) f g = place_is n k false items f.1 tt
@@ -130,15 +130,15 @@ module _ (code : List Item) (ts : Tests) (stands : (n : ℕ) (t : Item) → ts n
   place_is n k false (i ∷ items) f g = place_is n (known_behind i k) false items f tt
 
   -- the labels stay, in their order
-  label_labels : (m : ℕ) (k : Known) (items : List Item) (z : Option Item) → ts m ≡ z → labels (threaded_by ts unknown (is_some z) items) ≡ labels items → labels (before_label k z m ++ threaded_by ts unknown (is_some z) items) ≡ m ∷ labels items
+  label_labels : (m : ℕ) (k : Known) (items : List LinearItem) (z : Option LinearItem) → ts m ≡ z → labels (threaded_by ts unknown (is_some z) items) ≡ labels items → labels (before_label k z m ++ threaded_by ts unknown (is_some z) items) ≡ m ∷ labels items
   label_labels m k items None e ih = ap (λ (ls : List ℕ). m ∷ ls) ih
   label_labels m k items (Some t) e ih = none_labels (way k t m) (Label m ∷ threaded_by ts unknown true items) (way_none k t m (stands m t e).test) ∙ ap (λ (ls : List ℕ). m ∷ ls) ih
 
-  in_jump_labels : (m : ℕ) (k : Known) (items : List Item) (z : Option Item) → ts m ≡ z → labels (in_jump k z m ++ items) ≡ labels items
+  in_jump_labels : (m : ℕ) (k : Known) (items : List LinearItem) (z : Option LinearItem) → ts m ≡ z → labels (in_jump k z m ++ items) ≡ labels items
   in_jump_labels m k items None e = refl
   in_jump_labels m k items (Some t) e = jump_labels (way k t m) m items (way_none k t m (stands m t e).test)
 
-  pub labels_are : (k : Known) (b : Bool) (items : List Item) → Fine code ts items → Begins b items → labels (threaded_by ts k b items) ≡ labels items
+  pub labels_are : (k : Known) (b : Bool) (items : List LinearItem) → Fine code ts items → Begins b items → labels (threaded_by ts k b items) ≡ labels items
   labels_are k b [] f g = refl
   labels_are k true (IfNonzero r m ∷ items) f g = labels_are k false items f.1 tt
   labels_are k true (IfZero r m ∷ items) f g = labels_are k false items f.1 tt
@@ -152,7 +152,7 @@ module _ (code : List Item) (ts : Tests) (stands : (n : ℕ) (t : Item) → ts n
   -- ---- the simulation
 
   module _ (arity : ℕ → ℕ) (all_fine : Fine code ts code) where
-    abbrev made : List Item
+    abbrev made : List LinearItem
     made = threaded_by ts unknown false code
 
     abbrev old : Configuration → Moving Configuration
@@ -187,17 +187,17 @@ module _ (code : List Item) (ts : Tests) (stands : (n : ℕ) (t : Item) → ts n
       pub known : Known
       pub holds : Holds known c.locations
       pub label : ℕ
-      pub test : Item
+      pub test : LinearItem
       pub gone : ts label ≡ Some test
       pub at : c.items ≡ place code label
-      pub behind : List Item
+      pub behind : List LinearItem
       pub moves : new d ≡ does arity made (before_jump (way known test label) label ++ behind) c.locations c.world c.words
       pub world : d.world ≡ c.world
 
     abbrev Related : Configuration → Configuration → Type 0
     Related c d = Normal c d ⊎ Waiting c d
 
-    exact : (k : Known) (items : List Item) (l : Locations) (h : World) (ws : List ℕ) → Holds k l → Fine code ts items → Exact (at_items items l h ws) (at_items (threaded_by ts k false items) l h ws)
+    exact : (k : Known) (items : List LinearItem) (l : Locations) (h : World) (ws : List ℕ) → Holds k l → Fine code ts items → Exact (at_items items l h ws) (at_items (threaded_by ts k false items) l h ws)
     exact k items l h ws p f = record { known = k; holds = p; fine = f; items = refl; locations = refl; world = refl; words = refl }
 
     exact_place : (n : ℕ) (l : Locations) (h : World) (ws : List ℕ) → ts n ≡ None → Exact (at_items (place code n) l h ws) (at_items (place made n) l h ws)
@@ -205,7 +205,7 @@ module _ (code : List Item) (ts : Tests) (stands : (n : ℕ) (t : Item) → ts n
       known = unknown;
       holds = unknown_holds l;
       fine = fine_place code ts code n all_fine;
-      items = place_made n ∙ ap (λ (z : Option Item). seen z (place code n)) e;
+      items = place_made n ∙ ap (λ (z : Option LinearItem). seen z (place code n)) e;
       locations = refl;
       world = refl;
       words = refl;
@@ -220,13 +220,13 @@ module _ (code : List Item) (ts : Tests) (stands : (n : ℕ) (t : Item) → ts n
     Moves c d = Advances old linear_output new linear_output Related 1 c d
 
     -- the measure: 1 where the next move is a jump
-    abbrev rank : List Item → ℕ
+    abbrev rank : List LinearItem → ℕ
     rank [] = 0
     rank (Label n ∷ items) = rank items
     rank (Jump n ∷ items) = 1
     rank (i ∷ items) = 0
 
-    low : (items : List Item) → rank items ≤ 1
+    low : (items : List LinearItem) → rank items ≤ 1
     low [] = omega arith
     low (Label n ∷ items) = low items
     low (Jump n ∷ items) = omega arith
@@ -250,7 +250,7 @@ module _ (code : List Item) (ts : Tests) (stands : (n : ℕ) (t : Item) → ts n
 
     -- ---- an item that stays
 
-    abbrev Stays : Item → Type 0
+    abbrev Stays : LinearItem → Type 0
     Stays (Label n) = ⊥
     Stays (Jump n) = ⊥
     Stays i = Unit {0}
@@ -259,17 +259,17 @@ module _ (code : List Item) (ts : Tests) (stands : (n : ℕ) (t : Item) → ts n
     tried_alike {X} None f g b = tt
     tried_alike {X} (Some v) f g b = b v
 
-    put_alike : (x : Option ℕ) (to : ℕ) (k : Known) (items : List Item) (l : Locations) (h : World) (ws : List ℕ) → Holds k l → Fine code ts items
+    put_alike : (x : Option ℕ) (to : ℕ) (k : Known) (items : List LinearItem) (l : Locations) (h : World) (ws : List ℕ) → Holds k l → Fine code ts items
         → Alike Exact (tried x (λ w. Goes (at_items items (put (Register to) w l) h ws))) (tried x (λ w. Goes (at_items (threaded_by ts (forget to k) false items) (put (Register to) w l) h ws)))
     put_alike x to k items l h ws p f =
         tried_alike x (λ w. Goes (at_items items (put (Register to) w l) h ws)) (λ w. Goes (at_items (threaded_by ts (forget to k) false items) (put (Register to) w l) h ws))
         (λ v. exact (forget to k) items (put (Register to) v l) h ws (forget_holds to v k l p) f)
 
-    if_exact : (b : Bool) (xs ys us vs : List Item) (l : Locations) (h : World) (ws : List ℕ) → Exact (at_items xs l h ws) (at_items us l h ws) → Exact (at_items ys l h ws) (at_items vs l h ws)
+    if_exact : (b : Bool) (xs ys us vs : List LinearItem) (l : Locations) (h : World) (ws : List ℕ) → Exact (at_items xs l h ws) (at_items us l h ws) → Exact (at_items ys l h ws) (at_items vs l h ws)
         → Exact (at_items (if b then xs else ys) l h ws) (at_items (if b then us else vs) l h ws)
-    if_exact b xs ys us vs l h ws p q = if_alike (λ (ms ns : List Item). Exact (at_items ms l h ws) (at_items ns l h ws)) b xs ys us vs p q
+    if_exact b xs ys us vs l h ws p q = if_alike (λ (ms ns : List LinearItem). Exact (at_items ms l h ws) (at_items ns l h ws)) b xs ys us vs p q
 
-    stays_alike : (i : Item) (k : Known) (items : List Item) (l : Locations) (h : World) (ws : List ℕ) → Stays i → Holds k l → Fine code ts (i ∷ items)
+    stays_alike : (i : LinearItem) (k : Known) (items : List LinearItem) (l : Locations) (h : World) (ws : List ℕ) → Stays i → Holds k l → Fine code ts (i ∷ items)
         → Alike Exact (does arity code (i ∷ items) l h ws) (does arity made (i ∷ threaded_by ts (known_behind i k) false items) l h ws)
     stays_alike (Label n) k items l h ws s p f = absurd s
     stays_alike (Jump n) k items l h ws s p f = absurd s
@@ -292,13 +292,13 @@ module _ (code : List Item) (ts : Tests) (stands : (n : ℕ) (t : Item) → ts n
 
     -- ---- a test that goes before its label
 
-    fine_test : (t : Item) (rest : List Item) → IsTest t → Fine code ts (t ∷ rest) → (ts (target_of t) ≡ None) × Fine code ts rest
+    fine_test : (t : LinearItem) (rest : List LinearItem) → IsTest t → Fine code ts (t ∷ rest) → (ts (target_of t) ≡ None) × Fine code ts rest
     fine_test (IfNonzero r m) rest is f = f
     fine_test (IfZero r m) rest is f = f
     fine_test i rest is f = absurd is
 
-    module _ (n : ℕ) (t : Item) (e : ts n ≡ Some t) (k : Known) (l : Locations) (holds : Holds k l) (h : World) (ws : List ℕ) where
-      abbrev rest : List Item
+    module _ (n : ℕ) (t : LinearItem) (e : ts n ≡ Some t) (k : Known) (l : Locations) (holds : Holds k l) (h : World) (ws : List ℕ) where
+      abbrev rest : List LinearItem
       rest = (stands n t e).rest
 
       is : IsTest t
@@ -308,12 +308,12 @@ module _ (code : List Item) (ts : Tests) (stands : (n : ℕ) (t : Item) → ts n
       fits = (subst (Fine code ts) (stands n t e).at (fine_place code ts code n all_fine)).1
 
       place_behind : place made n ≡ Label n ∷ threaded_by ts unknown false rest
-      place_behind = place_made n ∙ ap (λ (z : Option Item). seen z (place code n)) e ∙ ap (seen (Some t)) (stands n t e).at
+      place_behind = place_made n ∙ ap (λ (z : Option LinearItem). seen z (place code n)) e ∙ ap (seen (Some t)) (stands n t e).at
 
       there : Normal (at_items (place code (target_of t)) l h ws) (at_items (place made (target_of t)) l h ws)
       there = normal_of _ _ (exact_place (target_of t) l h ws (fine_test t rest is fits).0)
 
-      on : (items : List Item) → does arity made items l h ws ≡ does arity made (threaded_by ts unknown false rest) l h ws → Normal (at_items rest l h ws) (at_items items l h ws)
+      on : (items : List LinearItem) → does arity made items l h ws ≡ does arity made (threaded_by ts unknown false rest) l h ws → Normal (at_items rest l h ws) (at_items items l h ws)
       on items same = record { known = unknown; holds = unknown_holds l; fine = (fine_test t rest is fits).1; moves = same; world = refl }
 
       on_at_label : Normal (at_items rest l h ws) (at_items (place made n) l h ws)
@@ -340,7 +340,7 @@ module _ (code : List Item) (ts : Tests) (stands : (n : ℕ) (t : Item) → ts n
           by false m = advance (led false) _ d m (on (Label n ∷ threaded_by ts unknown false rest) refl)
 
       -- the test, and the jump to the label behind it
-      passed : (d : Configuration) (behind : List Item) → new d ≡ does arity made (before_jump (way k t n) n ++ behind) l h ws → Moves (led (leads t l)) d
+      passed : (d : Configuration) (behind : List LinearItem) → new d ≡ does arity made (before_jump (way k t n) n ++ behind) l h ws → Moves (led (leads t l)) d
       passed d behind =
           way_gives (λ w. new d ≡ does arity made (before_jump w n ++ behind) l h ws → Moves (led (leads t l)) d) k l holds n t is (by_jump_there d) (by_jump_on d)
           (λ m. by (leads t l) (m ∙ ap (λ xs. does arity made (xs ++ behind) l h ws) (test_before_jump t n is) ∙ test_does arity made t (Jump n ∷ behind) l h ws is))
@@ -357,14 +357,14 @@ module _ (code : List Item) (ts : Tests) (stands : (n : ℕ) (t : Item) → ts n
           }
 
       -- the old run comes to the label and makes the test there
-      enters : (items : List Item) (m : ℕ) (d : Configuration) → place code n ≡ Label n ∷ items → new d ≡ does arity made (way k t n ∷ Label n ∷ threaded_by ts unknown true items) l h ws → Owes (does arity code items l h ws) m h d
+      enters : (items : List LinearItem) (m : ℕ) (d : Configuration) → place code n ≡ Label n ∷ items → new d ≡ does arity made (way k t n ∷ Label n ∷ threaded_by ts unknown true items) l h ws → Owes (does arity code items l h ws) m h d
       enters items m d at moves =
           let q : items ≡ t ∷ rest = behind_label n t items e at in
           subst (λ xs. Owes (does arity code xs l h ws) m h d) (sym q)
           (subst (λ x. Owes x m h d) (sym (test_does arity code t rest l h ws is))
           (inl (entered d (moves ∙ ap (λ xs. does arity made (way k t n ∷ Label n ∷ threaded_by ts unknown true xs) l h ws) q))))
 
-      waits : (items behind : List Item) (m : ℕ) (d : Configuration) → items ≡ place code n → new d ≡ does arity made (before_jump (way k t n) n ++ behind) l h ws → Owes (does arity code items l h ws) m h d
+      waits : (items behind : List LinearItem) (m : ℕ) (d : Configuration) → items ≡ place code n → new d ≡ does arity made (before_jump (way k t n) n ++ behind) l h ws → Owes (does arity code items l h ws) m h d
       waits items behind m d at moves =
           subst (λ xs. Owes (does arity code xs l h ws) m h d) (sym (at ∙ (stands n t e).at)) (subst (λ x. Owes x m h d) (sym (test_does arity code t rest l h ws is)) (inl (passed d behind moves)))
 
@@ -372,27 +372,27 @@ module _ (code : List Item) (ts : Tests) (stands : (n : ℕ) (t : Item) → ts n
       still : rank (place code n) ≡ 0
       still = ap rank (stands n t e).at ∙ by t is
         where
-          by : (u : Item) → IsTest u → rank (u ∷ rest) ≡ 0
+          by : (u : LinearItem) → IsTest u → rank (u ∷ rest) ≡ 0
           by (IfNonzero r m) v = refl
           by (IfZero r m) v = refl
           by i v = absurd v
 
     -- ---- each move
 
-    at_a_label : (n : ℕ) (items : List Item) (k : Known) (l : Locations) (h : World) (ws : List ℕ) (d : Configuration) (z : Option Item) → ts n ≡ z → place code n ≡ Label n ∷ items → Holds k l
+    at_a_label : (n : ℕ) (items : List LinearItem) (k : Known) (l : Locations) (h : World) (ws : List ℕ) (d : Configuration) (z : Option LinearItem) → ts n ≡ z → place code n ≡ Label n ∷ items → Holds k l
         → (new d ≡ does arity made (threaded_by ts unknown false items) l h ws → Owes (does arity code items l h ws) (rank items) h d)
         → new d ≡ does arity made (before_label k z n ++ threaded_by ts unknown (is_some z) items) l h ws → Owes (does arity code items l h ws) (rank items) h d
     at_a_label n items k l h ws d None e at p ih m = ih m
     at_a_label n items k l h ws d (Some t) e at p ih m = enters n t e k l p h ws items (rank items) d at m
 
-    at_a_jump : (n : ℕ) (behind : List Item) (k : Known) (l : Locations) (h : World) (ws : List ℕ) (d : Configuration) (z : Option Item) → ts n ≡ z → Holds k l → d.world ≡ h
+    at_a_jump : (n : ℕ) (behind : List LinearItem) (k : Known) (l : Locations) (h : World) (ws : List ℕ) (d : Configuration) (z : Option LinearItem) → ts n ≡ z → Holds k l → d.world ≡ h
         → new d ≡ does arity made (in_jump k z n ++ behind) l h ws → Moves (at_items (place code n) l h ws) d ⊎ (Related (at_items (place code n) l h ws) d × (rank (place code n) < 1))
     at_a_jump n behind k l h ws d None e p w m = inl (advance _ _ d m (normal_of _ _ (exact_place n l h ws e)))
     at_a_jump n behind k l h ws d (Some t) e p w m =
         let r = still n t e k l p h ws in
         inr (inr (record { known = k; holds = p; label = n; test = t; gone = e; at = refl; behind = behind; moves = m; world = w }), omega arith)
 
-    owes : (items : List Item) (k : Known) (l : Locations) (h : World) (ws : List ℕ) (d : Configuration) → Fine code ts items → Holds k l → d.world ≡ h → new d ≡ does arity made (threaded_by ts k false items) l h ws
+    owes : (items : List LinearItem) (k : Known) (l : Locations) (h : World) (ws : List ℕ) (d : Configuration) → Fine code ts items → Holds k l → d.world ≡ h → new d ≡ does arity made (threaded_by ts k false items) l h ws
         → Owes (does arity code items l h ws) (rank items) h d
     owes [] k l h ws d f p w m = tt
     owes (Label n ∷ items) k l h ws d f p w m = at_a_label n items k l h ws d (ts n) refl f.0 p (owes items unknown l h ws d f.1 (unknown_holds l) w) m
@@ -428,10 +428,10 @@ module _ (code : List Item) (ts : Tests) (stands : (n : ℕ) (t : Item) → ts n
     made_tracks meaning f rate slots keeps =
         tracks_on_for_all meaning f rate old linear_output new linear_output Related (λ c. rank c.items) 1 1 simulation (linear_start slots code) (linear_start slots made) (λ words are ws h call. started slots words ws h) keeps
 
-pub threaded_labels : (code : List Item) → Distinct (labels code) → labels (threaded code) ≡ labels code
+pub threaded_labels : (code : List LinearItem) → Distinct (labels code) → labels (threaded code) ≡ labels code
 threaded_labels code distinct = labels_are code (tests code) (gone_tests code) unknown false code (fine_tests code distinct) tt
 
 -- what keeps up with a function keeps up with tests before labels, at a slower rate
-pub threaded_tracks : (meaning : Meaning) (f rate slots : ℕ) (code : List Item) → Distinct (labels code) → TracksForAll meaning f rate (linear_move meaning.arity code) linear_output (linear_start slots code)
+pub threaded_tracks : (meaning : Meaning) (f rate slots : ℕ) (code : List LinearItem) → Distinct (labels code) → TracksForAll meaning f rate (linear_move meaning.arity code) linear_output (linear_start slots code)
     → TracksForAll meaning f (coarser rate 1) (linear_move meaning.arity (threaded code)) linear_output (linear_start slots (threaded code))
 threaded_tracks meaning f rate slots code distinct keeps = made_tracks code (tests code) (gone_tests code) meaning.arity (fine_tests code distinct) meaning f rate slots keeps

@@ -5,13 +5,13 @@ use Rattle.cc_words.specs.Words.{add, neg}
 use Rattle.cc_words.specs.Operators.{apply_binary}
 use Rattle.cc_words.specs.declared.operators.Binary as binary
 use Rattle.cc_words.specs.declared.operators.Binary.TheVariants as operators
-use Rattle.cc_select.specs.declared.step.Immediate as immediate
-use Rattle.cc_select.specs.declared.step.Immediate.TheVariants.{Add, Sub, Shl, ShrS, ShrU, And, Or, Xor, Eq, Ne, LtS, LtU, LeS, LeU, GtS, GtU, GeS, GeU}
+use Rattle.cc_select.specs.declared.step.WordOperator.{WordOperator}
+use Rattle.cc_select.specs.declared.step.WordOperator.TheVariants.{Add, Sub, Shl, ShrS, ShrU, And, Or, Xor, Eq, Ne, LtS, LtU, LeS, LeU, GtS, GtU, GeS, GeU}
 
 -- ---- what each does
 
 -- the operator that it is
-abbrev pub operator_of : immediate.Immediate → binary.Binary
+abbrev pub operator_of : WordOperator → binary.Binary
 operator_of Add = operators.Add
 operator_of Sub = operators.Sub
 operator_of Shl = operators.Shl
@@ -33,7 +33,7 @@ operator_of GeS = operators.LeS
 operator_of GeU = operators.LeU
 
 -- whether the word is the left operand
-abbrev pub is_exchanged : immediate.Immediate → Bool
+abbrev pub is_exchanged : WordOperator → Bool
 is_exchanged GtS = true
 is_exchanged GtU = true
 is_exchanged GeS = true
@@ -45,7 +45,7 @@ applied true o a w = apply_binary o w a
 applied false o a w = apply_binary o a w
 
 -- what it gives of a register's word and a word
-abbrev pub apply_immediate : immediate.Immediate → (register word : ℕ) → Option ℕ
+abbrev pub apply_immediate : WordOperator → (register word : ℕ) → Option ℕ
 apply_immediate o a w = applied (is_exchanged o) (operator_of o) a w
 
 -- ---- which words it can have
@@ -55,7 +55,7 @@ abbrev pub is_short : (word : ℕ) → Bool
 is_short w = nat_lt ((w + 2 ^ 11) % 2 ^ 32) (2 ^ 12)
 
 -- whether the operator's instructions can have the word
-abbrev pub has_word : immediate.Immediate → (word : ℕ) → Bool
+abbrev pub has_word : WordOperator → (word : ℕ) → Bool
 has_word Add w = is_short w
 -- a difference is the sum with the word's negative
 has_word Sub w = is_short (neg w)
@@ -95,7 +95,7 @@ is_power w = w == 2 ^ exponent w
 
 -- an operator on a register and a word, and the word
 abbrev pub Form : Type 0
-Form = immediate.Immediate × ℕ
+Form = WordOperator × ℕ
 
 abbrev pub if_power : (word : ℕ) → Form → Option Form
 if_power w form = if is_power w then Some form else None
@@ -150,7 +150,7 @@ is_comparison o = false
 
 -- whether a branch on such a comparison with the word takes fewer instructions than the comparison and a branch on its value: one, where
 -- the comparison is one with 0, and two in place of three for others
-abbrev pub gains : immediate.Immediate → (word : ℕ) → Bool
+abbrev pub gains : WordOperator → (word : ℕ) → Bool
 gains Eq w = true
 gains Ne w = true
 gains GeS w = true

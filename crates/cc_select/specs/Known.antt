@@ -5,8 +5,8 @@ use Rattle.std.specs.Prelude.{ℕ, Bool, true, false, not, if◌then◌else◌, 
 use Rattle.cc_words.specs.declared.operators.Binary as binary
 use Rattle.cc_simulation.specs.Unknown.{survives}
 use Rattle.cc_ltl.specs.declared.operation.Move.TheVariants.{Between, Reload, Spill}
-use Rattle.cc_linear_language.specs.declared.item.Item as linear
-use Rattle.cc_linear_language.specs.declared.item.Item.TheVariants.{Label, Jump, IfNonzero, IfZero, Copy, Const, Unary, Binary, Load, Store, Call, Read, Write, Return}
+use Rattle.cc_linear_language.specs.declared.item.LinearItem.{LinearItem}
+use Rattle.cc_linear_language.specs.declared.item.LinearItem.TheVariants.{Label, Jump, IfNonzero, IfZero, Copy, Const, Unary, Binary, Load, Store, Call, Read, Write, Return}
 use Rattle.cc_select.specs.declared.step.Step.{Step}
 use Rattle.cc_select.specs.declared.step.Step.TheVariants.{One, Immediate, LoadAt, StoreAt}
 use Rattle.cc_select.specs.Immediates.{Form, has_word, immediate_of, immediate_of_left}
@@ -27,7 +27,7 @@ abbrev pub learn : (register word : ℕ) → Known → Known
 learn to w k r = if to == r then Some w else k r
 
 -- behind an item; nothing behind a label, since a run may come there from elsewhere, nor where a run does not go on to the next item
-abbrev pub known_behind : linear.Item → Known → Known
+abbrev pub known_behind : LinearItem → Known → Known
 known_behind (Label label) k = unknown
 known_behind (Jump to) k = unknown
 known_behind (IfNonzero from to) k = k
@@ -73,7 +73,7 @@ is_taken false (Some w) = w == 0
 
 -- The step of an item; a word on the right goes before one on the left. A branch that is certain not to be taken stays: each item is one
 -- step, and none does nothing.
-abbrev pub choose : Known → linear.Item → Step
+abbrev pub choose : Known → LinearItem → Step
 choose k (IfNonzero from to) = if is_taken true (k from) then One (Jump to) else One (IfNonzero from to)
 choose k (IfZero from to) = if is_taken false (k from) then One (Jump to) else One (IfZero from to)
 choose k (Binary operator to left right) = with_right (k right) operator to left (with_left (k left) operator to right (One (Binary operator to left right)))
@@ -81,6 +81,6 @@ choose k (Load width object to index) = with_number (k index) (One (Load width o
 choose k (Store width object index from) = with_number (k index) (One (Store width object index from)) (λ w. StoreAt width object w from)
 choose k item = One item
 
-abbrev pub chosen : Known → List linear.Item → List Step
+abbrev pub chosen : Known → List LinearItem → List Step
 chosen k [] = []
 chosen k (item ∷ items) = choose k item ∷ chosen (known_behind item k) items

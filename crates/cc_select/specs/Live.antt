@@ -4,8 +4,8 @@ use Rattle.std.specs.Prelude.{ℕ, Bool, false, not, ◌&&◌, ◌||◌, ◌==�
 use Rattle.cc_simulation.specs.Unknown.{survives}
 use Rattle.cc_ltl.specs.declared.operation.Move.{Move}
 use Rattle.cc_ltl.specs.declared.operation.Move.TheVariants.{Between, Reload, Spill}
-use Rattle.cc_linear_language.specs.declared.item.Item as linear
-use Rattle.cc_linear_language.specs.declared.item.Item.TheVariants.{Label, Jump, IfNonzero, IfZero, Copy, Const, Unary, Binary, Load, Store, Call, Read, Write, Return}
+use Rattle.cc_linear_language.specs.declared.item.LinearItem.{LinearItem}
+use Rattle.cc_linear_language.specs.declared.item.LinearItem.TheVariants.{Label, Jump, IfNonzero, IfZero, Copy, Const, Unary, Binary, Load, Store, Call, Read, Write, Return}
 use Rattle.cc_select.specs.declared.step.Step.{Step}
 use Rattle.cc_select.specs.declared.step.Step.TheVariants.{One, Immediate, LoadAt, StoreAt, Branch, BranchImmediate}
 
@@ -36,7 +36,7 @@ abbrev pub is_argument : (register : ℕ) → Bool
 is_argument r = nat_le 10 r && nat_le r 17
 
 -- before an item of Linear, where these are live behind it
-abbrev pub live_item : linear.Item → (at_label : ℕ → Registers) → Registers → Registers
+abbrev pub live_item : LinearItem → (at_label : ℕ → Registers) → Registers → Registers
 live_item (Label label) at s = s
 live_item (Jump to) at s = at to
 live_item (IfNonzero from to) at s = with from (either (at to) s)

@@ -4,8 +4,8 @@
 use Rattle.std.specs.Prelude.{ℕ, Bool, true, false, not, ◌&&◌, ◌==◌, if◌then◌else◌, Option, Some, None, List, [], ◌∷◌}
 use Rattle.cc_words.specs.declared.operators.Unary.TheVariants.{IsZero}
 use Rattle.cc_words.specs.declared.operators.Binary.TheVariants.{Xor, Ne}
-use Rattle.cc_linear_language.specs.declared.item.Item as linear
-use Rattle.cc_linear_language.specs.declared.item.Item.TheVariants.{IfNonzero, IfZero, Const, Unary, Binary}
+use Rattle.cc_linear_language.specs.declared.item.LinearItem.{LinearItem}
+use Rattle.cc_linear_language.specs.declared.item.LinearItem.TheVariants.{IfNonzero, IfZero, Const, Unary, Binary}
 use Rattle.cc_select.specs.declared.step.Step.{Step}
 use Rattle.cc_select.specs.declared.step.Step.TheVariants.{One, Immediate, Branch, BranchImmediate}
 use Rattle.cc_select.specs.Immediates.{is_comparison, gains}
@@ -78,5 +78,5 @@ abbrev pub trimmed : List Step → List Step
 trimmed steps = fused (table steps) (lean (table steps) steps)
 
 -- the steps of a function's items
-abbrev pub selected : List linear.Item → List Step
+abbrev pub selected : List LinearItem → List Step
 selected items = trimmed (chosen unknown (threaded items))

@@ -2,7 +2,7 @@
 -- the last sweep for labels before. The table is the first one that a look finds to have what is live at each label's place; where 32 sweeps
 -- give none, everything is live at each label.
 use Rattle.std.specs.Prelude.{ℕ, zero, suc, Bool, true, not, ◌&&◌, ◌||◌, ◌==◌, nat_le, if◌then◌else◌, List, [], ◌∷◌}
-use Rattle.cc_linear_language.specs.declared.item.Item.TheVariants.{Label}
+use Rattle.cc_linear_language.specs.declared.item.LinearItem.TheVariants.{Label}
 use Rattle.cc_select.specs.declared.step.Step.{Step}
 use Rattle.cc_select.specs.declared.step.Step.TheVariants.{One}
 use Rattle.cc_select.specs.Live.{Registers, nothing, live_before, live}

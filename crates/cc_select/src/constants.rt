@@ -9,7 +9,7 @@ ghost use Rattle.cc_select.specs.internal.Passes.{stays};
 
 use crate::registers::Registers;
 use crate::step::Step;
-use cc_linear_language::Item;
+use cc_linear_language::LinearItem;
 use std::alloc::{AllocError, Global};
 
 /// Steps, and what is live behind each.
@@ -24,7 +24,7 @@ fn stays(step: &Step, behind: Registers) -> bool
     ensures { (s : set) → Same (holds behind) s → result ≡ stays step.now s }
 {
     match step {
-        Step::One(Item::Const { to, .. }) => behind.has(to.number()),
+        Step::One(LinearItem::Const { to, .. }) => behind.has(to.number()),
         _ => true,
     }
 }

@@ -10,7 +10,7 @@ use crate::immediate::{gains, is_comparison};
 use crate::live::LiveTable;
 use crate::registers::Registers;
 use crate::step::Step;
-use cc_linear_language::Item;
+use cc_linear_language::LinearItem;
 use cc_ltl::Register;
 use cc_words::{Binary, Unary};
 use std::alloc::{AllocError, Global};
@@ -28,12 +28,12 @@ fn test_in(step: &Step) -> Option<Test>
     ensures { MatchOption result (test_in step.now ≡ None) (λ test. test_in step.now ≡ Some (shown test)) }
 {
     match *step {
-        Step::One(Item::IfNonzero { from, to }) => Some(Test {
+        Step::One(LinearItem::IfNonzero { from, to }) => Some(Test {
             register: from,
             nonzero: true,
             to,
         }),
-        Step::One(Item::IfZero { from, to }) => Some(Test {
+        Step::One(LinearItem::IfZero { from, to }) => Some(Test {
             register: from,
             nonzero: false,
             to,
@@ -48,9 +48,9 @@ fn branch_on_zero(from: Register, test: Test) -> Step
 {
     let to = test.to;
     if test.nonzero {
-        Step::One(Item::IfZero { from, to })
+        Step::One(LinearItem::IfZero { from, to })
     } else {
-        Step::One(Item::IfNonzero { from, to })
+        Step::One(LinearItem::IfNonzero { from, to })
     }
 }
 
@@ -73,14 +73,14 @@ fn branch_on(step: &Step, test: Test) -> Option<Step>
     let Test { nonzero, to, .. } = test;
     match *step {
         Step::One(
-            Item::Unary {
+            LinearItem::Unary {
                 operator: Unary::IsZero,
                 to: written,
                 from,
             },
         ) if written.number() == register => Some(branch_on_zero(from, test)),
         Step::One(
-            Item::Binary {
+            LinearItem::Binary {
                 operator,
                 to: written,
                 left,

@@ -3,14 +3,14 @@
 
 ghost use Rattle.std.specs.Prelude.{◌≡◌, ◌<◌, None, Some};
 ghost use Rattle.cc_select.specs.Known.{unknown, learn, forget, known_behind, choose, is_taken, with_left, with_number, with_right, with_word};
-ghost use Rattle.cc_linear_language.specs.declared.item.Item.TheVariants.{Copy};
+ghost use Rattle.cc_linear_language.specs.declared.item.LinearItem.TheVariants.{Copy};
 ghost use Rattle.cc_select.specs.declared.step.Step.TheVariants.{LoadAt, StoreAt};
 ghost use Rattle.cc_select.specs.internal.Sets.{known_in, kept_by_call};
 
 use crate::immediate::{has_word, immediate_of, immediate_of_left};
 use crate::registers::{DESTROYED, RESULT, Registers};
-use crate::step::{Immediate, Step};
-use cc_linear_language::Item;
+use crate::step::{WordOperator, Step};
+use cc_linear_language::LinearItem;
 use cc_ltl::{Move, Register};
 use cc_words::{Binary, Width};
 
@@ -86,29 +86,29 @@ impl Known {
     }
 
     /// What is known behind an item.
-    pub(crate) fn go_behind(&mut self, item: &Item)
+    pub(crate) fn go_behind(&mut self, item: &LinearItem)
         ensures { known_in self.new ≡ known_behind item.now (known_in self.old) }
     {
         match *item {
-            Item::Label { .. } | Item::Jump { .. } | Item::Return => self.forget_all(),
-            Item::IfNonzero { .. } | Item::IfZero { .. } | Item::Store { .. } => {}
-            Item::Copy { between } => self.go_behind_move(between),
-            Item::Const { to, word } => self.learn(to, word),
-            Item::Unary { to, .. } | Item::Binary { to, .. } | Item::Load { to, .. } => {
+            LinearItem::Label { .. } | LinearItem::Jump { .. } | LinearItem::Return => self.forget_all(),
+            LinearItem::IfNonzero { .. } | LinearItem::IfZero { .. } | LinearItem::Store { .. } => {}
+            LinearItem::Copy { between } => self.go_behind_move(between),
+            LinearItem::Const { to, word } => self.learn(to, word),
+            LinearItem::Unary { to, .. } | LinearItem::Binary { to, .. } | LinearItem::Load { to, .. } => {
                 self.forget(to.number());
             }
-            Item::Call { .. } => self.forget_destroyed(),
-            Item::Read => {
+            LinearItem::Call { .. } => self.forget_destroyed(),
+            LinearItem::Read => {
                 self.forget(DESTROYED);
                 self.forget(RESULT);
             }
-            Item::Write => self.forget(DESTROYED),
+            LinearItem::Write => self.forget(DESTROYED),
         }
     }
 }
 
 // An operator with a word, where it can have that, else another step.
-fn with_word(form: Option<(Immediate, u32)>, to: Register, from: Register, other: Step) -> Step
+fn with_word(form: Option<(WordOperator, u32)>, to: Register, from: Register, other: Step) -> Step
     ensures { result ≡ with_word form to from other }
 {
     match form {
@@ -195,17 +195,17 @@ pub(crate) fn is_taken(nonzero: bool, word: Option<u32>) -> bool
 }
 
 /// The step of an item.
-pub(crate) fn choose(known: &Known, item: Item) -> Step
+pub(crate) fn choose(known: &Known, item: LinearItem) -> Step
     ensures { result ≡ choose (known_in known.now) item }
 {
     match item {
-        Item::IfNonzero { from, to } if is_taken(true, known.word(from)) => {
-            Step::One(Item::Jump { to })
+        LinearItem::IfNonzero { from, to } if is_taken(true, known.word(from)) => {
+            Step::One(LinearItem::Jump { to })
         }
-        Item::IfZero { from, to } if is_taken(false, known.word(from)) => {
-            Step::One(Item::Jump { to })
+        LinearItem::IfZero { from, to } if is_taken(false, known.word(from)) => {
+            Step::One(LinearItem::Jump { to })
         }
-        Item::Binary {
+        LinearItem::Binary {
             operator,
             to,
             left,
@@ -214,13 +214,13 @@ pub(crate) fn choose(known: &Known, item: Item) -> Step
             let other = with_left(known.word(left), operator, to, right, Step::One(item));
             with_right(known.word(right), operator, to, left, other)
         }
-        Item::Load {
+        LinearItem::Load {
             width,
             object,
             to,
             index,
         } => load_at(known.word(index), width, object, to, Step::One(item)),
-        Item::Store {
+        LinearItem::Store {
             width,
             object,
             index,

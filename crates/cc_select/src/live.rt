@@ -8,7 +8,7 @@ ghost use Rattle.cc_select.specs.declared.registers.Registers.{Registers as bits
 
 use crate::registers::{DESTROYED, RESULT, Registers};
 use crate::step::Step;
-use cc_linear_language::Item;
+use cc_linear_language::LinearItem;
 use cc_ltl::Move;
 use std::alloc::{AllocError, Global};
 
@@ -75,19 +75,19 @@ fn live_move(between: Move, behind: Registers) -> Registers
 }
 
 // Before an item.
-fn live_item(item: &Item, table: &LiveTable, behind: Registers) -> Registers
+fn live_item(item: &LinearItem, table: &LiveTable, behind: Registers) -> Registers
     ensures { holds result ≡ live_item item.now (table_of table.now) (holds behind) }
 {
     match *item {
-        Item::Label { .. } => behind,
-        Item::Jump { to } => table.row(to),
-        Item::IfNonzero { from, to } | Item::IfZero { from, to } => {
+        LinearItem::Label { .. } => behind,
+        LinearItem::Jump { to } => table.row(to),
+        LinearItem::IfNonzero { from, to } | LinearItem::IfZero { from, to } => {
             table.row(to).or(behind).with(from.number())
         }
-        Item::Copy { between } => live_move(between, behind),
-        Item::Const { to, .. } => behind.without(to.number()),
-        Item::Unary { to, from, .. } => behind.without(to.number()).with(from.number()),
-        Item::Binary {
+        LinearItem::Copy { between } => live_move(between, behind),
+        LinearItem::Const { to, .. } => behind.without(to.number()),
+        LinearItem::Unary { to, from, .. } => behind.without(to.number()).with(from.number()),
+        LinearItem::Binary {
             to,
             left,
             right,
@@ -98,12 +98,12 @@ fn live_item(item: &Item, table: &LiveTable, behind: Registers) -> Registers
                 .with(right.number())
                 .with(left.number())
         }
-        Item::Load { to, index, .. } => behind.without(to.number()).with(index.number()),
-        Item::Store { index, from, .. } => behind.with(from.number()).with(index.number()),
-        Item::Call { .. } => behind.before_call(),
-        Item::Read => behind.without(DESTROYED).without(RESULT),
-        Item::Write => behind.without(DESTROYED).with(RESULT),
-        Item::Return => Registers::result(),
+        LinearItem::Load { to, index, .. } => behind.without(to.number()).with(index.number()),
+        LinearItem::Store { index, from, .. } => behind.with(from.number()).with(index.number()),
+        LinearItem::Call { .. } => behind.before_call(),
+        LinearItem::Read => behind.without(DESTROYED).without(RESULT),
+        LinearItem::Write => behind.without(DESTROYED).with(RESULT),
+        LinearItem::Return => Registers::result(),
     }
 }
 

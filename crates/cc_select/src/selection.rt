@@ -11,7 +11,7 @@ use crate::pair::SelectedPair;
 use crate::step::Step;
 use crate::table::settle;
 use crate::threading::chosen;
-use cc_linear_language::{Item, LinearPair};
+use cc_linear_language::{LinearItem, LinearPair};
 use cc_types::TypedUnit;
 use std::alloc::{AllocError, Global};
 
@@ -30,7 +30,7 @@ fn trimmed(alloc: Global, steps: &[Step]) -> Result<Vec<Step>, AllocError>
 }
 
 // The steps of a function's items.
-fn selected(alloc: Global, items: &[Item]) -> Result<Vec<Step>, AllocError>
+fn selected(alloc: Global, items: &[LinearItem]) -> Result<Vec<Step>, AllocError>
     ensures { IfOk result (λ made. made.items ≡ selected items.now) }
 {
     let steps = chosen(alloc, items)?;

@@ -1,13 +1,13 @@
 //! The steps of a function: an item of Linear, an operation with a word or an element's number within it, or a branch that compares.
 
-use cc_linear_language::Item;
+use cc_linear_language::LinearItem;
 use cc_ltl::Register;
 use cc_words::{Binary, Width};
 
 /// The operators on a register and a word: those that take fewer instructions than with the word in a register, where nobody else reads it
 /// there. Which words each can have is `has_word` of `specs/Immediates.antt`.
 #[derive(Clone, Copy)]
-pub enum Immediate {
+pub enum WordOperator {
     Add,
     Sub,
     Shl,
@@ -34,10 +34,10 @@ pub enum Immediate {
 #[derive(Clone, Copy)]
 pub enum Step {
     /// An item of Linear.
-    One(Item),
+    One(LinearItem),
     /// An operator on a register and a word.
     Immediate {
-        operator: Immediate,
+        operator: WordOperator,
         to: Register,
         from: Register,
         word: u32,
@@ -66,7 +66,7 @@ pub enum Step {
     },
     /// The same of a register and a word.
     BranchImmediate {
-        operator: Immediate,
+        operator: WordOperator,
         nonzero: bool,
         from: Register,
         word: u32,

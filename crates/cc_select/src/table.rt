@@ -10,7 +10,7 @@ ghost use Rattle.cc_select.specs.internal.Passes.{label_of, is_met};
 use crate::live::{LiveTable, live_before};
 use crate::registers::Registers;
 use crate::step::Step;
-use cc_linear_language::Item;
+use cc_linear_language::LinearItem;
 use std::alloc::{AllocError, Global};
 
 // The most sweeps.
@@ -28,7 +28,7 @@ fn label_of(step: &Step) -> Option<u32>
     ensures { result ≡ label_of step.now }
 {
     match step {
-        Step::One(Item::Label { label }) => Some(*label),
+        Step::One(LinearItem::Label { label }) => Some(*label),
         _ => None,
     }
 }

@@ -5,7 +5,7 @@
 //! Two walks make the table of these tests: from the back, the test behind each label, and then none for the labels that branches lead to.
 
 ghost use Rattle.std.specs.Prelude.{◌≡◌, ◌++◌, ◌∷◌, [], ℕ, ◌+◌, ◌≤◌, drop, None, false, not, IfOk, vec_len, vec_capacity, if◌then◌else◌, ◌==◌};
-ghost use Rattle.cc_linear_language.specs.declared.item.Item.TheVariants.{Jump};
+ghost use Rattle.cc_linear_language.specs.declared.item.LinearItem.TheVariants.{Jump};
 ghost use Rattle.cc_select.specs.Known.{unknown, is_taken, chosen};
 ghost use Rattle.cc_select.specs.Threading.{branches_to, first_test, test_behind, tests, way, is_jump, before_label, before_jump, in_jump, piece, is_before_gone, threaded_by, threaded};
 ghost use Rattle.cc_select.specs.internal.Sets.{known_in, tests_in};
@@ -13,18 +13,18 @@ ghost use Rattle.cc_select.specs.internal.Passes.{branched_to};
 
 use crate::known::{Known, choose, is_taken};
 use crate::step::Step;
-use cc_linear_language::Item;
+use cc_linear_language::LinearItem;
 use std::alloc::{AllocError, Global};
 
 /// The test that goes before each label, by its number.
 #[derive(Drop)]
 struct Tests {
-    rows: Vec<Option<Item>>,
+    rows: Vec<Option<LinearItem>>,
 }
 
 impl Tests {
     // That of a label.
-    fn row(&self, label: u32) -> Option<Item>
+    fn row(&self, label: u32) -> Option<LinearItem>
         ensures { result ≡ tests_in self.now label }
     {
         match self.rows.get(label as usize) {
@@ -34,7 +34,7 @@ impl Tests {
     }
 
     // Puts that of a label in. Without memory all stays as it was.
-    fn put(&mut self, label: u32, row: Option<Item>) -> Result<(), AllocError>
+    fn put(&mut self, label: u32, row: Option<LinearItem>) -> Result<(), AllocError>
         ensures { IfOk result (λ _. (n : ℕ) → tests_in self.new n ≡ (if label == n then row else tests_in self.old n)) }
     {
         let at = label as usize;
@@ -50,15 +50,15 @@ impl Tests {
 }
 
 // The test that these items have at a place.
-fn first_test(items: &[Item], at: usize) -> Option<Item>
+fn first_test(items: &[LinearItem], at: usize) -> Option<LinearItem>
     ensures { result ≡ first_test (drop at items.now) }
 {
     match items.get(at) {
-        Some(Item::IfNonzero { from, to }) => Some(Item::IfNonzero {
+        Some(LinearItem::IfNonzero { from, to }) => Some(LinearItem::IfNonzero {
             from: *from,
             to: *to,
         }),
-        Some(Item::IfZero { from, to }) => Some(Item::IfZero {
+        Some(LinearItem::IfZero { from, to }) => Some(LinearItem::IfZero {
             from: *from,
             to: *to,
         }),
@@ -67,7 +67,7 @@ fn first_test(items: &[Item], at: usize) -> Option<Item>
 }
 
 // The test directly behind each label.
-fn tests_behind(alloc: Global, items: &[Item]) -> Result<Tests, AllocError>
+fn tests_behind(alloc: Global, items: &[LinearItem]) -> Result<Tests, AllocError>
     ensures { IfOk result (λ found. (n : ℕ) → tests_in found n ≡ test_behind items.now n) }
 {
     let mut found = Tests {
@@ -76,7 +76,7 @@ fn tests_behind(alloc: Global, items: &[Item]) -> Result<Tests, AllocError>
     let mut at = items.len();
     while at > 0 {
         at -= 1;
-        if let Item::Label { label } = items[at] {
+        if let LinearItem::Label { label } = items[at] {
             found.put(label, first_test(items, at + 1))?;
         }
     }
@@ -84,17 +84,17 @@ fn tests_behind(alloc: Global, items: &[Item]) -> Result<Tests, AllocError>
 }
 
 // The label that an item may lead to beside the next item.
-fn branched_to(item: &Item) -> Option<u32>
+fn branched_to(item: &LinearItem) -> Option<u32>
     ensures { result ≡ branched_to item.now }
 {
     match item {
-        Item::IfNonzero { to, .. } | Item::IfZero { to, .. } => Some(*to),
+        LinearItem::IfNonzero { to, .. } | LinearItem::IfZero { to, .. } => Some(*to),
         _ => None,
     }
 }
 
 // None for the labels to which branches lead.
-fn without_branched(found: &mut Tests, items: &[Item]) -> Result<(), AllocError>
+fn without_branched(found: &mut Tests, items: &[LinearItem]) -> Result<(), AllocError>
     ensures { IfOk result (λ _. (n : ℕ) → tests_in found.new n ≡ (if branches_to items.now n then None else tests_in found.old n)) }
 {
     for item in items {
@@ -106,7 +106,7 @@ fn without_branched(found: &mut Tests, items: &[Item]) -> Result<(), AllocError>
 }
 
 // The tests that go before labels.
-fn find_tests(alloc: Global, items: &[Item]) -> Result<Tests, AllocError>
+fn find_tests(alloc: Global, items: &[LinearItem]) -> Result<Tests, AllocError>
     ensures { IfOk result (λ found. (n : ℕ) → tests_in found n ≡ tests items.now n) }
 {
     let mut found = tests_behind(alloc, items)?;
@@ -115,34 +115,34 @@ fn find_tests(alloc: Global, items: &[Item]) -> Result<Tests, AllocError>
 }
 
 // What is done in place of a test: a jump to one of two labels where the word is known, else the test.
-fn decided(nonzero: bool, word: Option<u32>, to: u32, label: u32, test: Item) -> Item
+fn decided(nonzero: bool, word: Option<u32>, to: u32, label: u32, test: LinearItem) -> LinearItem
     ensures { result ≡ (if is_taken nonzero word then Jump to else (if is_taken (not nonzero) word then Jump label else test)) }
 {
     if is_taken(nonzero, word) {
-        Item::Jump { to }
+        LinearItem::Jump { to }
     } else if is_taken(!nonzero, word) {
-        Item::Jump { to: label }
+        LinearItem::Jump { to: label }
     } else {
         test
     }
 }
 
 // A test before a jump to a label or the label itself.
-fn way(known: &Known, test: Item, label: u32) -> Item
+fn way(known: &Known, test: LinearItem, label: u32) -> LinearItem
     ensures { result ≡ way (known_in known.now) test label }
 {
     match test {
-        Item::IfNonzero { from, to } => decided(true, known.word(from), to, label, test),
-        Item::IfZero { from, to } => decided(false, known.word(from), to, label, test),
+        LinearItem::IfNonzero { from, to } => decided(true, known.word(from), to, label, test),
+        LinearItem::IfZero { from, to } => decided(false, known.word(from), to, label, test),
         _ => test,
     }
 }
 
 // Whether an item is a jump.
-fn is_jump(item: &Item) -> bool
+fn is_jump(item: &LinearItem) -> bool
     ensures { result ≡ is_jump item.now }
 {
-    matches!(item, Item::Jump { .. })
+    matches!(item, LinearItem::Jump { .. })
 }
 
 // Pushes the steps of a label and of the test that goes before it.
@@ -153,17 +153,17 @@ fn push_label(steps: &mut Vec<Step>, tests: &Tests, known: &Known, label: u32)
     if let Some(test) = tests.row(label) {
         steps.push_reserved(choose(known, way(known, test, label)));
     }
-    steps.push_reserved(Step::One(Item::Label { label }));
+    steps.push_reserved(Step::One(LinearItem::Label { label }));
 }
 
 // Pushes the step of an item, and a jump to the label behind it unless the item is `alone`.
-fn push_step(steps: &mut Vec<Step>, known: &Known, item: Item, label: u32, alone: bool)
+fn push_step(steps: &mut Vec<Step>, known: &Known, item: LinearItem, label: u32, alone: bool)
     requires { vec_len steps.old + 2 ≤ vec_capacity steps.old }
     ensures { steps.new.items ≡ steps.old.items ++ chosen (known_in known.now) (item ∷ (if alone then [] else Jump label ∷ [])) }
 {
     steps.push_reserved(choose(known, item));
     if !alone {
-        steps.push_reserved(Step::One(Item::Jump { to: label }));
+        steps.push_reserved(Step::One(LinearItem::Jump { to: label }));
     }
 }
 
@@ -178,34 +178,34 @@ fn push_jump(steps: &mut Vec<Step>, tests: &Tests, known: &Known, label: u32)
             let alone = is_jump(&way);
             push_step(steps, known, way, label, alone);
         }
-        None => push_step(steps, known, Item::Jump { to: label }, label, true),
+        None => push_step(steps, known, LinearItem::Jump { to: label }, label, true),
     }
 }
 
 // Pushes the steps of what stands for an item: at most two, for which there is room.
-fn push_piece(steps: &mut Vec<Step>, tests: &Tests, known: &Known, item: Item)
+fn push_piece(steps: &mut Vec<Step>, tests: &Tests, known: &Known, item: LinearItem)
     requires { vec_len steps.old + 2 ≤ vec_capacity steps.old }
     ensures { steps.new.items ≡ steps.old.items ++ chosen (known_in known.now) (piece (tests_in tests.now) (known_in known.now) item) }
 {
     match item {
-        Item::Label { label } => push_label(steps, tests, known, label),
-        Item::Jump { to } => push_jump(steps, tests, known, to),
+        LinearItem::Label { label } => push_label(steps, tests, known, label),
+        LinearItem::Jump { to } => push_jump(steps, tests, known, to),
         _ => push_step(steps, known, item, 0, true),
     }
 }
 
 // Whether the item behind this one is a test that has gone before its label.
-fn is_before_gone(tests: &Tests, item: &Item) -> bool
+fn is_before_gone(tests: &Tests, item: &LinearItem) -> bool
     ensures { result ≡ is_before_gone (tests_in tests.now) item.now }
 {
     match item {
-        Item::Label { label } => tests.row(*label).is_some(),
+        LinearItem::Label { label } => tests.row(*label).is_some(),
         _ => false,
     }
 }
 
 // The steps of the items with these tests before labels.
-fn chosen_by(alloc: Global, tests: &Tests, items: &[Item]) -> Result<Vec<Step>, AllocError>
+fn chosen_by(alloc: Global, tests: &Tests, items: &[LinearItem]) -> Result<Vec<Step>, AllocError>
     ensures { IfOk result (λ steps. steps.items ≡ chosen unknown (threaded_by (tests_in tests.now) unknown false items.now)) }
 {
     let mut known = Known::nothing();
@@ -226,7 +226,7 @@ fn chosen_by(alloc: Global, tests: &Tests, items: &[Item]) -> Result<Vec<Step>, 
 
 /// The steps of a function's items with tests before the labels to which only jumps lead: one for each item, and at most one more for each
 /// jump.
-pub(crate) fn chosen(alloc: Global, items: &[Item]) -> Result<Vec<Step>, AllocError>
+pub(crate) fn chosen(alloc: Global, items: &[LinearItem]) -> Result<Vec<Step>, AllocError>
     ensures { IfOk result (λ steps. steps.items ≡ chosen unknown (threaded items.now)) }
 {
     let tests = find_tests(alloc, items)?;

@@ -10,7 +10,7 @@ use crate::client::Client;
 use crate::named::Named;
 use cc_disk::{Disk, History};
 use cc_history::{Receipt, SharedEntry, receipts_count_up};
-use cc_library::{Command as Change, Library, UnitMap};
+use cc_library::{LibraryCommand, Library, UnitMap};
 use cc_pool::Pass;
 use cc_recorded::{Book, BookFault, Ended};
 use std::alloc::{AllocError, Global};
@@ -24,7 +24,7 @@ pub struct Closed<D: Disk> {
     pub library: Library<D>,
     pub history: Vec<SharedEntry>,
     /// The change in whose call the device failed, where one did. For contracts alone.
-    pub failed: History<Change>,
+    pub failed: History<LibraryCommand>,
     pub receipts: Vec<Vec<Receipt>>,
 }
 

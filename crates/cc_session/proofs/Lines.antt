@@ -2,12 +2,12 @@
 use Rattle.std.proofs.Common.{◌≡◌, ℕ, ◌+◌, ◌<◌, ◌≤◌, List, [], ◌∷◌, ◌++◌, length, take, Option, Some, None, ap, refl, sym, subst, arith, inl, inr}
 use Rattle.std.specs.Prelude.{◌⊎◌, ◌≢◌, IfSome}
 use Rattle.std.proofs.lemmas.List.{length-append, length-take}
-use Rattle.cc_script.specs.Line.{Asked, asked_of}
+use Rattle.cc_script.specs.Line.{ScriptRequest, asked_of}
 use Rattle.cc_script.specs.Reading.{Ahead, Between, HasMore, IsLine, IsNext, IsNotRead}
 use Rattle.cc_script.specs.declared.command.Dialect.{Dialect}
 use Rattle.cc_script.specs.declared.fault.ScriptFault.{ScriptFault}
 use Rattle.cc_script.specs.declared.fault.ScriptFault.TheVariants.{BadLine, EndOfScript, ScriptTooLong, ReadFault, WriteFault}
-use Rattle.cc_script.specs.declared.script.Next.TheVariants.{End, Line, TooLong}
+use Rattle.cc_script.specs.declared.script.NextLine.TheVariants.{End, Line, TooLong}
 use Rattle.cc_history.specs.History.{Holder}
 use Rattle.cc_session.specs.Playing.{EndsInSource, IsCutShort, IsPlayed, IsPlayedInPart, IsPlayedUpTo, IsStep, IsStopped, IsStoppedBy, IsTooLong, IsWithin, Obeys, Plays, Turn}
 use Rattle.cc_session.specs.internal.Steps.{IsNoLine, IsNotDone}
@@ -199,7 +199,7 @@ line_ends dialect most x y m count start old new n line EndOfScript few more who
         line = take n line;
         rest = k;
         is_line = is.1;
-        short = subst (λ (asked : Option Asked). IsCutShort asked k) (sym (asks_short dialect (take n line) (short n line few))) cut;
+        short = subst (λ (asked : Option ScriptRequest). IsCutShort asked k) (sym (asks_short dialect (take n line) (short n line few))) cut;
       },
     )) in (
       tt,

@@ -5,13 +5,13 @@ use Rattle.std.specs.Option.{option_map}
 use Rattle.std.proofs.lemmas.List.{length-append}
 use Rattle.std.proofs.lemmas.List.Elements.{All-append}
 use Rattle.std.proofs.lemmas.Bool.Decides.{nat_tests}
-use Rattle.cc_script.specs.Line.{Asked, asked_of}
+use Rattle.cc_script.specs.Line.{ScriptRequest, asked_of}
 use Rattle.cc_script.specs.Reading.{Ahead, Between, HasMore, IsLine, IsLineEnd, IsNext, IsNoSource, IsNotRead, IsRead, IsSource, Known, rest_from}
 use Rattle.cc_script.specs.declared.command.Dialect.{Dialect}
 use Rattle.cc_script.specs.declared.fault.ScriptFault.{ScriptFault}
 use Rattle.cc_script.specs.declared.fault.ScriptFault.TheVariants.{BadLine, EndOfScript, ScriptTooLong, ReadFault, WriteFault}
-use Rattle.cc_script.specs.declared.script.Next.{Next}
-use Rattle.cc_script.specs.declared.script.Next.TheVariants.{End, Line, TooLong}
+use Rattle.cc_script.specs.declared.script.NextLine.{NextLine}
+use Rattle.cc_script.specs.declared.script.NextLine.TheVariants.{End, Line, TooLong}
 use Rattle.cc_history.specs.History.{Holder}
 use Rattle.cc_session.specs.Playing.{IsPlayed, IsPlayedInPart, IsStep, IsWithin, Obeys, Plays, Turn, asked_by_line}
 use Rattle.cc_session.specs.internal.Steps.{HasSent, IsDone, IsNotDone, IsSentAs, IsShortOf}
@@ -172,7 +172,7 @@ too_long_step dialect before between after line old next skipped =
       line = next.0 ++ skipped.0;
       rest = after;
       is_line = line_behind before next.0 between skipped.0 after next.1 next.3 skipped.1;
-      obeyed = subst (λ (asked : Option Asked). Obeys asked after after old old) (sym (asks_long dialect (next.0 ++ skipped.0) long)) (refl, refl);
+      obeyed = subst (λ (asked : Option ScriptRequest). Obeys asked after after old old) (sym (asks_long dialect (next.0 ++ skipped.0) long)) (refl, refl);
     }
 
 -- a line that is obeyed is a step
@@ -182,7 +182,7 @@ obeyed_step dialect before between after line old new short is obeyed = record {
   line = line;
   rest = between;
   is_line = is;
-  obeyed = subst (λ (asked : Option Asked). Obeys asked between after old new) (sym (asks_short dialect line short)) obeyed;
+  obeyed = subst (λ (asked : Option ScriptRequest). Obeys asked between after old new) (sym (asks_short dialect line short)) obeyed;
 }
 
 -- ---- scripts
@@ -206,7 +206,7 @@ pub played_up_to : (dialect : Dialect) (most : Option ℕ) (script : List ℕ) (
 played_up_to dialect most script first turns rest client last few plays it = record { turns = turns; few = few; rest = rest; client = client; plays = plays; then_is = it }
 
 -- a line is there, where one came
-line_left : (before after line : List ℕ) (next : Next) → IsNext before next line after → next ≢ End → before ≢ []
+line_left : (before after line : List ℕ) (next : NextLine) → IsNext before next line after → next ≢ End → before ≢ []
 line_left before after line End is other = absurd (other refl)
 line_left before after line (Line n) is other = is.0
 line_left before after line TooLong is other = λ none.
@@ -214,7 +214,7 @@ line_left before after line TooLong is other = λ none.
     let whole = ap (λ (l : List ℕ). length l) (sym is.1 ∙ none) in
     absurd (omega (arith, both, whole, is.2))
 
-pub some_left : (x y : Ahead) (next : Next) (line : List ℕ) → Between x y (λ b a. IsNext b next line a) → next ≢ End → IfSome x.rest (λ b. b ≢ [])
+pub some_left : (x y : Ahead) (next : NextLine) (line : List ℕ) → Between x y (λ b a. IsNext b next line a) → next ≢ End → IfSome x.rest (λ b. b ≢ [])
 some_left x y next line it other = known_by x y (λ b a. IsNext b next line a) (λ b. b ≢ []) it (λ b a is. line_left b a line next is other)
 
 -- ---- lines that are refused, and sources

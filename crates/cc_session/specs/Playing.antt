@@ -1,6 +1,6 @@
 -- What a script is to the client that does it: line by line a call of the service, and what its answer makes of the client.
 use Rattle.std.specs.Prelude.{◌≡◌, ◌≢◌, ◌⊎◌, ◌+◌, ◌<◌, ◌≤◌, ℕ, Bool, true, false, List, [], ◌∷◌, ◌++◌, length, take, nat_le, if◌then◌else◌, Option, Some, None, IfSome, Result, Ok, Err}
-use Rattle.cc_script.specs.Line.{Asked, Add, Replace, Withdraw, Names, Run, Compact, Audit, Image, Source, asked_of}
+use Rattle.cc_script.specs.Line.{ScriptRequest, Add, Replace, Withdraw, Names, Run, Compact, Audit, Image, Source, asked_of}
 use Rattle.cc_script.specs.Reading.{IsLine}
 use Rattle.cc_script.specs.declared.command.Dialect.{Dialect}
 use Rattle.cc_script.specs.declared.fault.ScriptFault.{ScriptFault}
@@ -51,7 +51,7 @@ abbrev pub Audits : (old new : Holder) → Type 0
 Audits old new = ((fault : ServiceFault) × ListAnswers old new (Err fault)) ⊎ IsListedAndFetched old new
 
 -- what a line asks for is done; nothing where it asks for nothing
-abbrev pub Obeys : Option Asked → (before after : List ℕ) (old new : Holder) → Type 0
+abbrev pub Obeys : Option ScriptRequest → (before after : List ℕ) (old new : Holder) → Type 0
 Obeys (Some (Add name count)) before after old new = IsSent Adds name count before after old new
 Obeys (Some (Replace name count)) before after old new = IsSent Replaces name count before after old new
 Obeys (Some (Withdraw name)) before after old new = (after ≡ before) × Calls (WithdrawAnswers name old new)
@@ -64,7 +64,7 @@ Obeys (Some (Source name)) before after old new = (after ≡ before) × Calls (G
 Obeys None before after old new = (after ≡ before) × (new ≡ old)
 
 -- what a line of a script asks for; one of more than 128 bytes asks for nothing
-abbrev pub asked_by_line : Dialect → List ℕ → Option Asked
+abbrev pub asked_by_line : Dialect → List ℕ → Option ScriptRequest
 asked_by_line dialect line = if nat_le (length line) 128 then asked_of dialect line else None
 
 -- one line of a script of this dialect is done, with the source behind it where it has one
@@ -107,7 +107,7 @@ pub record IsPlayedInPart (dialect : Dialect) (most : Option ℕ) (script : List
 -- ---- scripts that a fault ends
 
 -- a line that asks for this needs more bytes behind it than are left there
-abbrev pub IsCutShort : Option Asked → (rest : List ℕ) → Type 0
+abbrev pub IsCutShort : Option ScriptRequest → (rest : List ℕ) → Type 0
 IsCutShort (Some (Add name count)) rest = length rest < count
 IsCutShort (Some (Replace name count)) rest = length rest < count
 IsCutShort asked rest = ⊥

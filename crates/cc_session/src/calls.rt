@@ -15,7 +15,7 @@ use crate::telling::{refuse, tell_change, tell_done};
 use cc_answers::{Teller, run_image};
 use cc_disk::Disk;
 use cc_library::Name;
-use cc_script::{Command, Dialect, LINE_BYTES, MOST_BYTES, Next, ScriptFault, command_of};
+use cc_script::{ScriptCommand, Dialect, LINE_BYTES, MOST_BYTES, NextLine, ScriptFault, command_of};
 use cc_service::{Client, Found, Named, Put, Service};
 use cc_task::Part;
 use std::alloc::Global;
@@ -261,19 +261,19 @@ impl<'a, N: Named + Send + Sync + 'static, H: Wait, D: Disk> Caller<'a, N, H, D>
             script.old script.new client.old.holder client.new.holder result }
     {
         match command_of(dialect, line) {
-            Some(Command::Add { name, length }) => {
+            Some(ScriptCommand::Add { name, length }) => {
                 self.put(client, script, teller, Put::Add, name, length)
             }
-            Some(Command::Replace { name, length }) => {
+            Some(ScriptCommand::Replace { name, length }) => {
                 self.put(client, script, teller, Put::Replace, name, length)
             }
-            Some(Command::Withdraw { name }) => self.withdraw(client, teller, name),
-            Some(Command::List) => self.list(client, teller),
-            Some(Command::Run { name, steps }) => self.run(client, teller, name, steps),
-            Some(Command::Compact) => self.compact(teller),
-            Some(Command::Audit) => self.audit(client, teller),
-            Some(Command::Image { name }) => self.show(client, teller, name, Part::Image),
-            Some(Command::Source { name }) => self.show(client, teller, name, Part::Source),
+            Some(ScriptCommand::Withdraw { name }) => self.withdraw(client, teller, name),
+            Some(ScriptCommand::List) => self.list(client, teller),
+            Some(ScriptCommand::Run { name, steps }) => self.run(client, teller, name, steps),
+            Some(ScriptCommand::Compact) => self.compact(teller),
+            Some(ScriptCommand::Audit) => self.audit(client, teller),
+            Some(ScriptCommand::Image { name }) => self.show(client, teller, name, Part::Image),
+            Some(ScriptCommand::Source { name }) => self.show(client, teller, name, Part::Source),
             None => teller.tell_fault(ScriptFault::BadLine),
         }
     }
@@ -294,11 +294,11 @@ impl<'a, N: Named + Send + Sync + 'static, H: Wait, D: Disk> Caller<'a, N, H, D>
         // Each line but the last takes a byte at least.
         for lines in 0..=MOST_BYTES {
             match script.next_line(&mut line, most, lines)? {
-                Next::Line(length) => {
+                NextLine::Line(length) => {
                     self.obey(client, script, teller, dialect, &line[..length])?
                 }
-                Next::TooLong => script.refuse_and_skip(teller)?,
-                Next::End => return Ok(()),
+                NextLine::TooLong => script.refuse_and_skip(teller)?,
+                NextLine::End => return Ok(()),
             }
         }
         Err(ScriptFault::ScriptTooLong)

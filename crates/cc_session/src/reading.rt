@@ -6,7 +6,7 @@ ghost use Rattle.cc_script.specs.declared.fault.ScriptFault.TheVariants.{WriteFa
 ghost use Rattle.cc_session.specs.internal.Steps.{HasSent, IsNoLine, IsSentAs, MayFollow};
 
 use cc_answers::Teller;
-use cc_script::{LINE_BYTES, Next, Script, ScriptFault};
+use cc_script::{LINE_BYTES, NextLine, Script, ScriptFault};
 use std::alloc::Global;
 use std::io::{Read, Write};
 use std::marker::Model;
@@ -67,7 +67,7 @@ impl<R: Read> Reading<R> {
         line: &mut [u8; LINE_BYTES],
         most: Option<usize>,
         lines: usize,
-    ) -> Result<Next, ScriptFault>
+    ) -> Result<NextLine, ScriptFault>
         ensures within { IfOk result IsWithinLine }
         ensures few { IfOk result (MayFollow most lines) }
         ensures refused { IfErr result (IsNoLine most lines self.old self.new.left) }
@@ -75,8 +75,8 @@ impl<R: Read> Reading<R> {
     {
         let next = self.script.next_line(&mut self.reader, line)?;
         match next {
-            Next::End => Ok(next),
-            Next::Line(_) | Next::TooLong => {
+            NextLine::End => Ok(next),
+            NextLine::Line(_) | NextLine::TooLong => {
                 if most == Some(lines) {
                     Err(ScriptFault::ScriptTooLong)
                 } else {

@@ -11,7 +11,7 @@ use Rattle.cc_spool.specs.contracts.claims.Ending as Ending
 use Rattle.cc_spool.specs.contracts.folder.Queue as Queue
 use Rattle.cc_spool.specs.contracts.folder.Unanswered as Unanswered
 use Rattle.cc_spool.specs.contracts.found.Found as Found
-use Rattle.cc_spool.specs.contracts.layout.Layout as Layout
+use Rattle.cc_spool.specs.contracts.layout.FolderLayout as FolderLayout
 use Rattle.cc_spool.specs.contracts.memory.Answered as Answered
 use Rattle.cc_spool.specs.contracts.memory.MemorySpool as MemorySpool
 
@@ -29,7 +29,7 @@ spool_send R W s t =
 found_send : IsSend Found.the_row
 found_send = search (sendable, crosses) depth 20
 
-layout_send : IsSend Layout.the_field.row
+layout_send : IsSend FolderLayout.the_field.row
 layout_send = let f = found_send in search (sendable, crosses) depth 40 fits 40000
 
 ending_send : IsSend Ending.the_row

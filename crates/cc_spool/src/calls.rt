@@ -4,7 +4,7 @@
 
 use crate::entries::Entries;
 use crate::found::Found;
-use crate::layout::Layout;
+use crate::layout::FolderLayout;
 use crate::place::Place;
 use crate::refusal::Refusal;
 use std::alloc::AllocError;
@@ -62,7 +62,7 @@ fn set_file_rights(file: &File, rights: u32) -> Result<(), Refusal> {
     Ok(())
 }
 
-impl Layout {
+impl FolderLayout {
     // What is at a path, if something is; a link is not followed.
     fn look_along(&self, path: Path) -> Result<Option<Found>, Refusal> {
         let path = path?;

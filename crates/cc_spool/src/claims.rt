@@ -17,7 +17,7 @@
 
 use crate::answer::AnswerFile;
 use crate::calls::{set_length, settle, write_at};
-use crate::layout::Layout;
+use crate::layout::FolderLayout;
 use crate::place::Place;
 use crate::refusal::Refusal;
 use std::fs::File;
@@ -82,7 +82,7 @@ impl Told {
 }
 
 // Whether an earlier script of that name is at an end: nothing of it is left in `cur`, and no answer of the server's in `done`.
-fn is_unused(layout: &Layout, name: &str) -> bool {
+fn is_unused(layout: &FolderLayout, name: &str) -> bool {
     if !layout.is_free(Place::Claimed, name) {
         return false;
     }
@@ -103,7 +103,7 @@ enum Move {
 }
 
 // Moves a script from `new` to `cur`, where nothing has its name.
-fn move_claimed(layout: &Layout, name: &str) -> Move {
+fn move_claimed(layout: &FolderLayout, name: &str) -> Move {
     if !is_unused(layout, name) {
         return Move::NotMade;
     }
@@ -119,7 +119,7 @@ fn move_claimed(layout: &Layout, name: &str) -> Move {
 }
 
 // Settles a claim, and opens its script, where it is a regular file: nobody else writes to `cur`, so it stays what it is.
-fn open_claimed(layout: &Layout, name: &str) -> Result<File, Told> {
+fn open_claimed(layout: &FolderLayout, name: &str) -> Result<File, Told> {
     if layout.sync_claims().is_err() && layout.sync_claims().is_err() {
         return Err(Told::Interrupted);
     }
@@ -141,7 +141,7 @@ fn write_line(file: &File, told: Told) -> Result<(), Refusal> {
 }
 
 // Answers a script by the line of a fault alone. The answer's file is open, since no other one may be to be had.
-fn refuse(layout: &Layout, name: &str, file: File, told: Told) -> ClaimResult {
+fn refuse(layout: &FolderLayout, name: &str, file: File, told: Told) -> ClaimResult {
     let written = write_line(&file, told);
     drop(file);
     if written.is_err() {
@@ -154,7 +154,7 @@ fn refuse(layout: &Layout, name: &str, file: File, told: Told) -> ClaimResult {
 }
 
 // Begins a script that was claimed: from here on it is answered whatever comes.
-fn begin(layout: &Layout, name: &str, file: File) -> ClaimResult {
+fn begin(layout: &FolderLayout, name: &str, file: File) -> ClaimResult {
     let script = match open_claimed(layout, name) {
         Ok(script) => script,
         Err(told) => return refuse(layout, name, file, told),
@@ -169,7 +169,7 @@ fn begin(layout: &Layout, name: &str, file: File) -> ClaimResult {
 }
 
 /// Claims the script of that name, where that can be done.
-pub(crate) fn claim(layout: &Layout, name: &str) -> ClaimResult {
+pub(crate) fn claim(layout: &FolderLayout, name: &str) -> ClaimResult {
     if !layout.is_file(Place::Waiting, name) {
         return ClaimResult::Left;
     }
@@ -193,12 +193,12 @@ pub(crate) fn claim(layout: &Layout, name: &str) -> ClaimResult {
 
 // Whether an answer that could not be moved is gone from `cur` all the same: over a network a call may be done and its answer be lost, and
 // nobody else takes files out of `cur`.
-fn is_gone(layout: &Layout, name: &str) -> bool {
+fn is_gone(layout: &FolderLayout, name: &str) -> bool {
     layout.is_free(Place::Answer, name) && layout.must_be_held().is_ok()
 }
 
 /// Moves an answer that is whole to `done`, and takes the claim away behind it.
-pub(crate) fn hand_over(layout: &Layout, name: &str) -> Result<(), Refusal> {
+pub(crate) fn hand_over(layout: &FolderLayout, name: &str) -> Result<(), Refusal> {
     if let Err(refusal) = layout.rename(name, Place::Answer, Place::Done)
         && !is_gone(layout, name)
     {
@@ -210,7 +210,7 @@ pub(crate) fn hand_over(layout: &Layout, name: &str) -> Result<(), Refusal> {
 }
 
 /// Makes an answer the line of a fault alone, which takes the place of what it had.
-pub(crate) fn write_fault(layout: &Layout, name: &str, told: Told) -> Result<(), Refusal> {
+pub(crate) fn write_fault(layout: &FolderLayout, name: &str, told: Told) -> Result<(), Refusal> {
     let file = layout.open_to_write(Place::Answer, name)?;
     write_line(&file, told)
 }

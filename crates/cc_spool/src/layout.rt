@@ -34,7 +34,7 @@ const LOCK_PAUSE: u64 = 10;
 
 /// A spool's folder.
 #[derive(Drop)]
-pub struct Layout {
+pub struct FolderLayout {
     pub(crate) rt: HostRuntime,
     pub(crate) alloc: Global,
     pub(crate) path: String,
@@ -52,10 +52,10 @@ pub struct Held {
     file: File,
 }
 
-impl Layout {
+impl FolderLayout {
     /// The folder at this path, whether or not it is there. Where others may not write to its `new`, it is a group's.
-    pub fn new(rt: HostRuntime, alloc: Global, path: &str) -> Result<Layout, AllocError> {
-        let mut layout = Layout {
+    pub fn new(rt: HostRuntime, alloc: Global, path: &str) -> Result<FolderLayout, AllocError> {
+        let mut layout = FolderLayout {
             rt,
             alloc,
             path: String::from_str(alloc, path)?,
@@ -68,8 +68,8 @@ impl Layout {
     }
 
     /// The same folder, looked at anew.
-    pub fn again(&self) -> Result<Layout, AllocError> {
-        let mut layout = Layout {
+    pub fn again(&self) -> Result<FolderLayout, AllocError> {
+        let mut layout = FolderLayout {
             rt: self.rt,
             alloc: self.alloc,
             path: String::from_str(self.alloc, self.path.as_str())?,

@@ -8,9 +8,9 @@
 //! `framing` how a source stands in it, `fault` why one of these is refused.
 //!
 //! It knows nothing of libraries; of `cc_disk` it has the history that contracts alone read. It needs no handle but files and the clock.
-//! Hands out `Spool`, `MemorySpool` and `Answered`; `FolderSpool`, `Layout`, `SpoolFault`, and what a server (`take_folder`, `wide_parts`,
-//! `recover`, `clear_old`, `count_entries`) and a client (`submit`) do in a folder; how a source stands in an answer (`frame`, `source_in`,
-//! `fault_lines`); and which names are plain (`specs/`).
+//! Hands out `Spool`, `MemorySpool` and `Answered`; `FolderSpool`, `FolderLayout`, `SpoolFault`, and what a server (`take_folder`,
+//! `wide_parts`, `recover`, `clear_old`, `count_entries`) and a client (`submit`) do in a folder; how a source stands in an answer
+//! (`frame`, `source_in`, `fault_lines`); and which names are plain (`specs/`).
 #![tactic(auto)]
 
 mod answer;
@@ -36,7 +36,7 @@ pub use answer::AnswerFile;
 pub use fault::SpoolFault;
 pub use folder::{FolderSpool, MOST_ENTRIES, count_entries};
 pub use framing::{fault_lines, frame, source_in};
-pub use layout::{Held, Layout};
+pub use layout::{Held, FolderLayout};
 pub use memory::{Answered, MemorySpool};
 pub use names::is_plain;
 pub use recovery::{Recovered, clear_old, recover};

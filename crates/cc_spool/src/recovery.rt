@@ -4,7 +4,7 @@ use crate::calls::{read_at, set_length, settle, write_at};
 use crate::claims::{INTERRUPTED, UNWRITTEN, hand_over};
 use crate::entries::Entry;
 use crate::found::Found;
-use crate::layout::Layout;
+use crate::layout::FolderLayout;
 use crate::lines::Lines;
 use crate::names::{ANSWER, TRIED, is_plain, since_1970};
 use crate::place::Place;
@@ -38,7 +38,7 @@ impl Left {
     }
 
     // Looks through `cur`.
-    fn look(&mut self, layout: &Layout) -> Result<(), Refusal> {
+    fn look(&mut self, layout: &FolderLayout) -> Result<(), Refusal> {
         let mut entries = layout.entries("cur")?;
         for _ in 0..u64::MAX {
             match entries.next() {
@@ -108,7 +108,7 @@ fn complete(file: &File) -> Result<(), Refusal> {
 }
 
 // Takes a script out of `new` that was claimed: on a system that orders no renames a power cut may leave it under both names.
-fn take_out(layout: &Layout, name: &str) -> Result<(), Refusal> {
+fn take_out(layout: &FolderLayout, name: &str) -> Result<(), Refusal> {
     match (
         layout.look(Place::Claimed, name)?,
         layout.look(Place::Waiting, name)?,
@@ -127,7 +127,7 @@ enum LeftAnswer {
     Begun,
 }
 
-fn left_answer(layout: &Layout, name: &str) -> Result<LeftAnswer, Refusal> {
+fn left_answer(layout: &FolderLayout, name: &str) -> Result<LeftAnswer, Refusal> {
     let Some(found) = layout.look(Place::Answer, name)? else {
         return Ok(LeftAnswer::Gone);
     };
@@ -140,7 +140,7 @@ fn left_answer(layout: &Layout, name: &str) -> Result<LeftAnswer, Refusal> {
     }
 }
 
-fn complete_left(layout: &Layout, name: &str) -> Result<(), Refusal> {
+fn complete_left(layout: &FolderLayout, name: &str) -> Result<(), Refusal> {
     take_out(layout, name)?;
     let file = layout.open_to_write(Place::Answer, name)?;
     complete(&file)
@@ -148,7 +148,7 @@ fn complete_left(layout: &Layout, name: &str) -> Result<(), Refusal> {
 
 /// Makes an answer that was left one that can be handed over; whether its script was begun. One that was not is taken away. An `Err` leaves
 /// both for the next start.
-pub(crate) fn complete_answer(layout: &Layout, name: &str) -> Result<bool, Refusal> {
+pub(crate) fn complete_answer(layout: &FolderLayout, name: &str) -> Result<bool, Refusal> {
     match left_answer(layout, name)? {
         LeftAnswer::Gone => Ok(false),
         LeftAnswer::Unclaimed => {
@@ -163,7 +163,7 @@ pub(crate) fn complete_answer(layout: &Layout, name: &str) -> Result<bool, Refus
 }
 
 // Takes away a script without an answer: that was handed over. An `Err` leaves it for the next start.
-fn remove_answered(layout: &Layout, name: &str) -> Result<(), Refusal> {
+fn remove_answered(layout: &FolderLayout, name: &str) -> Result<(), Refusal> {
     if layout.look(Place::Answer, name)?.is_none() {
         take_out(layout, name)?;
         layout.remove(Place::Claimed, name)?;
@@ -182,7 +182,7 @@ pub struct Recovered {
 
 impl Recovered {
     // Answers one script.
-    fn answer(&mut self, layout: &Layout, name: &str) -> Result<(), Refusal> {
+    fn answer(&mut self, layout: &FolderLayout, name: &str) -> Result<(), Refusal> {
         match complete_answer(layout, name) {
             Ok(true) if hand_over(layout, name).is_ok() => {
                 self.begun = self.begun.saturating_add(1);
@@ -194,7 +194,7 @@ impl Recovered {
     }
 
     // Answers what a server had begun, and takes away what was answered.
-    fn recover(&mut self, layout: &Layout, left: &Left) -> Result<(), Refusal> {
+    fn recover(&mut self, layout: &FolderLayout, left: &Left) -> Result<(), Refusal> {
         for name in left.answers.as_slice() {
             self.answer(layout, name.as_str())?;
         }
@@ -210,7 +210,7 @@ impl Recovered {
 ///
 /// What can't be handed over, or not be looked at, stays in `cur`, and keeps no server from its work. An `Err` where `cur` can't be read, or
 /// there is no memory for the names in it.
-pub fn recover(layout: &Layout) -> io::Result<Recovered> {
+pub fn recover(layout: &FolderLayout) -> io::Result<Recovered> {
     let mut left = Left {
         claims: Vec::new(layout.alloc),
         answers: Vec::new(layout.alloc),
@@ -234,7 +234,7 @@ fn may_be_cleared(place: Place, name: &str) -> bool {
 }
 
 // Removes a file where it may be cleared and was last written before a moment, in seconds since 1970; how many files that were.
-fn clear(layout: &Layout, place: Place, name: &str, moment: i64) -> u64 {
+fn clear(layout: &FolderLayout, place: Place, name: &str, moment: i64) -> u64 {
     if !may_be_cleared(place, name) {
         return 0;
     }
@@ -247,7 +247,7 @@ fn clear(layout: &Layout, place: Place, name: &str, moment: i64) -> u64 {
 }
 
 // Clears a part of what was last written before a moment; how many files that were. What can't be looked at stays.
-fn clear_part(layout: &Layout, place: Place, moment: i64) -> Result<u64, Refusal> {
+fn clear_part(layout: &FolderLayout, place: Place, moment: i64) -> Result<u64, Refusal> {
     let mut entries = layout.entries(place.part())?;
     let mut cleared = 0u64;
     for _ in 0..u64::MAX {
@@ -263,7 +263,7 @@ fn clear_part(layout: &Layout, place: Place, moment: i64) -> Result<u64, Refusal
 }
 
 // Clears all parts of what was last written so many days ago.
-fn clear_parts(layout: &Layout, days: u32) -> Result<u64, Refusal> {
+fn clear_parts(layout: &FolderLayout, days: u32) -> Result<u64, Refusal> {
     layout.must_be_held()?;
     let now = i64::try_from(since_1970(&layout.rt)?.as_secs()).unwrap_or(0);
     let moment = now.saturating_sub(i64::from(days) * DAY);
@@ -277,6 +277,6 @@ fn clear_parts(layout: &Layout, days: u32) -> Result<u64, Refusal> {
 /// Removes from `done` and `tmp` scripts and answers that were last written more than so many days ago, and from all parts what the start of
 /// a server that was killed left there; how many files that were. What can't be removed stays; so does what is no regular file, or has a name
 /// that no script has. An `Err` where the folder is no longer the one that is held: nothing was removed then.
-pub fn clear_old(layout: &Layout, days: u32) -> io::Result<u64> {
+pub fn clear_old(layout: &FolderLayout, days: u32) -> io::Result<u64> {
     Ok(clear_parts(layout, days)?)
 }

@@ -6,7 +6,7 @@
 ghost use Rattle.std.specs.Prelude.{◌≡◌, IfSome};
 
 use crate::found::Found;
-use crate::layout::{Held, Layout};
+use crate::layout::{Held, FolderLayout};
 use crate::names::{TRIED, fresh_name};
 use crate::place::Place;
 use crate::refusal::Refusal;
@@ -26,7 +26,7 @@ pub struct WidePart {
 
 // Makes a part with these rights, whatever the process takes from them, where nothing is at its path. It gets its name when it has its rights.
 // An `Err` where what has its name until then is no empty directory: who put it there would share the part.
-fn make_part(layout: &Layout, part: &str, making: &str, rights: u32) -> Result<(), Refusal> {
+fn make_part(layout: &FolderLayout, part: &str, making: &str, rights: u32) -> Result<(), Refusal> {
     if layout.has(part)? {
         return Ok(());
     }
@@ -40,7 +40,7 @@ fn make_part(layout: &Layout, part: &str, making: &str, rights: u32) -> Result<(
 }
 
 // Makes the parts that are not there.
-fn make_parts(layout: &Layout) -> Result<(), Refusal> {
+fn make_parts(layout: &FolderLayout) -> Result<(), Refusal> {
     let is_group = match layout.look_at(".")? {
         Some(found) => found.rights() & 0o2000 != 0,
         None => false,
@@ -59,7 +59,7 @@ fn make_parts(layout: &Layout) -> Result<(), Refusal> {
 
 // An `Err` where the folder has a part but no `lock`, which is made first: then it is no spool, and what is in it no server's. The parts are
 // looked at before, since another server may be making them.
-fn must_be_spool(layout: &Layout) -> Result<(), Refusal> {
+fn must_be_spool(layout: &FolderLayout) -> Result<(), Refusal> {
     let mut has_parts = false;
     for part in ["cur", "tmp", "new", "done"] {
         has_parts |= layout.has(part)?;
@@ -71,7 +71,7 @@ fn must_be_spool(layout: &Layout) -> Result<(), Refusal> {
 }
 
 // Makes the folder where it is not there.
-fn make_folder(layout: &Layout) -> Result<(), Refusal> {
+fn make_folder(layout: &FolderLayout) -> Result<(), Refusal> {
     if !layout.has(".")? {
         layout.make_folder()?;
         layout.set_rights(".", 0o755)?;
@@ -79,7 +79,7 @@ fn make_folder(layout: &Layout) -> Result<(), Refusal> {
     Ok(())
 }
 
-fn take(layout: &mut Layout, process: u32) -> Result<Option<Held>, Refusal> {
+fn take(layout: &mut FolderLayout, process: u32) -> Result<Option<Held>, Refusal> {
     make_folder(layout)?;
     must_be_spool(layout)?;
     let Some(held) = layout.lock()? else {
@@ -102,11 +102,11 @@ fn take(layout: &mut Layout, process: u32) -> Result<Option<Held>, Refusal> {
 /// What is not there of it is made: the folder with 0755; `cur` with 0700, `new` and `tmp` with 3777, `done` with 0755; where the folder has
 /// the set-group-id bit `cur` with 2700 and the others with 2770. What is there keeps its rights. Then it tries what a server does in it.
 /// An `Err` where one of these is refused, which leaves what was made; or where a part is there and `lock` is not.
-pub fn take_folder(layout: &mut Layout, process: u32) -> io::Result<Option<Held>> {
+pub fn take_folder(layout: &mut FolderLayout, process: u32) -> io::Result<Option<Held>> {
     Ok(take(layout, process)?)
 }
 
-fn settle_folder(layout: &mut Layout, held: &Held, process: u32) -> Result<(), Refusal> {
+fn settle_folder(layout: &mut FolderLayout, held: &Held, process: u32) -> Result<(), Refusal> {
     layout.hold(held)?;
     layout.take_stop_back()?;
     make_parts(layout)?;
@@ -115,7 +115,7 @@ fn settle_folder(layout: &mut Layout, held: &Held, process: u32) -> Result<(), R
 }
 
 // Tries what server and clients do: makes a file in `cur`, links it into `new`, moves it back, moves it to `done`, removes it, and syncs `cur`.
-fn try_folder(layout: &Layout, process: u32) -> Result<(), Refusal> {
+fn try_folder(layout: &FolderLayout, process: u32) -> Result<(), Refusal> {
     let own = fresh_name(&layout.rt, layout.alloc, process)?;
     // No script has a name with a dot.
     let name = format!(in layout.alloc; "{TRIED}{own}")?;
@@ -129,7 +129,7 @@ fn try_folder(layout: &Layout, process: u32) -> Result<(), Refusal> {
     layout.sync_claims()
 }
 
-fn try_moves(layout: &Layout, name: &str) -> Result<(), Refusal> {
+fn try_moves(layout: &FolderLayout, name: &str) -> Result<(), Refusal> {
     let file = layout.make(Place::Claimed, name)?;
     let made = Found::of_file(&file);
     drop(file);
@@ -150,7 +150,7 @@ fn is_right(found: &Found, made: &Found, is_servers: bool, is_shared: bool) -> b
 
 // Whether the server's files are what clients expect: those of the owner of the folder and of `cur`, and of the group where the folder is
 // one's; and whether it may take others' scripts out of a sticky part.
-fn try_owners(layout: &Layout, made: &Found) -> Result<(), Refusal> {
+fn try_owners(layout: &FolderLayout, made: &Found) -> Result<(), Refusal> {
     let is_group = layout.is_group();
     for (part, is_servers, is_shared) in [
         (".", true, false),
@@ -185,7 +185,7 @@ fn wide_part(part: &'static str, mode: u32, most: u32) -> Option<WidePart>
 
 // Notes a part where its rights are wider than these.
 fn note_wide(
-    layout: &Layout,
+    layout: &FolderLayout,
     part: &'static str,
     most: u32,
     wide: &mut Vec<WidePart>,
@@ -202,7 +202,7 @@ fn note_wide(
 }
 
 /// The parts whose rights are wider than they should be: others could take the place of the server, or take scripts and answers away.
-pub fn wide_parts(layout: &Layout) -> io::Result<Vec<WidePart>> {
+pub fn wide_parts(layout: &FolderLayout) -> io::Result<Vec<WidePart>> {
     let mut wide = Vec::new(layout.alloc);
     for (part, most) in [
         (".", 0o755),

@@ -9,7 +9,7 @@ ghost use Rattle.std.specs.Prelude.{◌≤◌, IfOk, length};
 use crate::calls::settle;
 use crate::entries::Entry;
 use crate::found::Found;
-use crate::layout::Layout;
+use crate::layout::FolderLayout;
 use crate::lines::Lines;
 use crate::names::{fresh_name, is_plain};
 use crate::place::Place;
@@ -130,7 +130,7 @@ fn write_script<S: Read>(
 
 // Puts a script where a server finds it; as which file, where it was read to its end. Where it is not put there, nothing is left of it.
 fn put<S: Read>(
-    layout: &Layout,
+    layout: &FolderLayout,
     name: &str,
     begin: &[u8],
     script: &mut S,
@@ -150,7 +150,7 @@ fn put<S: Read>(
 }
 
 // The answer to a script, where it is there: a regular file of the user who has `cur`, so that nobody else answers in the server's place.
-fn answer_of(layout: &Layout, name: &str) -> Result<Option<File>, Refusal> {
+fn answer_of(layout: &FolderLayout, name: &str) -> Result<Option<File>, Refusal> {
     let Some(found) = layout.look(Place::Done, name)? else {
         return Ok(None);
     };
@@ -165,7 +165,7 @@ fn answer_of(layout: &Layout, name: &str) -> Result<Option<File>, Refusal> {
 }
 
 // Takes a script back; whether it was not claimed before.
-fn take_back(layout: &Layout, name: &str) -> Result<bool, Refusal> {
+fn take_back(layout: &FolderLayout, name: &str) -> Result<bool, Refusal> {
     match layout.remove(Place::Waiting, name) {
         Ok(()) => Ok(true),
         Err(refusal) if refusal.is_absent() => Ok(false),
@@ -174,7 +174,7 @@ fn take_back(layout: &Layout, name: &str) -> Result<bool, Refusal> {
 }
 
 // How many scripts wait before the one of this name.
-fn count_before(layout: &Layout, name: &str) -> Result<u64, Refusal> {
+fn count_before(layout: &FolderLayout, name: &str) -> Result<u64, Refusal> {
     let mut count = 0u64;
     let mut entries = layout.entries(Place::Waiting.part())?;
     for _ in 0..u64::MAX {
@@ -216,7 +216,7 @@ struct Waiting {
 
 impl Waiting {
     // Whether the script stands in `new`.
-    fn is_there(&self, layout: &Layout) -> Result<bool, Refusal> {
+    fn is_there(&self, layout: &FolderLayout) -> Result<bool, Refusal> {
         match layout.look(Place::Waiting, self.name.as_str())? {
             Some(found) => Ok(found.is_alike(&self.made)),
             None => Ok(false),
@@ -224,7 +224,7 @@ impl Waiting {
     }
 
     // Looks at the script, so many milliseconds behind the last look, and takes it back where it waited for too long.
-    fn look(&mut self, layout: &Layout, since: u64) -> Result<Seen, Refusal> {
+    fn look(&mut self, layout: &FolderLayout, since: u64) -> Result<Seen, Refusal> {
         if let Some(file) = answer_of(layout, self.name.as_str())? {
             return Ok(Seen::Answer(file));
         }
@@ -239,7 +239,7 @@ impl Waiting {
     }
 
     // Counts the milliseconds behind the last look, where they count.
-    fn count(&mut self, layout: &Layout, since: u64) {
+    fn count(&mut self, layout: &FolderLayout, since: u64) {
         self.unclaimed = match self.most {
             Some(_) => self.unclaimed.saturating_add(since),
             // A lock that can't be tried tells nothing.
@@ -249,7 +249,7 @@ impl Waiting {
     }
 
     // Takes the script back where it waited for too long.
-    fn look_waiting(&self, layout: &Layout) -> Result<Seen, Refusal> {
+    fn look_waiting(&self, layout: &FolderLayout) -> Result<Seen, Refusal> {
         if self.unclaimed < self.most.unwrap_or(NO_SERVER) {
             Ok(Seen::Waiting)
         } else if take_back(layout, self.name.as_str())? {
@@ -260,7 +260,7 @@ impl Waiting {
     }
 
     // Tells a person that the script waits. What can't be told is no reason to end.
-    fn tell<E: Write>(&self, layout: &Layout, is_claimed: bool, explanations: &mut E) {
+    fn tell<E: Write>(&self, layout: &FolderLayout, is_claimed: bool, explanations: &mut E) {
         let _ = if is_claimed {
             writeln!(explanations, "cclib: the script is being done")
         } else {
@@ -277,7 +277,7 @@ impl Waiting {
     }
 
     // Writes an answer on, and takes it away.
-    fn take_answer<W: Write>(self, layout: &Layout, mut file: File, writer: &mut W) -> Submission {
+    fn take_answer<W: Write>(self, layout: &FolderLayout, mut file: File, writer: &mut W) -> Submission {
         let copied = copy(&mut file, writer, u64::MAX);
         drop(file);
         match copied {
@@ -357,7 +357,7 @@ impl Patience {
 
 // Waits until a script has its answer, or was taken back: then there is none. What fails is tried again for three seconds.
 fn wait_for_answer<E: Write>(
-    layout: &Layout,
+    layout: &FolderLayout,
     waiting: &mut Waiting,
     explanations: &mut E,
 ) -> Result<Option<File>, Refusal> {
@@ -386,7 +386,7 @@ fn wait_for_answer<E: Write>(
 
 // Waits for the answer of a script that was left in a folder, and writes it on.
 fn wait<W: Write, E: Write>(
-    layout: &Layout,
+    layout: &FolderLayout,
     mut waiting: Waiting,
     writer: &mut W,
     explanations: &mut E,
@@ -400,7 +400,7 @@ fn wait<W: Write, E: Write>(
 
 // Leaves a script in the folder; none where it can't be read to its end.
 fn leave<S: Read>(
-    layout: &Layout,
+    layout: &FolderLayout,
     process: u32,
     begin: &[u8],
     script: &mut S,
@@ -431,7 +431,7 @@ fn leave<S: Read>(
 ///
 /// An `Err` where the script could not be left in the folder (56): nothing of it is done.
 pub fn submit<S: Read, W: Write, E: Write>(
-    layout: &Layout,
+    layout: &FolderLayout,
     process: u32,
     begin: &[u8],
     script: &mut S,

@@ -5,31 +5,31 @@
 //! leads to the label where it holds, `branch lt_s x7, x8 -> 3`, or where it does not, `branch not lt_s x7, 12 -> 3`. Words are
 //! unsigned.
 
-use cc_linear_language::Item;
-use cc_select::{Immediate, SelectedPair, Step};
+use cc_linear_language::LinearItem;
+use cc_select::{WordOperator, SelectedPair, Step};
 use std::io::{self, Write};
 
 // The name of an operator on a register and a word, as that of the same operator on two registers.
-fn immediate_name(operator: Immediate) -> &'static str {
+fn immediate_name(operator: WordOperator) -> &'static str {
     match operator {
-        Immediate::Add => "add",
-        Immediate::Sub => "sub",
-        Immediate::Shl => "shl",
-        Immediate::ShrS => "shr_s",
-        Immediate::ShrU => "shr_u",
-        Immediate::And => "and",
-        Immediate::Or => "or",
-        Immediate::Xor => "xor",
-        Immediate::Eq => "eq",
-        Immediate::Ne => "ne",
-        Immediate::LtS => "lt_s",
-        Immediate::LtU => "lt_u",
-        Immediate::LeS => "le_s",
-        Immediate::LeU => "le_u",
-        Immediate::GtS => "gt_s",
-        Immediate::GtU => "gt_u",
-        Immediate::GeS => "ge_s",
-        Immediate::GeU => "ge_u",
+        WordOperator::Add => "add",
+        WordOperator::Sub => "sub",
+        WordOperator::Shl => "shl",
+        WordOperator::ShrS => "shr_s",
+        WordOperator::ShrU => "shr_u",
+        WordOperator::And => "and",
+        WordOperator::Or => "or",
+        WordOperator::Xor => "xor",
+        WordOperator::Eq => "eq",
+        WordOperator::Ne => "ne",
+        WordOperator::LtS => "lt_s",
+        WordOperator::LtU => "lt_u",
+        WordOperator::LeS => "le_s",
+        WordOperator::LeU => "le_u",
+        WordOperator::GtS => "gt_s",
+        WordOperator::GtU => "gt_u",
+        WordOperator::GeS => "ge_s",
+        WordOperator::GeU => "ge_u",
     }
 }
 
@@ -104,7 +104,7 @@ fn write_branch<W: Write>(step: &Step, writer: &mut W) -> io::Result<()> {
 // What stands before a step on its line: all but labels are set in.
 fn indent(step: &Step) -> &'static str {
     match step {
-        Step::One(Item::Label { .. }) => "",
+        Step::One(LinearItem::Label { .. }) => "",
         _ => "  ",
     }
 }

@@ -7,10 +7,10 @@ ghost use Rattle.cc_script.specs.declared.command.Dialect.TheVariants.{Served};
 ghost use Rattle.cc_submit.specs.internal.Sent.{asks_source, has_source, is_whole};
 
 use cc_answers::{Persons, Telling, explain_bad_line, explain_no_command, explain_words, words_of};
-use cc_command_line::Client;
+use cc_command_line::Submitter;
 use cc_tasks::perform_and_explain;
-use cc_script::{Command, Dialect, ScriptFault, command_of};
-use cc_spool::{Layout, SpoolFault, Submission, fault_lines, source_in, submit};
+use cc_script::{ScriptCommand, Dialect, ScriptFault, command_of};
+use cc_spool::{FolderLayout, SpoolFault, Submission, fault_lines, source_in, submit};
 use cc_task::Task;
 use std::alloc::{AllocError, Global};
 use std::io::{self, BufWriter, Input, Print, Read, Write};
@@ -41,7 +41,7 @@ fn takes_source(alloc: Global, line: &str) -> Result<bool, AllocError>
     with_length.extend_from_slice(line.as_bytes())?;
     with_length.extend_from_slice(b" 0")?;
     Ok(match command_of(Dialect::Served, with_length.as_slice()) {
-        Some(Command::Add { name: _, length: _ }) | Some(Command::Replace { name: _, length: _ }) =>
+        Some(ScriptCommand::Add { name: _, length: _ }) | Some(ScriptCommand::Replace { name: _, length: _ }) =>
             true,
         _ => false,
     })
@@ -52,8 +52,8 @@ fn is_whole(line: &str) -> bool
     ensures { result ≡ is_whole (asked_of Served line.now) }
 {
     match command_of(Dialect::Served, line.as_bytes()) {
-        Some(Command::Add { name: _, length: _ })
-        | Some(Command::Replace { name: _, length: _ })
+        Some(ScriptCommand::Add { name: _, length: _ })
+        | Some(ScriptCommand::Replace { name: _, length: _ })
         | None => false,
         Some(_) => true,
     }
@@ -65,7 +65,7 @@ fn asks_source(line: &str) -> bool
 {
     matches!(
         command_of(Dialect::Served, line.as_bytes()),
-        Some(Command::Source { name: _ })
+        Some(ScriptCommand::Source { name: _ })
     )
 }
 
@@ -120,7 +120,7 @@ fn sent_of<R: Input>(rt: &R, alloc: Global, line: Option<&String>) -> io::Result
 // Leaves what is sent in the folder, and writes the answer.
 fn send<R: Input, W: Write, E: Write>(
     rt: &R,
-    layout: &Layout,
+    layout: &FolderLayout,
     process: u32,
     wait: Option<u32>,
     sent: &Sent,
@@ -210,7 +210,7 @@ fn folder_fault<W: Write, E: Write>(
 }
 
 // Tells that a script was taken back; the status.
-fn not_taken<W: Write, E: Write>(asked: &Client, writer: &mut W, told: &mut E) -> u8
+fn not_taken<W: Write, E: Write>(asked: &Submitter, writer: &mut W, told: &mut E) -> u8
     ensures { result ≡ 1 }
 {
     let status = fault(SpoolFault::NotTaken, writer);
@@ -233,7 +233,7 @@ fn not_taken<W: Write, E: Write>(asked: &Client, writer: &mut W, told: &mut E) -
 fn finish<R: AllocGlobal, W: Write, E: Write>(
     rt: &R,
     done: io::Result<Submission>,
-    asked: &Client,
+    asked: &Submitter,
     sent: &Sent,
     writer: &mut W,
     told: &mut E,
@@ -300,7 +300,7 @@ fn finish_source<R: AllocGlobal, W: Write, E: Write>(
     rt: &R,
     done: io::Result<Submission>,
     answer: &[u8],
-    asked: &Client,
+    asked: &Submitter,
     sent: &Sent,
     writer: &mut W,
     told: &mut E,
@@ -333,9 +333,9 @@ fn finish_source<R: AllocGlobal, W: Write, E: Write>(
 // Leaves what is sent in the folder, writes the answer, and tells a person of it; the status.
 fn leave<R: AllocGlobal + Input, W: Write, E: Write + Drop>(
     rt: &R,
-    layout: &Layout,
+    layout: &FolderLayout,
     process: u32,
-    asked: &Client,
+    asked: &Submitter,
     sent: &Sent,
     persons: Persons,
     writer: &mut W,
@@ -360,7 +360,7 @@ pub fn submit_script<R: AllocGlobal + Input + Print, E: Write + Drop>(
     rt: &R,
     files: &HostRuntime,
     process: u32,
-    asked: &Client,
+    asked: &Submitter,
     persons: Persons,
     errors: E,
 ) -> Result<u8, AllocError> {
@@ -375,7 +375,7 @@ pub fn submit_script<R: AllocGlobal + Input + Print, E: Write + Drop>(
         errors,
         is_quiet: persons.is_quiet,
     };
-    let layout = Layout::new(*files, alloc, asked.folder.as_str())?;
+    let layout = FolderLayout::new(*files, alloc, asked.folder.as_str())?;
     let sent = match sent_of(rt, alloc, asked.line.as_ref()) {
         Ok(Some(sent)) => sent,
         Ok(None) => {

@@ -12,7 +12,7 @@ pub use cc_ast::{
     Target, UnaryOperator, Unit,
 };
 pub use cc_tokens::{
-    Keyword, LexicalError, MOST_BYTES, Next, Place, Punctuator, Scalar, SyntaxFault, Token,
+    Keyword, LexicalError, MOST_BYTES, NextToken, Place, Punctuator, Scalar, SyntaxFault, Token,
     TokenKind, next_token, place_at, tokens, tokens_are_determined,
 };
 pub use parser::{DEEPEST_LEVEL, MOST_TOKENS, parse, parse_is_determined, trees_are_determined};

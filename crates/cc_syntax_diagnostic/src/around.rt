@@ -3,7 +3,7 @@
 // The tokens before it are the beginning of a text, so their brackets are nested as they should be.
 
 use super::diagnostic::Related;
-use super::parts::Part;
+use super::parts::MessagePart;
 use cc_tokens::{Token, TokenKind};
 
 /// A text, its tokens up to one and from it on, and the offset of that one.
@@ -121,10 +121,10 @@ impl<'a> Around<'a> {
     }
 
     /// The token, in quotes.
-    pub fn found(&self) -> Part<'a> {
+    pub fn found(&self) -> MessagePart<'a> {
         match self.next(0) {
-            Some(_) => Part::Token(self.bytes(self.next(0))),
-            None => Part::Words("end of the text"),
+            Some(_) => MessagePart::Token(self.bytes(self.next(0))),
+            None => MessagePart::Words("end of the text"),
         }
     }
 

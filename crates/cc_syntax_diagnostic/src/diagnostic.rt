@@ -1,7 +1,7 @@
 // What is told of a text, and how it is written.
 
 use super::excerpt::write_excerpt;
-use super::parts::{Part, message};
+use super::parts::{MessagePart, message};
 use cc_tokens::{Place, place_at};
 use std::alloc::{AllocError, Global};
 use std::io::{self, Write};
@@ -65,8 +65,8 @@ pub fn of_name<'a>(
     words: &'a str,
 ) -> Result<Diagnostic, AllocError> {
     let rest = text.get(at..).unwrap_or(b"");
-    let name = Part::Token(rest.get(..length).unwrap_or(rest));
-    let message = message(alloc, &[name, Part::Words(" "), Part::Words(words)])?;
+    let name = MessagePart::Token(rest.get(..length).unwrap_or(rest));
+    let message = message(alloc, &[name, MessagePart::Words(" "), MessagePart::Words(words)])?;
     Ok(Diagnostic {
         at: Some(at),
         message,

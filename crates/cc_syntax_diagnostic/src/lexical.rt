@@ -1,7 +1,7 @@
 // What is told of a byte, a comment or a number that is no token.
 
 use super::left_out::{BYTES, CHARACTERS, FLOATING, said_of_prefix};
-use super::parts::{Part, message, words};
+use super::parts::{MessagePart, message, words};
 use std::alloc::{AllocError, Global};
 
 // Whether a backslash stands here directly before the end of a line.
@@ -54,12 +54,12 @@ fn said(rest: &[u8]) -> &'static str {
 }
 
 // What begins no token, as it is shown.
-fn shown(rest: &[u8]) -> Part<'_> {
+fn shown(rest: &[u8]) -> MessagePart<'_> {
     match character(rest) {
-        Some(c) => Part::Character(c),
+        Some(c) => MessagePart::Character(c),
         None => match rest.first() {
-            Some(byte) if !byte.is_ascii_graphic() => Part::Byte(*byte),
-            _ => Part::Token(rest.get(..1).unwrap_or(rest)),
+            Some(byte) if !byte.is_ascii_graphic() => MessagePart::Byte(*byte),
+            _ => MessagePart::Token(rest.get(..1).unwrap_or(rest)),
         },
     }
 }
@@ -75,10 +75,10 @@ pub fn bad_byte(alloc: Global, text: &[u8], at: usize) -> Result<String, AllocEr
     }
     let said = said(rest);
     let colon = if said.is_empty() { "" } else { ": " };
-    let what = Part::Words(" begins no token");
+    let what = MessagePart::Words(" begins no token");
     message(
         alloc,
-        &[shown(rest), what, Part::Words(colon), Part::Words(said)],
+        &[shown(rest), what, MessagePart::Words(colon), MessagePart::Words(said)],
     )
 }
 
@@ -139,10 +139,10 @@ fn reason(number: &[u8]) -> &'static str {
 /// What is told of a number that is no constant.
 pub fn bad_constant(alloc: Global, text: &[u8], at: usize) -> Result<String, AllocError> {
     let number = number(text.get(at..).unwrap_or(b""));
-    let what = Part::Words(" is no decimal, octal or hexadecimal constant: ");
+    let what = MessagePart::Words(" is no decimal, octal or hexadecimal constant: ");
     message(
         alloc,
-        &[Part::Token(number), what, Part::Words(reason(number))],
+        &[MessagePart::Token(number), what, MessagePart::Words(reason(number))],
     )
 }
 
@@ -159,5 +159,5 @@ pub fn constant_too_large(alloc: Global, text: &[u8], at: usize) -> Result<Strin
     } else {
         " is larger than 2147483647, the largest int"
     };
-    message(alloc, &[Part::Token(number), Part::Words(limit)])
+    message(alloc, &[MessagePart::Token(number), MessagePart::Words(limit)])
 }

@@ -27,5 +27,5 @@ pub use diagnostic::{Diagnostic, Related, of_name};
 pub use left_out::said_of_foreign;
 pub use near::{near_keyword, near_name};
 pub use offset::offset_in;
-pub use parts::{Part, message, words};
+pub use parts::{MessagePart, message, words};
 pub use syntax::of_syntax;

@@ -7,7 +7,7 @@ use std::fmt;
 
 /// A part of a message.
 #[derive(Clone, Copy)]
-pub enum Part<'a> {
+pub enum MessagePart<'a> {
     Words(&'a str),
     /// A token, in quotes.
     Token(&'a [u8]),
@@ -23,30 +23,30 @@ pub enum Part<'a> {
     Place(Place),
 }
 
-impl fmt::Display for Part<'_> {
+impl fmt::Display for MessagePart<'_> {
     fn fmt<W: fmt::Write>(&self, f: &mut fmt::Formatter<W>) -> fmt::Result {
         match self {
-            Part::Words(words) => f.write_str(words),
-            Part::Token(bytes) => Quoted(bytes).fmt(f),
-            Part::Name(bytes) => {
+            MessagePart::Words(words) => f.write_str(words),
+            MessagePart::Token(bytes) => Quoted(bytes).fmt(f),
+            MessagePart::Name(bytes) => {
                 let look = Look::Plain;
                 Shown { bytes, look }.fmt(f)
             }
-            Part::Count(count) => write!(f, "{count}"),
-            Part::Byte(byte) => write!(f, "byte 0x{byte:02x}"),
-            Part::Character(c) => {
+            MessagePart::Count(count) => write!(f, "{count}"),
+            MessagePart::Byte(byte) => write!(f, "byte 0x{byte:02x}"),
+            MessagePart::Character(c) => {
                 let code = u32::from(*c);
                 write!(f, "U+{code:04X}")
             }
-            Part::Word(Scalar::Int, word) => write!(f, "{}", word.cast_signed()),
-            Part::Word(Scalar::Unsigned, word) => write!(f, "{word}"),
-            Part::Place(Place { line, column }) => write!(f, "{line}:{column}"),
+            MessagePart::Word(Scalar::Int, word) => write!(f, "{}", word.cast_signed()),
+            MessagePart::Word(Scalar::Unsigned, word) => write!(f, "{word}"),
+            MessagePart::Place(Place { line, column }) => write!(f, "{line}:{column}"),
         }
     }
 }
 
 /// The message of these parts.
-pub fn message(alloc: Global, parts: &[Part<'_>]) -> Result<String, AllocError> {
+pub fn message(alloc: Global, parts: &[MessagePart<'_>]) -> Result<String, AllocError> {
     let mut text = String::new(alloc);
     for part in parts {
         write!(text, "{part}")?;

@@ -12,7 +12,7 @@ use super::expected::{Prefix, Reply};
 use super::left_out::INNER_FUNCTIONS;
 use super::lexical::{bad_byte, bad_constant, constant_too_large};
 use super::offset::{moved, offset_in};
-use super::parts::{Part, message, words};
+use super::parts::{MessagePart, message, words};
 use super::reason::{Reason, find_reason};
 use cc_syntax::{DEEPEST_LEVEL, MOST_TOKENS};
 use cc_tokens::{Keyword, MOST_BYTES, Punctuator, SyntaxFault, Token, TokenKind, tokens};
@@ -83,7 +83,7 @@ fn with_list(before: String, list: &[&str]) -> Result<String, AllocError> {
 
 // A token, and what could stand in its place.
 fn instead(alloc: Global, around: &Around<'_>, list: &[&str]) -> Result<Told, AllocError> {
-    let before = message(alloc, &[Part::Words("unexpected "), around.found()])?;
+    let before = message(alloc, &[MessagePart::Words("unexpected "), around.found()])?;
     Ok(Told {
         at: around.place(),
         message: with_list(before, list)?,
@@ -97,7 +97,7 @@ fn missing(alloc: Global, around: &Around<'_>, list: &[&str]) -> Result<Told, Al
     add_list(&mut message, list)?;
     let found = match around.next(0) {
         Some(_) => around.found(),
-        None => Part::Words("the end of the text"),
+        None => MessagePart::Words("the end of the text"),
     };
     write!(message, " before {found}")?;
     Ok(Told {
@@ -157,7 +157,7 @@ fn for_reason(
 ) -> Result<Told, AllocError> {
     let before = message(
         alloc,
-        &[Part::Words("unexpected "), Part::Token(reason.found)],
+        &[MessagePart::Words("unexpected "), MessagePart::Token(reason.found)],
     )?;
     let count = if reason.is_keyword && is_name(list) {
         list.len()

@@ -14,7 +14,7 @@ use Rattle.cc_tokens.specs.declared.token.TokenKind.{TokenKind}
 use Rattle.cc_tokens.specs.declared.token.TokenKind.TheVariants as kind
 use Rattle.cc_tokens.specs.Spelling.{keyword_bytes, punctuator_bytes}
 use Rattle.cc_tokens.specs.Constant.{Constant, SpellsConstant, digits_value, constant_type}
-use Rattle.cc_tokens.specs.Tokens.{is_blank, is_nondigit, CanBeToken, word, number, punctuator, IsIdentifierText, IsNumber, SpellsToken, IsLongest, begins_comment, IsComment, block, line, Piece, blank, comment, token, piece_bytes, StandsBefore, IsStray, IsSpliced, IsUnclosed, IsBadConstant, IsTooLarge, IsLexicalError}
+use Rattle.cc_tokens.specs.Tokens.{is_blank, is_nondigit, CanBeToken, word, number, punctuator, IsIdentifierText, IsNumber, SpellsToken, IsLongest, begins_comment, IsComment, block, line, TextPiece, blank, comment, token, piece_bytes, StandsBefore, IsStray, IsSpliced, IsUnclosed, IsBadConstant, IsTooLarge, IsLexicalError}
 use Rattle.cc_tokens.specs.internal.Scan.{head_of, comment_of, number_head, punctuator_head, punctuator_at, keyword_named, word_kind, constant_kind, constant_spelled, typed}
 use Rattle.cc_tokens.proofs.Tables.{keyword_named-bytes, keyword_is_word}
 use Rattle.cc_tokens.proofs.ConstantForms.{constant_sound, constant_complete, constant_begins}
@@ -24,7 +24,7 @@ use Rattle.cc_tokens.proofs.Comments.{comment_is_found, unclosed_is_found, plain
 use Rattle.cc_tokens.proofs.Heads.{head_blank, head_comment, head_word, head_number, head_mark}
 
 -- the answer for a piece
-abbrev pub answer_of : Piece → Head
+abbrev pub answer_of : TextPiece → Head
 answer_of (blank b) = head.Blank
 answer_of (comment c) = head.Comment (length c)
 answer_of (token k text) = head.Token k (length text)
@@ -104,7 +104,7 @@ token_complete (kind.Number type n) text after stands =
     constant_complete_at c text after stands.1 stands.2.1 ∙ ap (λ t. number_head (length text) (typed t (digits_value c))) stands.2.2 ∙ ap (λ v. head.Token (kind.Number type v) (length text)) (sym stands.2.3)
 token_complete (kind.Punctuator p) text after stands = mark_complete text after p stands.1 stands.0 stands.2
 
-pub piece_complete : (p : Piece) (after : List ℕ) → StandsBefore p after → head_of (piece_bytes p ++ after) ≡ answer_of p
+pub piece_complete : (p : TextPiece) (after : List ℕ) → StandsBefore p after → head_of (piece_bytes p ++ after) ≡ answer_of p
 piece_complete (blank b) after stands = head_blank b after stands
 piece_complete (comment c) after stands = comment_complete c after stands.0 ∙ plain_is_found c after stands.1
 piece_complete (token k text) after stands = token_complete k text after stands

@@ -10,7 +10,7 @@ use Rattle.cc_tokens.specs.declared.token.Token.{Token}
 use Rattle.cc_tokens.specs.declared.token.TokenKind.{TokenKind}
 use Rattle.cc_tokens.specs.Place.{place_of}
 use Rattle.cc_tokens.specs.Token.{lexeme, lexemes}
-use Rattle.cc_tokens.specs.Tokens.{Piece, blank, comment, token, piece_bytes, IsCut, tokens_of, IsTokens, FirstLexicalError, IsLexicalError, AreInOrder, IsTokenRefusal, lexical_fault}
+use Rattle.cc_tokens.specs.Tokens.{TextPiece, blank, comment, token, piece_bytes, IsCut, tokens_of, IsTokens, FirstLexicalError, IsLexicalError, AreInOrder, IsTokenRefusal, lexical_fault}
 use Rattle.cc_tokens.specs.Reading.{FoundBefore}
 use Rattle.cc_tokens.specs.internal.Scan.{head_of}
 use Rattle.cc_tokens.proofs.Heads.{StandsAt, IsHead, head_sound}
@@ -30,7 +30,7 @@ order_more low (u ∷ ts) at t ordered le some = (ordered.0, ordered.1, order_mo
 
 module _ (text : List ℕ) (ts : List Token) (at n : ℕ) (found : FoundBefore text ts at) where
   -- a piece more
-  found_piece : (p : Piece) (ts' : List Token) → StandsAt (drop at text) n p → lexemes text ts' ≡ lexemes text ts ++ tokens_of at (p ∷ []) → AreInOrder 0 ts' (at + n) → FoundBefore text ts' (at + n)
+  found_piece : (p : TextPiece) (ts' : List Token) → StandsAt (drop at text) n p → lexemes text ts' ≡ lexemes text ts ++ tokens_of at (p ∷ []) → AreInOrder 0 ts' (at + n) → FoundBefore text ts' (at + n)
   found_piece p ts' stands tokens ordered =
       let size = stands.size in
       let whole = stands.whole in
@@ -96,5 +96,5 @@ error_refused text BadConstant at fits first = record { fits = fits; error = Bad
 error_refused text ConstantTooLarge at fits first = record { fits = fits; error = ConstantTooLarge; at = at; first = first; is = refl }
 
 -- a piece is within the bytes
-pub stands_within : (text : List ℕ) (at n : ℕ) (p : Piece) → at < length text → StandsAt (drop at text) n p → at + n ≤ length text
+pub stands_within : (text : List ℕ) (at n : ℕ) (p : TextPiece) → at < length text → StandsAt (drop at text) n p → at + n ≤ length text
 stands_within text at n p below stands = omega (arith, ap length stands.whole, length-append (piece_bytes p) stands.after, length-drop at text, stands.size)

@@ -12,7 +12,7 @@ use Rattle.cc_tokens.specs.declared.scan.Head.TheVariants as head
 use Rattle.cc_tokens.specs.declared.token.Punctuator.{Punctuator}
 use Rattle.cc_tokens.specs.Spelling.{punctuator_bytes}
 use Rattle.cc_tokens.specs.Constant.{Constant, SpellsConstant, digits_value, constant_type}
-use Rattle.cc_tokens.specs.Tokens.{is_blank, is_nondigit, continues_word, continues_number, CanBeToken, word, number, punctuator, begins_comment, begins_close, begins_line_end, begins_splice, Nowhere, IsComment, block, line, Piece, blank, comment, token, piece_bytes, StandsBefore, IsLexicalError}
+use Rattle.cc_tokens.specs.Tokens.{is_blank, is_nondigit, continues_word, continues_number, CanBeToken, word, number, punctuator, begins_comment, begins_close, begins_line_end, begins_splice, Nowhere, IsComment, block, line, TextPiece, blank, comment, token, piece_bytes, StandsBefore, IsLexicalError}
 use Rattle.cc_tokens.specs.internal.Scan.{run_of, run_length, head_of, comment_head, comment_of, block_comment, offset_within, number_head, punctuator_head, punctuator_at, keyword_named, word_kind, constant_kind, constant_spelled, typed}
 use Rattle.cc_tokens.proofs.Runs.{run_fits, run_continues, place_fits, place_nowhere, place_here}
 use Rattle.cc_tokens.proofs.ConstantForms.{constant_sound, constant_complete}
@@ -21,7 +21,7 @@ use Rattle.cc_tokens.proofs.Punctuators.{punctuator_found, punctuator_longest, p
 use Rattle.cc_tokens.proofs.Comments.{close_shape}
 
 -- the bytes begin with a piece of n bytes that is right before what follows it
-pub record StandsAt (bytes : List ℕ) (n : ℕ) (p : Piece) : Type 0 where
+pub record StandsAt (bytes : List ℕ) (n : ℕ) (p : TextPiece) : Type 0 where
   pub after : List ℕ
   pub whole : bytes ≡ piece_bytes p ++ after
   pub stands : StandsBefore p after

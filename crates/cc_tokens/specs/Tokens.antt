@@ -98,31 +98,31 @@ pub data IsComment : List ℕ → List ℕ → Type 0 where
   line : {after : List ℕ} (body : List ℕ) → Nowhere begins_line_end body after → (after ≡ []) ⊎ IsTrue (begins_line_end after) → IsComment (47 ∷ 47 ∷ body) after
 
 -- what a text is cut into: single bytes of white space, comments, tokens
-pub data Piece : Type 0 where
-  blank : ℕ → Piece
-  comment : List ℕ → Piece
-  token : TokenKind → List ℕ → Piece
+pub data TextPiece : Type 0 where
+  blank : ℕ → TextPiece
+  comment : List ℕ → TextPiece
+  token : TokenKind → List ℕ → TextPiece
 
 -- the bytes of a piece
-abbrev pub piece_bytes : Piece → List ℕ
+abbrev pub piece_bytes : TextPiece → List ℕ
 piece_bytes (blank b) = b ∷ []
 piece_bytes (comment c) = c
 piece_bytes (token k text) = text
 
 -- the piece is right before what follows it: a comment has no line splice in it; where a comment begins no token does;
 -- a token is the longest, and is what its bytes spell
-abbrev pub StandsBefore : Piece → List ℕ → Type 0
+abbrev pub StandsBefore : TextPiece → List ℕ → Type 0
 StandsBefore (blank b) after = IsTrue (is_blank b)
 StandsBefore (comment c) after = IsComment c after × Nowhere begins_splice c after
 StandsBefore (token k text) after = (begins_comment (text ++ after) ≡ false) × IsLongest text after × SpellsToken k text
 
 -- the text is these pieces, each right before what follows it, and then the rest
-abbrev pub IsCut : List Piece → List ℕ → List ℕ → Type 0
+abbrev pub IsCut : List TextPiece → List ℕ → List ℕ → Type 0
 IsCut [] text rest = text ≡ rest
 IsCut (p ∷ ps) text rest = (after : List ℕ) × (text ≡ piece_bytes p ++ after) × StandsBefore p after × IsCut ps after rest
 
 -- the tokens among pieces of which the first begins at an offset
-abbrev pub tokens_of : ℕ → List Piece → List Lexeme
+abbrev pub tokens_of : ℕ → List TextPiece → List Lexeme
 tokens_of at [] = []
 tokens_of at (blank b ∷ ps) = tokens_of (at + 1) ps
 tokens_of at (comment c ∷ ps) = tokens_of (at + length c) ps
@@ -130,7 +130,7 @@ tokens_of at (token k text ∷ ps) = record { kind = k; text = text; at = at } �
 
 -- these are the tokens of the text
 pub record IsTokens (text : List ℕ) (ts : List Lexeme) : Type 0 where
-  pub pieces : List Piece
+  pub pieces : List TextPiece
   pub cut : IsCut pieces text []
   pub tokens : ts ≡ tokens_of 0 pieces
 
@@ -189,7 +189,7 @@ IsLexicalError ConstantTooLarge bytes offset = IsTooLarge bytes × (offset ≡ 0
 
 -- the first error of the text, and the offset where it stands: before it are pieces alone
 pub record FirstLexicalError (text : List ℕ) (error : LexicalError) (at : ℕ) : Type 0 where
-  pub pieces : List Piece
+  pub pieces : List TextPiece
   pub rest : List ℕ
   pub offset : ℕ
   pub cut : IsCut pieces text rest

@@ -33,7 +33,7 @@ fn fault_at(text: &[u8], error: LexicalError, at: usize) -> SyntaxFault
 
 /// What comes next in a text, behind white space and comments.
 #[derive(Clone, Copy)]
-pub enum Next {
+pub enum NextToken {
     Token(Token),
     /// No token up to the end of the text.
     End,
@@ -42,7 +42,7 @@ pub enum Next {
 }
 
 /// The next token of a text from an offset on, behind the tokens before it, which takes no memory.
-pub fn next_token(text: &[u8], at: usize) -> Next
+pub fn next_token(text: &[u8], at: usize) -> NextToken
     requires { at ≤ length text.now }
     ensures found { (ts : List token.Token) → FoundBefore text.now ts at → FoundNext text.now ts result }
     ensures behind { IsBehind at (length text.now) result }
@@ -54,12 +54,12 @@ pub fn next_token(text: &[u8], at: usize) -> Next
             Head::Comment(n) => at += n,
             Head::Token(kind, n) => {
                 let to = at + n;
-                return Next::Token(Token { kind, from: at, to });
+                return NextToken::Token(Token { kind, from: at, to });
             }
-            Head::Error(error, n) => return Next::Error(error, at + n),
+            Head::Error(error, n) => return NextToken::Error(error, at + n),
         }
     }
-    Next::End
+    NextToken::End
 }
 
 /// The tokens of a text, in order (C99 6.4 and the profile).
@@ -80,14 +80,14 @@ pub fn tokens(alloc: Global, text: &[u8]) -> Result<Vec<Token>, SyntaxFault>
     let mut at = 0;
     while at < text.len() {
         match next_token(text, at) {
-            Next::Token(token) => {
+            NextToken::Token(token) => {
                 if found.push(token).is_err() {
                     return Err(SyntaxFault::OutOfMemory);
                 }
                 at = token.to;
             }
-            Next::End => at = text.len(),
-            Next::Error(error, at) => return Err(fault_at(text, error, at)),
+            NextToken::End => at = text.len(),
+            NextToken::Error(error, at) => return Err(fault_at(text, error, at)),
         }
     }
     Ok(found)

@@ -14,7 +14,7 @@ mod scan;
 mod token;
 
 pub use fault::SyntaxFault;
-pub use lexer::{MOST_BYTES, Next, next_token, tokens, tokens_are_determined};
+pub use lexer::{MOST_BYTES, NextToken, next_token, tokens, tokens_are_determined};
 pub use lexical_error::LexicalError;
 pub use place::{Place, place_at};
 pub use scalar::Scalar;

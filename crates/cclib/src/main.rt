@@ -11,7 +11,7 @@ mod serving;
 mod stack;
 
 use cc_answers::Persons;
-use cc_command_line::{NoRequest, Request, Work, read_or_tell, tell_bytes};
+use cc_command_line::{NoRequest, Invocation, Work, read_or_tell, tell_bytes};
 use cc_filing::take_out_of_file;
 use cc_tasks::{Fault, perform, perform_and_explain, perform_and_explain_stages, perform_stages};
 use cc_submit::submit_script;
@@ -135,7 +135,7 @@ where
     let words: Vec<String> = words.collect(rt.alloc())?;
     let asked = read_or_tell(rt, rt.alloc(), words.as_slice());
     drop(words);
-    let Request { work, is_quiet } = match asked {
+    let Invocation { work, is_quiet } = match asked {
         Ok(request) => request,
         Err(nothing) => return status_of(nothing),
     };

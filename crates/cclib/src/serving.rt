@@ -9,7 +9,7 @@ use cc_disk::FileDisk;
 use cc_filing::{disk_to_serve, no_disk};
 use cc_session::{BOUNDS, Generation, GenerationEnd, Served, SessionEnd, Steward, serve_on};
 use cc_spool::{
-    FolderSpool, Held, Layout, MOST_ENTRIES, Recovered, SpoolFault, WidePart, clear_old,
+    FolderSpool, Held, FolderLayout, MOST_ENTRIES, Recovered, SpoolFault, WidePart, clear_old,
     count_entries, recover, take_folder, wide_parts,
 };
 use std::alloc::{AllocError, Global};
@@ -101,7 +101,7 @@ fn tell_crowded<E: Write>(folder: &str, waiting: usize, told: &mut E) -> io::Res
 
 // Answers what an earlier server had begun; the names of the scripts for which that has to be tried again.
 fn clean_folder<E: Write>(
-    layout: &Layout,
+    layout: &FolderLayout,
     asked: &Server,
     told: &mut E,
 ) -> io::Result<Vec<String>> {
@@ -117,7 +117,7 @@ fn clean_folder<E: Write>(
 }
 
 // Takes the folder for this server.
-fn taken(layout: &mut Layout, process: u32) -> Result<Held, NoFolder> {
+fn taken(layout: &mut FolderLayout, process: u32) -> Result<Held, NoFolder> {
     match take_folder(layout, process) {
         Ok(Some(held)) => Ok(held),
         Ok(None) => Err(NoFolder::InUse),
@@ -171,7 +171,7 @@ fn tell_uncleared<E: Write>(folder: &str, why: &io::Error, told: &mut E) -> io::
 // Takes away what nobody fetched when a generation begins, and tells a person of the generations.
 #[derive(Drop)]
 struct Keeper {
-    layout: Layout,
+    layout: FolderLayout,
     folder: String,
     clients: usize,
     // For how many days an answer is kept.
@@ -196,7 +196,7 @@ impl Steward for Keeper {
     }
 }
 
-fn keeper_of(alloc: Global, layout: &Layout, asked: &Server) -> Result<Keeper, AllocError> {
+fn keeper_of(alloc: Global, layout: &FolderLayout, asked: &Server) -> Result<Keeper, AllocError> {
     Ok(Keeper {
         layout: layout.again()?,
         folder: String::from_str(alloc, asked.folder.as_str())?,
@@ -209,7 +209,7 @@ fn keeper_of(alloc: Global, layout: &Layout, asked: &Server) -> Result<Keeper, A
 // A spool for each client, the first of which tries again what the start could not answer.
 fn spools_of(
     alloc: Global,
-    layout: &Layout,
+    layout: &FolderLayout,
     count: usize,
     kept: Vec<String>,
 ) -> Result<Vec<FolderSpool>, AllocError> {
@@ -283,7 +283,7 @@ fn ended<W: Write, E: Write>(
 // Serves a folder that was taken, over a library's disk; the status. The names are those of scripts that the start could not answer.
 fn serve_taken<R, W: Write, E: Write>(
     rt: &R,
-    layout: &Layout,
+    layout: &FolderLayout,
     asked: &Server,
     kept: Vec<String>,
     disk: FileDisk,
@@ -350,7 +350,7 @@ where
     };
     let mut told = Telling { errors, is_quiet };
     let folder = asked.folder.as_str();
-    let mut layout = Layout::new(*files, alloc, folder)?;
+    let mut layout = FolderLayout::new(*files, alloc, folder)?;
     let held = match taken(&mut layout, process::id(files.process())) {
         Ok(held) => held,
         Err(reason) => return Ok(no_folder(reason, folder, &mut writer, &mut told)),

@@ -3,7 +3,7 @@ ghost use Rattle.tests_core.specs.Builds.{rules, keeps, is_right, planned, law, 
 
 use crate::piece::Piece;
 use cc_core::build::Build;
-use cc_core::fault::BuildFault;
+use cc_core::fault::BuildRefusal;
 use cc_unit::StoredUnit;
 use std::alloc::Global;
 use std::sync::Arc;
@@ -23,9 +23,9 @@ impl Build for FewPieces {
 
     ghost is_right = { is_right };
 
-    fn plan(&self, _alloc: Global, source: &[u8]) -> Result<u32, BuildFault> {
+    fn plan(&self, _alloc: Global, source: &[u8]) -> Result<u32, BuildRefusal> {
         match source {
-            [b'#', ..] => Err(BuildFault::Refused(11)),
+            [b'#', ..] => Err(BuildRefusal::Refused(11)),
             [b'2', ..] => Ok(2),
             _ => Ok(1),
         }
@@ -40,12 +40,12 @@ impl Build for FewPieces {
         _alloc: Global,
         source: &[u8],
         pieces: &[&Piece],
-    ) -> Result<Arc<StoredUnit>, BuildFault> {
+    ) -> Result<Arc<StoredUnit>, BuildRefusal> {
         let [piece, ..] = pieces else {
-            return Err(BuildFault::Refused(26));
+            return Err(BuildRefusal::Refused(26));
         };
         if let [b'!', ..] = source {
-            return Err(BuildFault::Refused(25));
+            return Err(BuildRefusal::Refused(25));
         }
         Ok(Arc::try_clone(piece.unit())?)
     }
@@ -68,8 +68,8 @@ impl Build for Nothing {
 
     ghost is_right = { is_anything };
 
-    fn plan(&self, _alloc: Global, _source: &[u8]) -> Result<u32, BuildFault> {
-        Err(BuildFault::Refused(11))
+    fn plan(&self, _alloc: Global, _source: &[u8]) -> Result<u32, BuildRefusal> {
+        Err(BuildRefusal::Refused(11))
     }
 
     fn names(&self, piece: &Piece, source: &[u8], part: u32) -> bool {
@@ -81,8 +81,8 @@ impl Build for Nothing {
         _alloc: Global,
         _source: &[u8],
         _pieces: &[&Piece],
-    ) -> Result<Arc<StoredUnit>, BuildFault> {
-        Err(BuildFault::Refused(11))
+    ) -> Result<Arc<StoredUnit>, BuildRefusal> {
+        Err(BuildRefusal::Refused(11))
     }
 
     ghost planned = { nothing_planned };

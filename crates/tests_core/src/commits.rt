@@ -4,7 +4,7 @@ use crate::script::Line::{
     SyncBody, SyncGate, Take, Withdraw, WriteArea, WriteBody, WriteGate,
 };
 use crate::script::{Line, ONE, TWO, begins, goes_on};
-use cc_core::fault::{BuildFault, CoreFault};
+use cc_core::fault::{BuildRefusal, CoreFault};
 use cc_core::sequence::Sequence;
 use std::test::Fail;
 
@@ -240,8 +240,8 @@ fn a_certificate_that_has_no_room(rt: HostRuntime) -> Result<(), Fail> {
 // Lists give back what they were made of; numbers are those of the faults.
 #[test]
 fn lists_and_numbers(rt: HostRuntime) -> Result<(), Fail> {
-    assert!(rt; CoreFault::OutOfMemory.number() == 40 && BuildFault::OutOfMemory.number() == 40);
-    assert!(rt; BuildFault::Refused(22).number() == 22);
+    assert!(rt; CoreFault::OutOfMemory.number() == 40 && BuildRefusal::OutOfMemory.number() == 40);
+    assert!(rt; BuildRefusal::Refused(22).number() == 22);
     let list = Sequence::new(Vec::from_slice(rt.alloc(), &TWO)?);
     assert!(rt; list.get(1).copied() == Some(b'w') && list.get(3).is_none());
     assert!(rt; list.into_vec().as_slice() == TWO.as_slice());

@@ -4,7 +4,7 @@
 ghost use Rattle.std.specs.Prelude.{◌≡◌};
 
 use super::helpers::{Hold, LONG, are_of, repeat, unit};
-use cc_pool::{Fresh, Pass, Pool, Queued};
+use cc_pool::{FreshQueue, Pass, Pool, Queued};
 use cc_types::TypedUnit;
 use std::alloc::{AllocError, Global};
 use std::marker::Brand;
@@ -16,7 +16,7 @@ use std::thread::Threads;
 
 #[test]
 fn two_passes_at_once(rt: HostRuntime) -> Result<(), Fail> {
-    let fresh = Fresh::new(rt.alloc())?;
+    let fresh = FreshQueue::new(rt.alloc())?;
     let told = crowd::<Brand, HostRuntime>(&rt, rt.alloc(), fresh, 2, LONG.as_bytes())?;
     assert_eq!(rt; told, (2, 1));
     Ok(())
@@ -25,7 +25,7 @@ fn two_passes_at_once(rt: HostRuntime) -> Result<(), Fail> {
 #[test]
 fn sixteen_fill_the_queue(rt: HostRuntime) -> Result<(), Fail> {
     let text = functions(rt.alloc(), 64)?;
-    let fresh = Fresh::new(rt.alloc())?;
+    let fresh = FreshQueue::new(rt.alloc())?;
     let told = crowd::<Brand, HostRuntime>(&rt, rt.alloc(), fresh, 16, text.as_slice())?;
     assert_eq!(rt; told, (16, 1));
     Ok(())
@@ -76,7 +76,7 @@ where
 fn crowd<N, R>(
     rt: &R,
     alloc: Global,
-    fresh: Fresh,
+    fresh: FreshQueue,
     threads: u64,
     text: &[u8],
 ) -> Result<(u64, u64), Fail>

@@ -3,7 +3,7 @@
 ghost use Rattle.std.specs.Prelude.{◌≡◌};
 
 use super::helpers::{TWO, one, two, unit};
-use cc_pool::{Drained, Fresh, NoGate, Pool, PoolFault, Queued};
+use cc_pool::{Drained, FreshQueue, NoGate, Pool, PoolFault, Queued};
 use std::alloc::Global;
 use std::marker::Brand;
 use std::sync::Wait;
@@ -13,7 +13,7 @@ use std::thread::Threads;
 #[test]
 fn a_pass_is_missing(rt: HostRuntime) -> Result<(), Fail> {
     for given in [1u32, 2] {
-        let fresh = Fresh::new(rt.alloc())?;
+        let fresh = FreshQueue::new(rt.alloc())?;
         let told = missing::<Brand, HostRuntime>(&rt, rt.alloc(), fresh, given)?;
         assert_eq!(rt; told, if given == 2 { 0 } else { 41 });
     }
@@ -21,7 +21,7 @@ fn a_pass_is_missing(rt: HostRuntime) -> Result<(), Fail> {
 }
 
 // The number that `finish` refuses this many of two passes with, or 0; pieces are under way.
-fn missing<N, R>(rt: &R, alloc: Global, fresh: Fresh, given: u32) -> Result<u32, Fail>
+fn missing<N, R>(rt: &R, alloc: Global, fresh: FreshQueue, given: u32) -> Result<u32, Fail>
 where
     N: Queued + Send + Sync + 'static,
     R: Threads + Wait + Copy + Send + 'static,

@@ -3,7 +3,7 @@
 ghost use Rattle.std.specs.Prelude.{◌≡◌};
 
 use super::helpers::{Hold, LONG, ONE, TWO, are_of, one, unit};
-use cc_pool::{Fresh, Pool, Queued};
+use cc_pool::{FreshQueue, Pool, Queued};
 use std::alloc::Global;
 use std::marker::Brand;
 use std::sync::Wait;
@@ -13,7 +13,7 @@ use std::thread::Threads;
 
 #[test]
 fn two_pieces_at_once(rt: HostRuntime) -> Result<(), Fail> {
-    let fresh = Fresh::new(rt.alloc())?;
+    let fresh = FreshQueue::new(rt.alloc())?;
     let told = at_once::<Brand, HostRuntime>(&rt, rt.alloc(), fresh)?;
     assert_eq!(rt; told, (true, 1));
     Ok(())
@@ -21,7 +21,7 @@ fn two_pieces_at_once(rt: HostRuntime) -> Result<(), Fail> {
 
 // The piece of a job of two that comes first is held until the other one comes: whether the pieces are right, and how many holds ended
 // before their limit.
-fn at_once<N, R>(rt: &R, alloc: Global, fresh: Fresh) -> Result<(bool, u64), Fail>
+fn at_once<N, R>(rt: &R, alloc: Global, fresh: FreshQueue) -> Result<(bool, u64), Fail>
 where
     N: Queued + Send + Sync + 'static,
     R: Threads + Wait + Copy + Send + 'static,
@@ -39,7 +39,7 @@ where
 
 #[test]
 fn a_held_job_holds_no_other(rt: HostRuntime) -> Result<(), Fail> {
-    let fresh = Fresh::new(rt.alloc())?;
+    let fresh = FreshQueue::new(rt.alloc())?;
     let told = held::<Brand, HostRuntime>(&rt, rt.alloc(), fresh)?;
     assert_eq!(rt; told, (true, 2, 1));
     Ok(())
@@ -47,7 +47,7 @@ fn a_held_job_holds_no_other(rt: HostRuntime) -> Result<(), Fail> {
 
 // Job 0 is held until both pieces of job 1, and what lets it go behind its collecting, have passed: whether the pieces are right, how
 // many others had passed by then, and how many holds ended before their limit.
-fn held<N, R>(rt: &R, alloc: Global, fresh: Fresh) -> Result<(bool, u64, u64), Fail>
+fn held<N, R>(rt: &R, alloc: Global, fresh: FreshQueue) -> Result<(bool, u64, u64), Fail>
 where
     N: Queued + Send + Sync + 'static,
     R: Threads + Wait + Copy + Send + 'static,

@@ -4,7 +4,7 @@ ghost use Rattle.std.specs.Prelude.{◌≡◌};
 
 use super::helpers::{LONG, one, unit};
 use cc_link::{compile, link};
-use cc_pool::{Fresh, NoGate, Pass, Pool, Queued};
+use cc_pool::{FreshQueue, NoGate, Pass, Pool, Queued};
 use std::alloc::Global;
 use std::marker::Brand;
 use std::sync::{Arc, Wait};
@@ -36,7 +36,7 @@ static WORKED: [&str; 17] = [
 
 #[test]
 fn images_of_programs(rt: HostRuntime) -> Result<(), Fail> {
-    let fresh = Fresh::new(rt.alloc())?;
+    let fresh = FreshQueue::new(rt.alloc())?;
     let told = compared::<Brand, HostRuntime>(&rt, rt.alloc(), fresh, PROGRAMS.as_slice())?;
     assert_eq!(rt; told, PROGRAMS.len());
     Ok(())
@@ -44,14 +44,14 @@ fn images_of_programs(rt: HostRuntime) -> Result<(), Fail> {
 
 #[test]
 fn images_of_worked_texts(rt: HostRuntime) -> Result<(), Fail> {
-    let fresh = Fresh::new(rt.alloc())?;
+    let fresh = FreshQueue::new(rt.alloc())?;
     let told = compared::<Brand, HostRuntime>(&rt, rt.alloc(), fresh, WORKED.as_slice())?;
     assert_eq!(rt; told, WORKED.len());
     Ok(())
 }
 
 // How many texts, from the first on, have the same image from the pool as from one thread.
-fn compared<N, R>(rt: &R, alloc: Global, fresh: Fresh, texts: &[&str]) -> Result<usize, Fail>
+fn compared<N, R>(rt: &R, alloc: Global, fresh: FreshQueue, texts: &[&str]) -> Result<usize, Fail>
 where
     N: Queued + Send + Sync + 'static,
     R: Threads + Wait + Copy + Send + 'static,

@@ -4,7 +4,7 @@ ghost use Rattle.std.specs.Prelude.{◌≡◌};
 
 use super::helpers::{ONE, TWO, are_of, one, repeat, two, unit};
 use cc_link::PieceFault;
-use cc_pool::{Fresh, NoGate, Pool, PoolFault, Queued};
+use cc_pool::{FreshQueue, NoGate, Pool, PoolFault, Queued};
 use std::alloc::Global;
 use std::marker::Brand;
 use std::sync::Wait;
@@ -13,14 +13,14 @@ use std::thread::Threads;
 
 #[test]
 fn two_tickets_in_either_order(rt: HostRuntime) -> Result<(), Fail> {
-    let fresh = Fresh::new(rt.alloc())?;
+    let fresh = FreshQueue::new(rt.alloc())?;
     let told = either_order::<Brand, HostRuntime>(&rt, rt.alloc(), fresh)?;
     assert_eq!(rt; told, (true, 0, 1));
     Ok(())
 }
 
 // Whether the pieces of two jobs, the later one collected first, are right; and the jobs' numbers.
-fn either_order<N, R>(rt: &R, alloc: Global, fresh: Fresh) -> Result<(bool, u64, u64), Fail>
+fn either_order<N, R>(rt: &R, alloc: Global, fresh: FreshQueue) -> Result<(bool, u64, u64), Fail>
 where
     N: Queued + Send + Sync + 'static,
     R: Threads + Wait + Copy + Send + 'static,
@@ -41,14 +41,14 @@ where
 
 #[test]
 fn the_least_that_is_refused(rt: HostRuntime) -> Result<(), Fail> {
-    let fresh = Fresh::new(rt.alloc())?;
+    let fresh = FreshQueue::new(rt.alloc())?;
     let told = refused::<Brand, HostRuntime>(&rt, rt.alloc(), fresh)?;
     assert_eq!(rt; told, (1, 33, 5));
     Ok(())
 }
 
 // Of three functions two have too many nodes: which is told, where its name begins and how long it is.
-fn refused<N, R>(rt: &R, alloc: Global, fresh: Fresh) -> Result<(usize, usize, usize), Fail>
+fn refused<N, R>(rt: &R, alloc: Global, fresh: FreshQueue) -> Result<(usize, usize, usize), Fail>
 where
     N: Queued + Send + Sync + 'static,
     R: Threads + Wait + Copy + Send + 'static,

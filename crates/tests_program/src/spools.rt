@@ -1,7 +1,7 @@
 // The command lines of a server and its clients.
 
 use crate::words::is_refused;
-use cc_command_line::{Client, Server, Work, line};
+use cc_command_line::{Submitter, Server, Work, line};
 use std::alloc::Global;
 
 // What a command line asks of a server, of the file `a.disk` and the folder `spool`.
@@ -153,7 +153,7 @@ fn asks_for_client(
     seconds: Option<u32>,
 ) -> bool {
     match line(alloc, words) {
-        Ok(Work::Submit(Client { folder, line, wait })) => {
+        Ok(Work::Submit(Submitter { folder, line, wait })) => {
             folder.as_str() == "spool" && is_line(&line, wanted) && wait == seconds
         }
         other => {

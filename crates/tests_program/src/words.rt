@@ -1,6 +1,6 @@
 // The command line.
 
-use cc_command_line::{Request, Session, Work, line, read_request, refused_bytes};
+use cc_command_line::{Invocation, Session, Work, line, read_invocation, refused_bytes};
 use cc_task::Task;
 use std::alloc::Global;
 
@@ -153,8 +153,8 @@ static QUIET: [(&[&str], bool); 4] = [
 ];
 
 fn asks_for_quiet(alloc: Global, words: &'static [&'static str]) -> Option<bool> {
-    match read_request(alloc, words) {
-        Ok(Request { work, is_quiet }) => {
+    match read_invocation(alloc, words) {
+        Ok(Invocation { work, is_quiet }) => {
             drop(work);
             Some(is_quiet)
         }

@@ -4,7 +4,7 @@ use crate::helpers::{
     End, Folder, Meanwhile, answer, answer_one, clears, counts, done, ends_so, must, recovered,
     renumber_one, second,
 };
-use cc_spool::{FolderSpool, Layout, Recovered, Spool};
+use cc_spool::{FolderSpool, FolderLayout, Recovered, Spool};
 use std::io::{self, Write};
 use std::thread;
 use std::time::Duration;
@@ -287,7 +287,7 @@ fn an_answer_over_its_limit(rt: HostRuntime) {
 }
 
 // Whether a script that no server takes is taken back.
-fn is_not_taken(folder: Folder, layout: &Layout) -> bool {
+fn is_not_taken(folder: Folder, layout: &FolderLayout) -> bool {
     ends_so(folder, layout, &mut io::sink(), Some(1), End::NotTaken, "")
 }
 
@@ -322,7 +322,7 @@ impl Write for Server {
 }
 
 // Whether a script is answered by the server that claims it.
-fn is_served(folder: Folder, layout: &Layout) -> bool {
+fn is_served(folder: Folder, layout: &FolderLayout) -> bool {
     let end = End::Answered(None);
     ends_so(folder, layout, &mut io::sink(), Some(1), end, "ok 1\n")
 }
@@ -375,7 +375,7 @@ static ANSWERS: [(&str, Option<u32>); 6] = [
 ];
 
 // Whether this number is told of an answer, which is written on as it is and then taken away.
-fn tells(folder: Folder, layout: &Layout, text: &'static str, number: Option<u32>) -> bool {
+fn tells(folder: Folder, layout: &FolderLayout, text: &'static str, number: Option<u32>) -> bool {
     let Some(spool) = second(layout, 1) else {
         return false;
     };

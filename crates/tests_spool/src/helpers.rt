@@ -4,7 +4,7 @@
 // in many places, would be proved for minutes, since each of its exits lets go of all that it has.
 
 use cc_spool::{
-    FolderSpool, Held, Layout, Recovered, Spool, Submission, clear_old, count_entries, recover,
+    FolderSpool, Held, FolderLayout, Recovered, Spool, Submission, clear_old, count_entries, recover,
     submit, take_folder,
 };
 use std::fs::{self, File, OpenOptions, Permissions};
@@ -181,8 +181,8 @@ impl Folder {
     }
 
     /// A new folder with its parts, and its lock; none where it is refused.
-    pub fn take(self) -> Option<(Layout, Held)> {
-        let mut layout = Layout::new(self.rt, self.rt.alloc(), self.path).ok()?;
+    pub fn take(self) -> Option<(FolderLayout, Held)> {
+        let mut layout = FolderLayout::new(self.rt, self.rt.alloc(), self.path).ok()?;
         match take_folder(&mut layout, 1) {
             Ok(Some(held)) => Some((layout, held)),
             _ => None,
@@ -205,7 +205,7 @@ impl Folder {
     }
 
     /// Lets its parts go, and takes it away.
-    pub fn end(self, layout: Layout, held: Held) -> bool {
+    pub fn end(self, layout: FolderLayout, held: Held) -> bool {
         drop(layout);
         drop(held);
         self.remove_all()
@@ -220,12 +220,12 @@ impl Folder {
 }
 
 /// What a start finds; none where it can't look.
-pub fn recovered(layout: &Layout) -> Option<Recovered> {
+pub fn recovered(layout: &FolderLayout) -> Option<Recovered> {
     recover(layout).ok()
 }
 
 /// Whether so many entries are counted.
-pub fn counts(layout: &Layout, most: usize, wanted: usize) -> bool {
+pub fn counts(layout: &FolderLayout, most: usize, wanted: usize) -> bool {
     match count_entries(layout, most) {
         Ok(count) => count == wanted,
         Err(_) => false,
@@ -233,7 +233,7 @@ pub fn counts(layout: &Layout, most: usize, wanted: usize) -> bool {
 }
 
 /// Whether so many old files are taken away.
-pub fn clears(layout: &Layout, days: u32, wanted: u64) -> bool {
+pub fn clears(layout: &FolderLayout, days: u32, wanted: u64) -> bool {
     match clear_old(layout, days) {
         Ok(count) => count == wanted,
         Err(_) => false,
@@ -241,7 +241,7 @@ pub fn clears(layout: &Layout, days: u32, wanted: u64) -> bool {
 }
 
 /// The spool that a further client sees.
-pub fn second(layout: &Layout, most: u64) -> Option<FolderSpool> {
+pub fn second(layout: &FolderLayout, most: u64) -> Option<FolderSpool> {
     match layout.again() {
         Ok(again) => Some(FolderSpool::new(again, most)),
         Err(_) => None,
@@ -356,7 +356,7 @@ pub enum End {
 /// Leaves a script; whether it ends so, and so much is written on.
 pub fn ends_so<E: Write>(
     folder: Folder,
-    layout: &Layout,
+    layout: &FolderLayout,
     explanations: &mut E,
     seconds: Option<u32>,
     end: End,

@@ -5,8 +5,8 @@ use Rattle.cc_disk.specs.Model.{bytes_of, IsImage}
 use Rattle.cc_disk.specs.Images.{LeavesAlone}
 use Rattle.cc_journal.specs.Commit.{Commit}
 use Rattle.cc_journal.specs.Format.{HoldsAlone, room_of}
-use Rattle.cc_library.specs.declared.command.Command.{Command}
-use Rattle.cc_library.specs.declared.command.Command.TheVariants.{Add, Replace, Withdraw}
+use Rattle.cc_library.specs.declared.command.LibraryCommand.{LibraryCommand}
+use Rattle.cc_library.specs.declared.command.LibraryCommand.TheVariants.{Add, Replace, Withdraw}
 use Rattle.cc_library.specs.Apply.{Units, AreAccepted, library_of}
 use Rattle.cc_library.specs.Body.{body_of}
 use Rattle.cc_library.specs.Compact.{compacted}
@@ -22,11 +22,11 @@ use Rattle.cc_core.specs.StoreState.{StoreState}
 use Rattle.cc_core.specs.Store.{room_taken}
 
 -- the record of this command fits the area
-abbrev pub IsFitting : StoreState → Command → Type 0
+abbrev pub IsFitting : StoreState → LibraryCommand → Type 0
 IsFitting store command = (room_taken store (body_of command) ≤ store.area) × (store.area ≤ 2 ^ 30)
 
 -- until its record is one of the journal's, a command in commit has room in the area
-abbrev pub HasRoom : Due → StoreState → Command → Type 0
+abbrev pub HasRoom : Due → StoreState → LibraryCommand → Type 0
 HasRoom WriteBody store command = IsFitting store command
 HasRoom SyncBody store command = IsFitting store command
 HasRoom WriteGate store command = IsFitting store command
@@ -73,7 +73,7 @@ abbrev pub IsReady : Core → Type 0
 IsReady s = IsReadyIn s.phase s.library s.store s.order
 
 -- the library is as the command leaves it
-abbrev pub IsInEffect : Units → Command → Type 0
+abbrev pub IsInEffect : Units → LibraryCommand → Type 0
 IsInEffect library (Add name unit) = get library name ≡ Some unit
 IsInEffect library (Replace name unit) = get library name ≡ Some unit
 IsInEffect library (Withdraw name) = get library name ≡ None

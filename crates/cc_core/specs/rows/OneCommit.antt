@@ -4,8 +4,8 @@ use Rattle.std.specs.Prelude.{◌≡◌, [], ◌∷◌, ◌++◌, drop, map, rep
 use Rattle.std.specs.FinMap.{empty}
 use Rattle.cc_disk.specs.Model.{bytes_of, settled}
 use Rattle.cc_journal.specs.Format.{header, records}
-use Rattle.cc_library.specs.declared.command.Command.{Command}
-use Rattle.cc_library.specs.declared.command.Command.TheVariants as command
+use Rattle.cc_library.specs.declared.command.LibraryCommand.{LibraryCommand}
+use Rattle.cc_library.specs.declared.command.LibraryCommand.TheVariants as command
 use Rattle.cc_library.specs.Apply.{after}
 use Rattle.cc_library.specs.Body.{body_of}
 use Rattle.cc_core.specs.declared.command.Numbered.{Numbered}
@@ -21,7 +21,7 @@ use Rattle.cc_core.specs.Step.{Begun, Advances, Acknowledges, numbered_now, tick
 abbrev pub client : ClientId
 client = record { number = 2 }
 
-abbrev pub adds : Command
+abbrev pub adds : LibraryCommand
 adds = command.Add (0x61 ∷ []) (record { source = 0x74 ∷ 0x77 ∷ 0x6f ∷ []; image = record { code = 19 ∷ []; globals = [] }; certificate = None })
 
 -- on a new disk with areas of 64 bytes

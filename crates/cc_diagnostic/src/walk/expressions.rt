@@ -1,7 +1,7 @@
 // Expressions and actions.
 
 use super::{Use, Walk};
-use crate::code::{Element, Instruction, Operation};
+use crate::code::{Element, Instruction, TypedOperator};
 use crate::names::{Lead, Standing};
 use cc_resolve::{Extent, unary_operation};
 use cc_syntax::{
@@ -219,7 +219,7 @@ impl<'a> Walk<'a> {
                 };
                 self.replace(middle, jump);
             }
-            _ => self.emit(Instruction::Binary(Operation {
+            _ => self.emit(Instruction::Binary(TypedOperator {
                 operator,
                 at: middle,
                 working: working_type(operator, first, second),
@@ -297,7 +297,7 @@ impl<'a> Walk<'a> {
     fn store(&mut self, goal: Goal<'a>, applied: Option<Applied>, right: Scalar) {
         if let Some(Applied { operator, at }) = applied {
             self.old_value(goal.slot);
-            self.emit(Instruction::Binary(Operation {
+            self.emit(Instruction::Binary(TypedOperator {
                 operator,
                 at,
                 working: working_type(operator, goal.scalar, right),

@@ -4,23 +4,23 @@ use Rattle.std.specs.Prelude.{ℕ, zero, suc, ◌+◌, ◌-◌, ◌*◌, ◌/◌
 use Rattle.cc_words.specs.declared.operators.Width.TheVariants.{Byte, Word}
 use Rattle.cc_words.specs.declared.operators.Binary.TheVariants.{Add, Sub, LtS, LeS, LeU, Ne}
 use Rattle.cc_ltl.specs.declared.operation.Move.TheVariants.{Reload, Spill}
-use Rattle.cc_linear_language.specs.declared.item.Item as linear
-use Rattle.cc_linear_language.specs.declared.item.Item.TheVariants.{Label, Jump, IfZero, Copy, Const, Binary, Load, Store, Call, Write, Return}
-use Rattle.cc_select.specs.declared.step.Immediate.TheVariants as immediate
+use Rattle.cc_linear_language.specs.declared.item.LinearItem.{LinearItem}
+use Rattle.cc_linear_language.specs.declared.item.LinearItem.TheVariants.{Label, Jump, IfZero, Copy, Const, Binary, Load, Store, Call, Write, Return}
+use Rattle.cc_select.specs.declared.step.WordOperator.TheVariants as immediate
 use Rattle.cc_select.specs.declared.step.Step.TheVariants.{One, Immediate, LoadAt, StoreAt, Branch, BranchImmediate}
 use Rattle.cc_rv32.specs.declared.instr.Instr.{Instr}
 use Rattle.cc_rv32.specs.declared.instr.Instr.TheVariants as instr
 use Rattle.cc_rv32.specs.declared.instr.Instr.TheVariants.{Jalr, Lui, Op, OpImm, Shift}
-use Rattle.cc_rv32.specs.declared.instr.Operation.TheVariants as operation
+use Rattle.cc_rv32.specs.declared.instr.RegisterOperation.TheVariants as operation
 use Rattle.cc_rv32.specs.declared.instr.ImmediateOperation.TheVariants.{Andi, Slti, Sltiu}
 use Rattle.cc_rv32.specs.declared.instr.BranchOperation.{BranchOperation}
 use Rattle.cc_rv32.specs.declared.instr.BranchOperation.TheVariants.{Beq, Bne, Blt, Bge, Bltu}
 use Rattle.cc_rv32.specs.declared.instr.ShiftOperation.TheVariants.{Slli, Srai}
 use Rattle.cc_rv32.specs.Table.{encoding_of}
 use Rattle.cc_rv32.specs.Machine.{State, Turn, Continues, Exits, Traps, executed}
-use Rattle.cc_emit.specs.declared.item.Item.{Item}
-use Rattle.cc_emit.specs.declared.item.Item.TheVariants as item
-use Rattle.cc_emit.specs.declared.item.Item.TheVariants.{Plain}
+use Rattle.cc_emit.specs.declared.item.PieceItem.{PieceItem}
+use Rattle.cc_emit.specs.declared.item.PieceItem.TheVariants as item
+use Rattle.cc_emit.specs.declared.item.PieceItem.TheVariants.{Plain}
 use Rattle.cc_emit.specs.Contract.{Code, filled}
 use Rattle.cc_emit.specs.Objects.{object_address}
 use Rattle.cc_emit.specs.Branches.{comparison, turned}
@@ -28,16 +28,16 @@ use Rattle.cc_emit.specs.Emission.{addi, branch_items, load_element, load_word, 
 use Rattle.cc_emit.specs.Function.{function_items, items_with}
 
 -- 1 is added up once; the sum goes through a slot and through an element of the second object, whose address has a negative lower part
-abbrev loop : List linear.Item
+abbrev loop : List LinearItem
 loop =
     Const 18 1 ∷ Const 19 0 ∷ Label 7 ∷ IfZero 18 9 ∷ Binary Add 19 19 18 ∷ Const 7 1 ∷ Binary Sub 18 18 7 ∷ Jump 7 ∷ Label 9 ∷ Copy (Spill 1 19) ∷ Copy (Reload 10 1) ∷ Store Word 1 7 10 ∷ Load Word 1 10 7 ∷ Write
     ∷ Return ∷ []
 
-abbrev items : List Item
+abbrev items : List PieceItem
 items = function_items (object_address (record { width = Word; elements = 768 } ∷ record { width = Word; elements = 2 } ∷ [])) 2 (map One loop)
 
 -- the words of items at an address
-abbrev words_of : (a : ℕ) → List Item → List ℕ
+abbrev words_of : (a : ℕ) → List PieceItem → List ℕ
 words_of a [] = []
 words_of a (i ∷ is) = encoding_of (filled (λ g. 0) 0x10000 a i) ∷ words_of (a + 4) is
 
@@ -53,7 +53,7 @@ loop_words = refl
 
 -- ---- its run
 
-abbrev instructions : (a : ℕ) → List Item → List Instr
+abbrev instructions : (a : ℕ) → List PieceItem → List Instr
 instructions a [] = []
 instructions a (i ∷ is) = filled (λ g. 0) 0x10000 a i ∷ instructions (a + 4) is
 
@@ -131,11 +131,11 @@ abbrev near_by : ℕ → ℕ
 near_by g = 0x200000 + 16 * g
 
 -- element x7 of object 0, from its number: slli x5, x7, 2; lui x6, 0x200; add x5, x5, x6; then the access
-abbrev whole : (access : Item) → List Item → List Item
+abbrev whole : (access : PieceItem) → List PieceItem → List PieceItem
 whole access items = Plain (Shift Slli 5 7 2) ∷ Plain (Lui 6 0x200) ∷ Plain (Op operation.Add 5 5 6) ∷ access ∷ items
 
 -- where x6 has the upper part: slli x5, x7, 2; add x5, x5, x6; then the access
-abbrev with_upper : (access : Item) → List Item → List Item
+abbrev with_upper : (access : PieceItem) → List PieceItem → List PieceItem
 with_upper access items = Plain (Shift Slli 5 7 2) ∷ Plain (Op operation.Add 5 5 6) ∷ access ∷ items
 
 -- the same element again, and that of another object with that upper part: the accesses alone
@@ -176,7 +176,7 @@ byte_of_that_number = refl
 -- ---- x3 as the global pointer
 
 -- lui x3, 0x201; addi x3, x3, -2048
-abbrev with_pointer : List Item → List Item
+abbrev with_pointer : List PieceItem → List PieceItem
 with_pointer items = Plain (Lui 3 0x201) ∷ addi 3 3 0xfffff800 ∷ items
 
 -- three accesses of one instruction each, where each would make an upper part: object 1 lies at 0x200010, 2032 bytes before what x3 holds
@@ -199,7 +199,7 @@ other_uppers = refl
 
 -- objects 240 and 256 lie at 0x200f00, where x3 reaches, and at 0x201000, and have one upper part: without x3 the second access is one
 -- instruction, with it four, so the function does not gain
-abbrev from_one_upper : List Item → List Item
+abbrev from_one_upper : List PieceItem → List PieceItem
 from_one_upper items = Plain (Shift Slli 5 7 2) ∷ Plain (Lui 6 0x201) ∷ Plain (Op operation.Add 5 5 6) ∷ load_word 10 5 0xffffff00 ∷ load_word 11 5 0 ∷ items
 
 one_upper : function_items near_by 0
@@ -241,7 +241,7 @@ compared = refl
 
 -- ---- branches on comparisons, back to a label at the front
 
-abbrev branch : BranchOperation → (left right offset : ℕ) → Item
+abbrev branch : BranchOperation → (left right offset : ℕ) → PieceItem
 branch o a b n = Plain (instr.Branch o a b n)
 
 -- two registers: less; not at most, unsigned, and so the right one is less; not equal

@@ -2,8 +2,8 @@
 use Rattle.std.specs.Prelude.{ℕ, zero, suc, ◌&&◌, ◌||◌, List, [], ◌∷◌, length, take, drop, Option, Some, None, nat_lt, nat_le, ◌==◌, if◌then◌else◌}
 use Rattle.std.specs.Int.{w32, from_le_bytes}
 use Rattle.cc_unit.specs.declared.unit.StoredUnit.{StoredUnit}
-use Rattle.cc_library.specs.declared.command.Command.{Command}
-use Rattle.cc_library.specs.declared.command.Command.TheVariants.{Add, Replace, Withdraw}
+use Rattle.cc_library.specs.declared.command.LibraryCommand.{LibraryCommand}
+use Rattle.cc_library.specs.declared.command.LibraryCommand.TheVariants.{Add, Replace, Withdraw}
 use Rattle.cc_library.specs.Name.{is_name}
 
 infixl 10 ◌>>=◌
@@ -67,14 +67,14 @@ unit_in version bytes = do
   Some (record { source = source.0; image = record { code = code.0; globals = globals.0 }; certificate = certificate.0 }, certificate.1)
 
 -- the command of this kind and name
-unfoldable pub kind_in : (version : ℕ) → ℕ → List ℕ → List ℕ → Option (Command × List ℕ)
+unfoldable pub kind_in : (version : ℕ) → ℕ → List ℕ → List ℕ → Option (LibraryCommand × List ℕ)
 kind_in version kind name bytes =
     if kind == 1 then (unit_in version bytes >>= λ unit. Some (Add name unit.0, unit.1))
     else (if kind == 2 then (unit_in version bytes >>= λ unit. Some (Replace name unit.0, unit.1))
     else (if kind == 3 then Some (Withdraw name, bytes) else None))
 
 -- the command of all of these bytes
-unfoldable pub command_in : List ℕ → Option Command
+unfoldable pub command_in : List ℕ → Option LibraryCommand
 command_in bytes = do
   version ← byte_in bytes
   kind ← byte_in version.1

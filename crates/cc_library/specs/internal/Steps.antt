@@ -1,7 +1,7 @@
 -- What the steps of replaying and of a change come to.
 use Rattle.std.specs.Prelude.{◌≡◌, ◌⊎◌, ℕ, IsOk, List, Result, Ok, Err}
 use Rattle.cc_journal.specs.Format.{HoldsAlone}
-use Rattle.cc_library.specs.declared.command.Command.{Command}
+use Rattle.cc_library.specs.declared.command.LibraryCommand.{LibraryCommand}
 use Rattle.cc_library.specs.declared.fault.LibraryFault.{LibraryFault}
 use Rattle.cc_library.specs.declared.fault.LibraryFault.TheVariants.{Exists, Absent, Full, DiskFault, Closed, Damaged, NotALibrary, OutOfMemory}
 use Rattle.cc_library.specs.Apply.{Units, apply, after}
@@ -12,8 +12,8 @@ use Rattle.cc_library.specs.Runs.{after_edit}
 
 -- one record more: 37 exactly where its body is that of no command that the map accepts
 abbrev pub ReplaysBody : Units → List ℕ → Result Units LibraryFault → Type 0
-ReplaysBody old body (Ok new) = (command : Command) × Spells body command × IsOk (apply old command) × (new ≡ after old command)
-ReplaysBody old body (Err Damaged) = (command : Command) → Spells body command → IsOk (apply old command) → ⊥
+ReplaysBody old body (Ok new) = (command : LibraryCommand) × Spells body command × IsOk (apply old command) × (new ≡ after old command)
+ReplaysBody old body (Err Damaged) = (command : LibraryCommand) → Spells body command → IsOk (apply old command) → ⊥
 ReplaysBody old body (Err OutOfMemory) = Unit {0}
 ReplaysBody old body (Err DiskFault) = ⊥
 ReplaysBody old body (Err NotALibrary) = ⊥

@@ -1,7 +1,7 @@
 -- Labels that nothing leads to, and the list without them.
 use Rattle.std.specs.Prelude.{ℕ, ◌<◌, ◌≤◌, List, [], ◌∷◌, length, get_or, Bool, true, false, if◌then◌else◌, ◌==◌}
-use Rattle.cc_linear_language.specs.declared.item.Item.{Item}
-use Rattle.cc_linear_language.specs.declared.item.Item.TheVariants.{Label}
+use Rattle.cc_linear_language.specs.declared.item.LinearItem.{LinearItem}
+use Rattle.cc_linear_language.specs.declared.item.LinearItem.TheVariants.{Label}
 
 -- numbers that rise
 abbrev pub IsRising : List ℕ → Type 0
@@ -13,10 +13,10 @@ has [] l = false
 has (x ∷ xs) l = if x == l then true else has xs l
 
 -- an item stays, unless it is a label that is not among these
-abbrev pub stays : (led : List ℕ) → Item → Bool
+abbrev pub stays : (led : List ℕ) → LinearItem → Bool
 stays led (Label l) = has led l
 stays led item = true
 
-abbrev pub kept : (led : List ℕ) → List Item → List Item
+abbrev pub kept : (led : List ℕ) → List LinearItem → List LinearItem
 kept led [] = []
 kept led (item ∷ items) = if stays led item then item ∷ kept led items else kept led items

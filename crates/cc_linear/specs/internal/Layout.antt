@@ -6,9 +6,9 @@ use Rattle.cc_ltl.specs.declared.operation.Operation.{Operation}
 use Rattle.cc_ltl.specs.declared.operation.Operation.TheVariants.{Nop, Branch, Return}
 use Rattle.cc_ltl.specs.declared.block.Block.{Block}
 use Rattle.cc_ltl.specs.Ltl.{Ltl, block_at}
-use Rattle.cc_linear_language.specs.declared.item.Item.{Item}
-use Rattle.cc_linear_language.specs.declared.item.Item.TheVariants as item
-use Rattle.cc_linear_language.specs.declared.item.Item.TheVariants.{Label, Jump, IfNonzero, IfZero}
+use Rattle.cc_linear_language.specs.declared.item.LinearItem.{LinearItem}
+use Rattle.cc_linear_language.specs.declared.item.LinearItem.TheVariants as item
+use Rattle.cc_linear_language.specs.declared.item.LinearItem.TheVariants.{Label, Jump, IfNonzero, IfZero}
 use Rattle.cc_linear.specs.internal.Lays.{moves_then, operation_then, next, IsPassed}
 
 abbrev pub is_next : ℕ → List ℕ → Bool
@@ -16,7 +16,7 @@ is_next e [] = false
 is_next e (x ∷ xs) = x == e
 
 -- on to the label: it falls through where that comes next
-abbrev pub leads : ℕ → List ℕ → List Item → List Item
+abbrev pub leads : ℕ → List ℕ → List LinearItem → List LinearItem
 leads e order items = if is_next e order then items else Jump e ∷ items
 
 abbrev pub has_none : List Move → Bool
@@ -31,27 +31,27 @@ abbrev pub is_empty : Block → Bool
 is_empty block = is_nop block.operation && (has_none block.before && has_none block.after)
 
 -- an empty block that stands is an endless cycle, so its jump is never left out
-abbrev pub tail_of : (ℕ → ℕ) → Block → List ℕ → List Item → List Item
+abbrev pub tail_of : (ℕ → ℕ) → Block → List ℕ → List LinearItem → List LinearItem
 tail_of end block order items = if is_empty block then Jump (end (next block.operation)) ∷ items else leads (end (next block.operation)) order items
 
 -- falls through to whichever way comes next
-abbrev pub branch_then : (ℕ → ℕ) → (from taken other : ℕ) → List ℕ → List Item → List Item
+abbrev pub branch_then : (ℕ → ℕ) → (from taken other : ℕ) → List ℕ → List LinearItem → List LinearItem
 branch_then end from taken other order items = if is_next (end taken) order then IfZero from (end other) ∷ items else IfNonzero from (end taken) ∷ leads (end other) order items
 
-abbrev pub block_then : (ℕ → ℕ) → Block → Operation → List ℕ → List Item → List Item
+abbrev pub block_then : (ℕ → ℕ) → Block → Operation → List ℕ → List LinearItem → List LinearItem
 block_then end block (Branch from taken other) order items = moves_then block.before (branch_then end from taken other order items)
 block_then end block Return order items = moves_then block.before (item.Return ∷ items)
 block_then end block op order items = moves_then block.before (operation_then block.operation (moves_then block.after (tail_of end block order items)))
 
-abbrev pub laid_at : (ℕ → ℕ) → Option Block → List ℕ → List Item → List Item
+abbrev pub laid_at : (ℕ → ℕ) → Option Block → List ℕ → List LinearItem → List LinearItem
 laid_at end None order items = items
 laid_at end (Some block) order items = block_then end block block.operation order items
 
-abbrev pub laid : List Block → (ℕ → ℕ) → List ℕ → List Item
+abbrev pub laid : List Block → (ℕ → ℕ) → List ℕ → List LinearItem
 laid blocks end [] = []
 laid blocks end (l ∷ ls) = Label l ∷ laid_at end (block_at blocks l) ls (laid blocks end ls)
 
-abbrev pub linear_code : Ltl → (ℕ → ℕ) → List ℕ → List Item
+abbrev pub linear_code : Ltl → (ℕ → ℕ) → List ℕ → List LinearItem
 linear_code ltl end order = leads (end ltl.entry) order (laid ltl.blocks end order)
 
 -- the ends of a block's successors stand in the order

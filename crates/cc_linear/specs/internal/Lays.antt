@@ -5,17 +5,17 @@ use Rattle.cc_ltl.specs.declared.operation.Operation.{Operation}
 use Rattle.cc_ltl.specs.declared.operation.Operation.TheVariants.{Nop, Const, Unary, Binary, Load, Store, Call, Read, Write, Branch, Return}
 use Rattle.cc_ltl.specs.declared.block.Block.{Block}
 use Rattle.cc_ltl.specs.Ltl.{Ltl, block_at}
-use Rattle.cc_linear_language.specs.declared.item.Item.{Item}
-use Rattle.cc_linear_language.specs.declared.item.Item.TheVariants as item
-use Rattle.cc_linear_language.specs.declared.item.Item.TheVariants.{Label, Jump, IfNonzero, IfZero, Copy}
+use Rattle.cc_linear_language.specs.declared.item.LinearItem.{LinearItem}
+use Rattle.cc_linear_language.specs.declared.item.LinearItem.TheVariants as item
+use Rattle.cc_linear_language.specs.declared.item.LinearItem.TheVariants.{Label, Jump, IfNonzero, IfZero, Copy}
 use Rattle.cc_linear_language.specs.Linear.{place}
 
-abbrev pub moves_then : List Move → List Item → List Item
+abbrev pub moves_then : List Move → List LinearItem → List LinearItem
 moves_then [] items = items
 moves_then (m ∷ ms) items = Copy m ∷ moves_then ms items
 
 -- an operation with one successor, without it
-abbrev pub operation_then : Operation → List Item → List Item
+abbrev pub operation_then : Operation → List LinearItem → List LinearItem
 operation_then (Nop n) items = items
 operation_then (Const to word n) items = item.Const to word ∷ items
 operation_then (Unary operator to from n) items = item.Unary operator to from ∷ items
@@ -29,12 +29,12 @@ operation_then (Branch from taken other) items = items
 operation_then Return items = item.Return ∷ items
 
 -- the list goes on at this label: it stands next, or a jump leads there
-abbrev pub GoesOnAt : List Item → List Item → ℕ → Type 0
-GoesOnAt code items l = (place code l ≡ items) ⊎ ((behind : List Item) × (items ≡ Jump l ∷ behind))
+abbrev pub GoesOnAt : List LinearItem → List LinearItem → ℕ → Type 0
+GoesOnAt code items l = (place code l ≡ items) ⊎ ((behind : List LinearItem) × (items ≡ Jump l ∷ behind))
 
 -- the label stands in the list
-abbrev pub StandsIn : List Item → ℕ → Type 0
-StandsIn code l = (behind : List Item) × (place code l ≡ Label l ∷ behind)
+abbrev pub StandsIn : List LinearItem → ℕ → Type 0
+StandsIn code l = (behind : List LinearItem) × (place code l ≡ Label l ∷ behind)
 
 abbrev pub next : Operation → ℕ
 next (Nop n) = n
@@ -55,31 +55,31 @@ IsNop _ = ⊥
 
 -- A block with one successor stands at its label: its moves and operation, then the list goes on where its successor ends.
 -- An empty nop stands there only as a jump, so that an endless cycle of such is not lost.
-pub record Straight (code : List Item) (end : ℕ → ℕ) (l : ℕ) (block : Block) : Type 0 where
-  pub tail : List Item
+pub record Straight (code : List LinearItem) (end : ℕ → ℕ) (l : ℕ) (block : Block) : Type 0 where
+  pub tail : List LinearItem
   pub items : place code l ≡ Label l ∷ moves_then block.before (operation_then block.operation (moves_then block.after tail))
   pub on : GoesOnAt code tail (end (next block.operation))
   pub stands : StandsIn code (end (next block.operation))
-  pub jumps : IsNop block.operation → block.before ≡ [] → block.after ≡ [] → (behind : List Item) × (tail ≡ Jump (end (next block.operation)) ∷ behind)
+  pub jumps : IsNop block.operation → block.before ≡ [] → block.after ≡ [] → (behind : List LinearItem) × (tail ≡ Jump (end (next block.operation)) ∷ behind)
 
 -- a branch on the register being nonzero or zero, and the other way follows
-abbrev pub BranchesTo : List Item → (ℕ → ℕ) → ℕ → List Move → (from taken other : ℕ) → List Item → Type 0
+abbrev pub BranchesTo : List LinearItem → (ℕ → ℕ) → ℕ → List Move → (from taken other : ℕ) → List LinearItem → Type 0
 BranchesTo code end l before from taken other tail =
     ((place code l ≡ Label l ∷ moves_then before (IfNonzero from (end taken) ∷ tail)) × GoesOnAt code tail (end other))
     ⊎ ((place code l ≡ Label l ∷ moves_then before (IfZero from (end other) ∷ tail)) × GoesOnAt code tail (end taken))
 
-pub record Branches (code : List Item) (end : ℕ → ℕ) (l : ℕ) (block : Block) (from taken other : ℕ) : Type 0 where
-  pub tail : List Item
+pub record Branches (code : List LinearItem) (end : ℕ → ℕ) (l : ℕ) (block : Block) (from taken other : ℕ) : Type 0 where
+  pub tail : List LinearItem
   pub branches : BranchesTo code end l block.before from taken other tail
   pub after : block.after ≡ []
   pub taken_stands : StandsIn code (end taken)
   pub other_stands : StandsIn code (end other)
 
-pub record Leaves (code : List Item) (l : ℕ) (block : Block) : Type 0 where
-  pub tail : List Item
+pub record Leaves (code : List LinearItem) (l : ℕ) (block : Block) : Type 0 where
+  pub tail : List LinearItem
   pub items : place code l ≡ Label l ∷ moves_then block.before (item.Return ∷ tail)
 
-abbrev pub Stands : List Item → (ℕ → ℕ) → ℕ → Block → Operation → Type 0
+abbrev pub Stands : List LinearItem → (ℕ → ℕ) → ℕ → Block → Operation → Type 0
 Stands code end l block (Branch from taken other) = Branches code end l block from taken other
 Stands code end l block Return = Leaves code l block
 Stands code end l block _ = Straight code end l block
@@ -100,7 +100,7 @@ pub record IsPassed (end far : ℕ → ℕ) (l : ℕ) (block : Block) : Type 0 w
   pub passes : Passes end far l block.operation
 
 -- end: where each label's chain of empty blocks leads; far: how far that is
-pub record Lays (ltl : Ltl) (code : List Item) (end far : ℕ → ℕ) (most : ℕ) : Type 0 where
+pub record Lays (ltl : Ltl) (code : List LinearItem) (end far : ℕ → ℕ) (most : ℕ) : Type 0 where
   pub low : (l : ℕ) → far l ≤ most
   pub entry : GoesOnAt code code (end ltl.entry)
   pub entry_stands : StandsIn code (end ltl.entry)

@@ -3,7 +3,7 @@ use Rattle.std.specs.Prelude.{◌≡◌, ℕ, suc, ◌<◌, ◌≤◌, Contains,
 use Rattle.cc_ltl.specs.declared.operation.Operation.{Operation}
 use Rattle.cc_ltl.specs.declared.operation.Operation.TheVariants.{Branch, Return}
 use Rattle.cc_ltl.specs.declared.block.Block.{Block}
-use Rattle.cc_linear_language.specs.declared.item.Item.{Item}
+use Rattle.cc_linear_language.specs.declared.item.LinearItem.{LinearItem}
 use Rattle.cc_linear.specs.internal.Lays.{next}
 use Rattle.cc_linear.specs.internal.Layout.{is_empty}
 use Rattle.cc_linear.specs.internal.Reached.{Ways, Leaves, One, Two}
@@ -54,7 +54,7 @@ listed_first [] = []
 listed_first (l ∷ ls) = l ∷ []
 
 -- an item, where there is one
-abbrev pub listed_items : Option Item → List Item
+abbrev pub listed_items : Option LinearItem → List LinearItem
 listed_items None = []
 listed_items (Some item) = item ∷ []
 

@@ -1,12 +1,12 @@
 -- What is made of a function: its blocks in some order, without the labels that nothing leads to.
 use Rattle.std.specs.Prelude.{◌≡◌, ℕ, List}
 use Rattle.cc_ltl.specs.Ltl.{Ltl}
-use Rattle.cc_linear_language.specs.declared.item.Item.{Item}
+use Rattle.cc_linear_language.specs.declared.item.LinearItem.{LinearItem}
 use Rattle.cc_linear.specs.Targets.{targets}
 use Rattle.cc_linear.specs.internal.Layout.{AreEnds, IsOrder, linear_code}
 use Rattle.cc_linear.specs.internal.Idle.{kept}
 
-pub record IsMadeOf (ltl : Ltl) (items : List Item) : Type 0 where
+pub record IsMadeOf (ltl : Ltl) (items : List LinearItem) : Type 0 where
   pub end : ℕ → ℕ
   pub far : ℕ → ℕ
   pub most : ℕ

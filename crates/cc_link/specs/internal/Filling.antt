@@ -1,25 +1,25 @@
 -- When items can be filled in, with the places of the functions as a list.
 use Rattle.std.specs.Prelude.{ℕ, ◌+◌, ◌*◌, ◌<◌, ◌≤◌, List, [], ◌∷◌, length, map, slice_index}
 use Rattle.std.specs.Borrow.{Bor}
-use Rattle.cc_emit.specs.declared.item.Item.{Item}
-use Rattle.cc_emit.specs.declared.item.Item.TheVariants.{Plain, Call, Go}
+use Rattle.cc_emit.specs.declared.item.PieceItem.{PieceItem}
+use Rattle.cc_emit.specs.declared.item.PieceItem.TheVariants.{Plain, Call, Go}
 use Rattle.cc_emit.specs.Contract.{IsPlace}
 
 -- what is lent
-abbrev pub lent : List (Bor (List Item)) → List (List Item)
-lent bodies = map (λ (b : Bor (List Item)). b.now) bodies
+abbrev pub lent : List (Bor (List PieceItem)) → List (List PieceItem)
+lent bodies = map (λ (b : Bor (List PieceItem)). b.now) bodies
 
 -- an item of a function of this many items leads to one of this many functions, or to an item or the end of its own
-abbrev pub StaysIn : (functions long : ℕ) → Item → Type 0
+abbrev pub StaysIn : (functions long : ℕ) → PieceItem → Type 0
 StaysIn functions long (Plain i) = Unit {0}
 StaysIn functions long (Call f) = f < functions
 StaysIn functions long (Go n) = n ≤ long
 
-abbrev pub StayIn : (functions long : ℕ) → List Item → Type 0
+abbrev pub StayIn : (functions long : ℕ) → List PieceItem → Type 0
 StayIn functions long [] = Unit {0}
 StayIn functions long (i ∷ is) = StaysIn functions long i × StayIn functions long is
 
-abbrev pub AllStayIn : (functions : ℕ) → List (List Item) → Type 0
+abbrev pub AllStayIn : (functions : ℕ) → List (List PieceItem) → Type 0
 AllStayIn functions [] = Unit {0}
 AllStayIn functions (f ∷ fs) = StayIn functions (length f) f × AllStayIn functions fs
 
@@ -28,23 +28,23 @@ abbrev pub ArePlaces : List ℕ → Type 0
 ArePlaces places = (f : ℕ) → f < length places → IsPlace (slice_index places f)
 
 -- where an item leads is a place
-abbrev pub Leads : (places : List ℕ) (place : ℕ) → Item → Type 0
+abbrev pub Leads : (places : List ℕ) (place : ℕ) → PieceItem → Type 0
 Leads places place (Plain i) = Unit {0}
 Leads places place (Call f) = (f < length places) × IsPlace (slice_index places f)
 Leads places place (Go n) = IsPlace (place + 4 * n)
 
 -- items at a place, with a place after the last
-pub record CanStand (functions place : ℕ) (items : List Item) : Type 0 where
+pub record CanStand (functions place : ℕ) (items : List PieceItem) : Type 0 where
   pub from : IsPlace place
   pub to : IsPlace (place + 4 * length items)
   pub stay : StayIn functions (length items) items
 
 -- where functions stand, the first at the address a
-abbrev pub places_from : (a : ℕ) → List (List Item) → List ℕ
+abbrev pub places_from : (a : ℕ) → List (List PieceItem) → List ℕ
 places_from a [] = []
 places_from a (f ∷ fs) = a ∷ places_from (a + 4 * length f) fs
 
 -- each of some functions can stand there
-abbrev pub CanAllStand : (functions a : ℕ) → List (List Item) → Type 0
+abbrev pub CanAllStand : (functions a : ℕ) → List (List PieceItem) → Type 0
 CanAllStand functions a [] = Unit {0}
 CanAllStand functions a (f ∷ fs) = CanStand functions a f × CanAllStand functions (a + 4 * length f) fs

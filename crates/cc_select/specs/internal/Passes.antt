@@ -3,8 +3,8 @@ use Rattle.std.specs.Prelude.{ℕ, Bool, true, false, not, ◌&&◌, ◌==◌, i
 use Rattle.cc_words.specs.declared.operators.Unary.TheVariants.{IsZero}
 use Rattle.cc_words.specs.declared.operators.Binary as binary
 use Rattle.cc_words.specs.declared.operators.Binary.TheVariants as operators
-use Rattle.cc_linear_language.specs.declared.item.Item as linear
-use Rattle.cc_linear_language.specs.declared.item.Item.TheVariants.{Label, IfNonzero, IfZero, Const, Unary, Binary}
+use Rattle.cc_linear_language.specs.declared.item.LinearItem.{LinearItem}
+use Rattle.cc_linear_language.specs.declared.item.LinearItem.TheVariants.{Label, IfNonzero, IfZero, Const, Unary, Binary}
 use Rattle.cc_select.specs.declared.step.Step.{Step}
 use Rattle.cc_select.specs.declared.step.Step.TheVariants.{One, Immediate, Branch, BranchImmediate}
 use Rattle.cc_select.specs.Immediates.{is_comparison, gains}
@@ -77,7 +77,7 @@ first_branch t (step ∷ next ∷ steps) = branch_of t step (test_in next) (next
 -- ---- threading
 
 -- the label to which a branch leads
-abbrev pub branched_to : linear.Item → Option ℕ
+abbrev pub branched_to : LinearItem → Option ℕ
 branched_to (IfNonzero from to) = Some to
 branched_to (IfZero from to) = Some to
 branched_to item = None

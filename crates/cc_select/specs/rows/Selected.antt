@@ -11,9 +11,9 @@ use Rattle.cc_simulation.specs.Run.{Goes}
 use Rattle.cc_ltl.specs.declared.location.Location.TheVariants.{Register}
 use Rattle.cc_ltl.specs.declared.operation.Move.TheVariants.{Between}
 use Rattle.cc_ltl.specs.Ltl.{Locations, put}
-use Rattle.cc_linear_language.specs.declared.item.Item as linear
-use Rattle.cc_linear_language.specs.declared.item.Item.TheVariants.{Label, Jump, IfNonzero, IfZero, Copy, Const, Unary, Binary, Load, Store, Call, Return}
-use Rattle.cc_select.specs.declared.step.Immediate.TheVariants as immediate
+use Rattle.cc_linear_language.specs.declared.item.LinearItem.{LinearItem}
+use Rattle.cc_linear_language.specs.declared.item.LinearItem.TheVariants.{Label, Jump, IfNonzero, IfZero, Copy, Const, Unary, Binary, Load, Store, Call, Return}
+use Rattle.cc_select.specs.declared.step.WordOperator.TheVariants as immediate
 use Rattle.cc_select.specs.declared.step.Step.{Step}
 use Rattle.cc_select.specs.declared.step.Step.TheVariants.{One, Immediate, LoadAt, StoreAt, Branch, BranchImmediate}
 use Rattle.cc_select.specs.Immediates.{has_word, immediate_of, immediate_of_left, apply_immediate}
@@ -227,7 +227,7 @@ argument = refl
 -- ---- branches on constants
 
 -- behind a test: 0, or at its label 1
-abbrev ends : List linear.Item
+abbrev ends : List LinearItem
 ends = Const 10 0 ∷ Return ∷ Label 1 ∷ Const 10 1 ∷ Return ∷ []
 
 abbrev ends_selected : List Step
@@ -307,7 +307,7 @@ another_register = refl
 -- ---- a loop: its back jump asks for a second sweep; the constant in it goes, those before it stay, and its test goes before its label and into
 -- its back jump
 
-abbrev loop : List linear.Item
+abbrev loop : List LinearItem
 loop = Const 18 10 ∷ Const 19 0 ∷ Label 7 ∷ IfZero 18 9 ∷ Binary operators.Add 19 19 18 ∷ Const 7 1 ∷ Binary operators.Sub 18 18 7 ∷ Jump 7 ∷ Label 9 ∷ Copy (Between 10 19) ∷ Return ∷ []
 
 loop_selected : selected loop

@@ -2,20 +2,20 @@
 use Rattle.std.specs.Prelude.{◌≡◌, refl, true, Some, None, List, [], ◌∷◌}
 use Rattle.cc_words.specs.declared.operators.Binary.TheVariants as operators
 use Rattle.cc_ltl.specs.declared.operation.Move.TheVariants.{Between}
-use Rattle.cc_linear_language.specs.declared.item.Item.{Item}
-use Rattle.cc_linear_language.specs.declared.item.Item.TheVariants.{Label, Jump, IfNonzero, IfZero, Copy, Const, Binary, Write, Return}
+use Rattle.cc_linear_language.specs.declared.item.LinearItem.{LinearItem}
+use Rattle.cc_linear_language.specs.declared.item.LinearItem.TheVariants.{Label, Jump, IfNonzero, IfZero, Copy, Const, Binary, Write, Return}
 use Rattle.cc_select.specs.declared.step.Step.TheVariants.{One, Branch}
 use Rattle.cc_select.specs.Threading.{tests, threaded}
 use Rattle.cc_select.specs.Table.{table}
 use Rattle.cc_select.specs.Selection.{selected}
 
 -- where two ways meet, x7 is tested: on at label 3 where it is not 0
-abbrev meeting : List Item
+abbrev meeting : List LinearItem
 meeting = Label 2 ∷ IfNonzero 7 3 ∷ Return ∷ Label 3 ∷ Write ∷ Return ∷ []
 
 -- ---- `a && b`: 0 where x10 is 0, else whether x11 is less than x12
 
-abbrev conjunction : List Item
+abbrev conjunction : List LinearItem
 conjunction = IfZero 10 1 ∷ Binary operators.LtS 7 11 12 ∷ Jump 2 ∷ Label 1 ∷ Const 7 0 ∷ meeting
 
 goes_before : tests conjunction 2 ≡ Some (IfNonzero 7 3)

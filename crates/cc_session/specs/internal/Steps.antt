@@ -3,8 +3,8 @@ use Rattle.std.specs.Prelude.{◌≡◌, ◌≢◌, ◌⊎◌, ◌<◌, ℕ, Boo
 use Rattle.std.specs.declared.alloc.Global.{Global}
 use Rattle.cc_script.specs.Fault.{fault_number}
 use Rattle.cc_script.specs.Reading.{Ahead, Between, HasMore, IsLine, IsNotRead}
-use Rattle.cc_script.specs.declared.script.Next.{Next}
-use Rattle.cc_script.specs.declared.script.Next.TheVariants.{Line, TooLong, End}
+use Rattle.cc_script.specs.declared.script.NextLine.{NextLine}
+use Rattle.cc_script.specs.declared.script.NextLine.TheVariants.{Line, TooLong, End}
 use Rattle.cc_script.specs.declared.fault.ScriptFault.{ScriptFault}
 use Rattle.cc_script.specs.declared.fault.ScriptFault.TheVariants.{BadLine, EndOfScript, ScriptTooLong, ReadFault, WriteFault}
 use Rattle.cc_history.specs.History.{Holder}
@@ -19,7 +19,7 @@ IsNoLine most lines before left fault =
     IsNotRead before left fault ⊎ ((fault ≡ ScriptTooLong) × (most ≡ Some lines) × IfSome before.rest (λ bytes. bytes ≢ []))
 
 -- a line that comes behind so many may be done
-abbrev pub MayFollow : (most : Option ℕ) (lines : ℕ) → Next → Type 0
+abbrev pub MayFollow : (most : Option ℕ) (lines : ℕ) → NextLine → Type 0
 MayFollow most lines (Line length) = most ≢ Some lines
 MayFollow most lines TooLong = most ≢ Some lines
 MayFollow most lines End = Unit {0}

@@ -19,7 +19,7 @@ use crate::parser::role::of_kind;
 use crate::parser::state::{At, Outer, Parser};
 use crate::parser::stop::{Refusal, Stop};
 use cc_ast::External;
-use cc_tokens::{Next, Token, next_token};
+use cc_tokens::{NextToken, Token, next_token};
 use std::mem::replace;
 
 /// The deepest level at which a statement or declaration may stand.
@@ -53,12 +53,12 @@ impl Parser {
         let mut at = 0;
         while at < text.len() {
             match next_token(text, at) {
-                Next::Token(token) => match self.advance(&Cursor { text, token }) {
+                NextToken::Token(token) => match self.advance(&Cursor { text, token }) {
                     Ok(()) => at = token.to,
                     Err(_) => return None,
                 },
-                Next::End => at = text.len(),
-                Next::Error(_, _) => return None,
+                NextToken::End => at = text.len(),
+                NextToken::Error(_, _) => return None,
             }
         }
         self.finished()

@@ -9,7 +9,7 @@ use cc_disk::Disk;
 use cc_history::{Asked, Command, Receipt};
 use cc_library::UnitMap;
 use cc_link::compile;
-use cc_pool::{Fresh, NoGate, Pool};
+use cc_pool::{FreshQueue, NoGate, Pool};
 use cc_service::{Book, BookFault, Client, Named, close};
 use std::alloc::Global;
 use std::marker::Brand;
@@ -230,7 +230,7 @@ fn run<N, D, R>(
     disk: D,
     base: UnitMap,
     blank: Blank,
-    queue: Fresh,
+    queue: FreshQueue,
     calls: &[(bool, Call)],
 ) -> Result<Played<D>, Fail>
 where
@@ -279,7 +279,7 @@ where
     R: Threads + Wait + Copy + Send + 'static,
 {
     let (disk, base) = found(alloc, disk)?;
-    let queue = Fresh::new(alloc)?;
+    let queue = FreshQueue::new(alloc)?;
     over(rt, alloc, disk, base, queue, calls)
 }
 
@@ -288,7 +288,7 @@ fn over<D, R>(
     alloc: Global,
     disk: D,
     base: UnitMap,
-    queue: Fresh,
+    queue: FreshQueue,
     calls: &[(bool, Call)],
 ) -> Result<Played<D>, Fail>
 where

@@ -3,7 +3,7 @@ ghost use Rattle.std.specs.Prelude.{◌≡◌, None, IfOk};
 
 use cc_disk::{Disk, MemoryDisk};
 use cc_journal::format;
-use cc_library::{Command, Edit, Library, LibraryFault, Name, SharedUnit};
+use cc_library::{LibraryCommand, Edit, Library, LibraryFault, Name, SharedUnit};
 use cc_rv32::image::{Code, Globals, Image};
 use cc_unit::{Source, StoredUnit};
 use std::alloc::Global;
@@ -60,15 +60,15 @@ pub fn next_byte(state: &mut u64) -> u8 {
 // The edit of a step.
 fn edit(alloc: Global, step: Step) -> Result<Edit, Fail> {
     let command = match step {
-        Step::Add(letter, word) => Command::Add(
+        Step::Add(letter, word) => LibraryCommand::Add(
             name(letter)?,
             SharedUnit::new(word_unit(alloc, word)?),
         ),
-        Step::Replace(letter, word) => Command::Replace(
+        Step::Replace(letter, word) => LibraryCommand::Replace(
             name(letter)?,
             SharedUnit::new(word_unit(alloc, word)?),
         ),
-        Step::Withdraw(letter) => Command::Withdraw(name(letter)?),
+        Step::Withdraw(letter) => LibraryCommand::Withdraw(name(letter)?),
         Step::Compact => return Ok(Edit::Compact),
     };
     Ok(Edit::Change(command))

@@ -1,7 +1,7 @@
 // Names, and the bytes of commands.
 use crate::library::helpers::{name, unit};
 use cc_library::{
-    Command, Kind, Name, ReadFault, body_length, body_of_command, command_body, read_command,
+    LibraryCommand, Kind, Name, ReadFault, body_length, body_of_command, command_body, read_command,
 };
 use cc_unit::StoredUnit;
 use std::alloc::Global;
@@ -77,8 +77,8 @@ fn certificate_of(alloc: Global, unit: &StoredUnit) -> Result<Option<Vec<u8>>, F
 fn certificate_read(alloc: Global, bytes: &[u8]) -> Result<Option<Vec<u8>>, Fail> {
     let command = read_command(alloc, bytes)?;
     match &command {
-        Command::Add(_, unit) | Command::Replace(_, unit) => certificate_of(alloc, unit.stored()),
-        Command::Withdraw(_) => Err(Fail::from("a Withdraw has no unit")),
+        LibraryCommand::Add(_, unit) | LibraryCommand::Replace(_, unit) => certificate_of(alloc, unit.stored()),
+        LibraryCommand::Withdraw(_) => Err(Fail::from("a Withdraw has no unit")),
     }
 }
 

@@ -1,7 +1,7 @@
 // What a `compact` makes room for. A unit of one word without source takes 25 bytes under a name of one letter.
 use crate::library::helpers::{Step, does, formatted, name, number, opened, steps_done, unit};
 use cc_disk::{Disk, FuseDisk, FuseMode};
-use cc_library::{Command, Library, SharedUnit};
+use cc_library::{LibraryCommand, Library, SharedUnit};
 use std::alloc::Global;
 use std::sync::Arc;
 use std::test::Fail;
@@ -40,7 +40,7 @@ fn up_to_the_last_byte(rt: HostRuntime) -> Result<(), Fail> {
     let alloc = rt.alloc();
     for count in 0..60 {
         let mut library = full(alloc, formatted(alloc, AREA)?)?;
-        let command = Command::Add(name(b'c')?, sized(alloc, count)?);
+        let command = LibraryCommand::Add(name(b'c')?, sized(alloc, count)?);
         let fits = count <= 25;
         assert!(rt; library.has_room_compacted(&command) == fits, "{count}");
         assert!(rt; library.is_mended_by_compact(&command) == fits, "{count}");
@@ -62,7 +62,7 @@ fn a_replace_needs_room_beside_the_old_unit(rt: HostRuntime) -> Result<(), Fail>
     let alloc = rt.alloc();
     let library = full(alloc, formatted(alloc, AREA)?)?;
     for (count, fits) in [(25usize, true), (26, false), (50, false)] {
-        let command = Command::Replace(name(b'a')?, sized(alloc, count)?);
+        let command = LibraryCommand::Replace(name(b'a')?, sized(alloc, count)?);
         assert!(rt; library.is_mended_by_compact(&command) == fits, "{count}");
     }
     Ok(())
@@ -72,7 +72,7 @@ fn a_replace_needs_room_beside_the_old_unit(rt: HostRuntime) -> Result<(), Fail>
 fn a_withdrawal(rt: HostRuntime) -> Result<(), Fail> {
     let alloc = rt.alloc();
     let mut library = full(alloc, formatted(alloc, AREA)?)?;
-    let command = Command::Withdraw(name(b'a')?);
+    let command = LibraryCommand::Withdraw(name(b'a')?);
     assert!(rt; library.is_mended_by_compact(&command));
     assert!(rt; does(alloc, &mut library, Step::Withdraw(b'a'))? == 34);
     assert!(rt; does(alloc, &mut library, Step::Compact)? == 0);
@@ -87,15 +87,15 @@ fn what_is_not_refused_by_34(rt: HostRuntime) -> Result<(), Fail> {
     let library = full(alloc, formatted(alloc, AREA)?)?;
     let small = sized(alloc, 0)?;
     for command in [
-        Command::Add(name(b'a')?, small.again()?),
-        Command::Replace(name(b'c')?, small.again()?),
-        Command::Withdraw(name(b'c')?),
+        LibraryCommand::Add(name(b'a')?, small.again()?),
+        LibraryCommand::Replace(name(b'c')?, small.again()?),
+        LibraryCommand::Withdraw(name(b'c')?),
     ] {
         assert!(rt; library.has_room_compacted(&command));
         assert!(rt; !library.is_mended_by_compact(&command));
     }
     let empty = opened(alloc, formatted(alloc, AREA)?)?;
-    let command = Command::Add(name(b'c')?, small);
+    let command = LibraryCommand::Add(name(b'c')?, small);
     assert!(rt; empty.has_room_compacted(&command));
     assert!(rt; !empty.is_mended_by_compact(&command));
     Ok(())
@@ -107,7 +107,7 @@ fn a_closed_library(rt: HostRuntime) -> Result<(), Fail> {
     let alloc = rt.alloc();
     let disk = FuseDisk::new(formatted(alloc, AREA)?, CALLS, FuseMode::Once);
     let mut library = full(alloc, disk)?;
-    let command = Command::Add(name(b'c')?, sized(alloc, 25)?);
+    let command = LibraryCommand::Add(name(b'c')?, sized(alloc, 25)?);
     for _ in 0..1000 {
         assert!(rt; library.is_mended_by_compact(&command));
     }

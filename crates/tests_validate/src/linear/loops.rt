@@ -1,7 +1,7 @@
 // What the turns of loops execute: the items from a label to a branch back to it hold the loop's own test, and those of what stands within.
 
 use super::helpers::{linear_of, shared_unit};
-use cc_linear_language::Item;
+use cc_linear_language::LinearItem;
 use std::alloc::Global;
 use std::test::Fail;
 
@@ -9,23 +9,23 @@ use std::test::Fail;
 type Turn = (usize, usize);
 
 // Where an item branches to.
-fn target(item: Item) -> Option<u32> {
+fn target(item: LinearItem) -> Option<u32> {
     match item {
-        Item::IfNonzero { to, .. } | Item::IfZero { to, .. } => Some(to),
+        LinearItem::IfNonzero { to, .. } | LinearItem::IfZero { to, .. } => Some(to),
         _ => None,
     }
 }
 
 // The branches and jumps among items, from the label on; none where the label does not stand.
-fn turn(items: &[Item], head: u32) -> Option<Turn> {
+fn turn(items: &[LinearItem], head: u32) -> Option<Turn> {
     let mut found = false;
     let mut branches = 0_usize;
     let mut jumps = 0_usize;
     for item in items {
         match item {
-            Item::Label { label } => found = found || *label == head,
-            Item::Jump { .. } if found => jumps = jumps.saturating_add(1),
-            Item::IfNonzero { .. } | Item::IfZero { .. } if found => {
+            LinearItem::Label { label } => found = found || *label == head,
+            LinearItem::Jump { .. } if found => jumps = jumps.saturating_add(1),
+            LinearItem::IfNonzero { .. } | LinearItem::IfZero { .. } if found => {
                 branches = branches.saturating_add(1);
             }
             _ => {}
@@ -35,7 +35,7 @@ fn turn(items: &[Item], head: u32) -> Option<Turn> {
 }
 
 // Whether these are the turns of the branches back, in their order.
-fn are_turns(items: &[Item], turns: &[Turn]) -> bool {
+fn are_turns(items: &[LinearItem], turns: &[Turn]) -> bool {
     let mut seen = 0_usize;
     let mut same = true;
     for i in 0..items.len() {

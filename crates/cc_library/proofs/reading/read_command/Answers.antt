@@ -1,7 +1,7 @@
 -- What is read is spelled, and what is spelled is read.
 use Rattle.std.proofs.Common.{ℕ, List, get_or, ◌<◌, subst, arith}
 use Rattle.std.specs.Prelude.{Result, Ok, Err, IfOk}
-use Rattle.cc_library.specs.declared.command.Command.{Command}
+use Rattle.cc_library.specs.declared.command.LibraryCommand.{LibraryCommand}
 use Rattle.cc_library.specs.declared.reading.ReadFault.{ReadFault}
 use Rattle.cc_library.specs.Body.{Spells}
 use Rattle.cc_library.specs.internal.Reading.{command_in}
@@ -10,7 +10,7 @@ use Rattle.cc_library.proofs.Fields.{from_index}
 use Rattle.cc_library.proofs.Commands.{command_takes, spelled_is_read}
 use Rattle.cc_library.proofs.reading.read_command.Goals as goal
 
-is_found : (bytes : List ℕ) (r : Result Command ReadFault) → ((i : ℕ) → get_or bytes i 0 < 256) → Gives (λ c. c) r (command_in bytes) → IfOk r (λ c. Spells bytes c)
+is_found : (bytes : List ℕ) (r : Result LibraryCommand ReadFault) → ((i : ℕ) → get_or bytes i 0 < 256) → Gives (λ c. c) r (command_in bytes) → IfOk r (λ c. Spells bytes c)
 is_found bytes (Ok command) below given = command_takes bytes command (from_index 256 bytes below) given
 is_found bytes (Err e) below given = tt
 

@@ -5,7 +5,7 @@ use Rattle.std.specs.Arc.{arc_value}
 use Rattle.std.specs.Borrow.{Bor}
 use Rattle.cc_ast.specs.Source.{source}
 use Rattle.cc_ast.specs.declared.unit.Unit as parsed
-use Rattle.cc_emit.specs.declared.item.Item.{Item}
+use Rattle.cc_emit.specs.declared.item.PieceItem.{PieceItem}
 use Rattle.cc_emit.specs.Piece.{Piece}
 use Rattle.cc_link.specs.declared.fault.LinkFault.TheVariants.{OutOfMemory}
 use Rattle.cc_link.specs.Link.{code_words, most_code}
@@ -33,7 +33,7 @@ returns-then-not-fits-clause-refused c =
     let fs = c.as_slice-2.result.now in
     let os = c.as_slice.result.now in
     let o : lent_pieces os ≡ in_order ps 0 c.functions.result = ap (λ (l : List (Bor Piece)). lent_pieces l) c.as_slice.ensures.value ∙ c.in-Ok.ensures.ordered in
-    let i : lent fs ≡ all_items (lent_pieces os) = ap (λ (l : List (Bor (List Item))). lent l) c.as_slice-2.ensures.value ∙ c.in-Ok-all_items.ensures in
+    let i : lent fs ≡ all_items (lent_pieces os) = ap (λ (l : List (Bor (List PieceItem))). lent l) c.as_slice-2.ensures.value ∙ c.in-Ok-all_items.ensures in
     let large : most_code < code_words (lent fs) = elim (cases_lt most_code (code_words (lent fs))) [ inl lt ↦ lt | inr le ↦ absurd (let d : false ≡ true = c.if-not-fits.ensures.1 le in cc) ] in
     inr (ap (λ (v : parsed.Unit). linked (source v) ps) (sym c.deref-unit.ensures) ∙ size_refused s ps c.functions.result a b c.functions.ensures os fs c.in-Ok.ensures.none o i large)
 
@@ -47,7 +47,7 @@ stored-made-requires-clause-count c =
     let fs = c.as_slice-3.result.now in
     let os = c.as_slice-4.result.now in
     let o : lent_pieces os ≡ in_order ps 0 c.functions.result = ap (λ (l : List (Bor Piece)). lent_pieces l) c.as_slice-4.ensures.value ∙ c.in-Ok.ensures.ordered in
-    let i : lent fs ≡ all_items (lent_pieces os) = ap (λ (l : List (Bor (List Item))). lent l) c.as_slice-3.ensures.value ∙ c.in-Ok-all_items.ensures ∙ ap (λ (l : List (Bor Piece)). all_items (lent_pieces l)) (c.as_slice.ensures.value ∙ sym c.as_slice-4.ensures.value) in
+    let i : lent fs ≡ all_items (lent_pieces os) = ap (λ (l : List (Bor (List PieceItem))). lent l) c.as_slice-3.ensures.value ∙ c.in-Ok-all_items.ensures ∙ ap (λ (l : List (Bor Piece)). all_items (lent_pieces l)) (c.as_slice.ensures.value ∙ sym c.as_slice-4.ensures.value) in
     count_is s ps c.functions.result a b c.functions.ensures os fs c.in-Ok.ensures.none o i
 
 pub stored-made-requires-clause-stay : goal.stored-made-requires-clause-stay
@@ -60,7 +60,7 @@ stored-made-requires-clause-stay c =
     let fs = c.as_slice-3.result.now in
     let os = c.as_slice-4.result.now in
     let o : lent_pieces os ≡ in_order ps 0 c.functions.result = ap (λ (l : List (Bor Piece)). lent_pieces l) c.as_slice-4.ensures.value ∙ c.in-Ok.ensures.ordered in
-    let i : lent fs ≡ all_items (lent_pieces os) = ap (λ (l : List (Bor (List Item))). lent l) c.as_slice-3.ensures.value ∙ c.in-Ok-all_items.ensures ∙ ap (λ (l : List (Bor Piece)). all_items (lent_pieces l)) (c.as_slice.ensures.value ∙ sym c.as_slice-4.ensures.value) in
+    let i : lent fs ≡ all_items (lent_pieces os) = ap (λ (l : List (Bor (List PieceItem))). lent l) c.as_slice-3.ensures.value ∙ c.in-Ok-all_items.ensures ∙ ap (λ (l : List (Bor Piece)). all_items (lent_pieces l)) (c.as_slice.ensures.value ∙ sym c.as_slice-4.ensures.value) in
     let laws = c.unit_laws.ensures in
     let tree = c.externals-externals.ensures in
     stay_is s ps c.functions.result a b c.functions.ensures os fs c.in-Ok.ensures.none o i laws.tokens laws.trees laws.meanings laws.sized tree.spelled tree.typed tree.limits c.in_default.ensures.kept
@@ -75,7 +75,7 @@ stored-made-requires-clause-few_functions c =
     let fs = c.as_slice-3.result.now in
     let os = c.as_slice-4.result.now in
     let o : lent_pieces os ≡ in_order ps 0 c.functions.result = ap (λ (l : List (Bor Piece)). lent_pieces l) c.as_slice-4.ensures.value ∙ c.in-Ok.ensures.ordered in
-    let i : lent fs ≡ all_items (lent_pieces os) = ap (λ (l : List (Bor (List Item))). lent l) c.as_slice-3.ensures.value ∙ c.in-Ok-all_items.ensures ∙ ap (λ (l : List (Bor Piece)). all_items (lent_pieces l)) (c.as_slice.ensures.value ∙ sym c.as_slice-4.ensures.value) in
+    let i : lent fs ≡ all_items (lent_pieces os) = ap (λ (l : List (Bor (List PieceItem))). lent l) c.as_slice-3.ensures.value ∙ c.in-Ok-all_items.ensures ∙ ap (λ (l : List (Bor Piece)). all_items (lent_pieces l)) (c.as_slice.ensures.value ∙ sym c.as_slice-4.ensures.value) in
     few_is s ps c.functions.result a b c.functions.ensures os fs c.in-Ok.ensures.none o i c.externals-externals.ensures.limits
 
 pub new-requires-clause-agrees : goal.new-requires-clause-agrees
@@ -88,9 +88,9 @@ new-requires-clause-agrees c =
     let fs = c.as_slice-3.result.now in
     let os = c.as_slice-4.result.now in
     let o : lent_pieces os ≡ in_order ps 0 c.functions.result = ap (λ (l : List (Bor Piece)). lent_pieces l) c.as_slice-4.ensures.value ∙ c.in-Ok.ensures.ordered in
-    let i : lent fs ≡ all_items (lent_pieces os) = ap (λ (l : List (Bor (List Item))). lent l) c.as_slice-3.ensures.value ∙ c.in-Ok-all_items.ensures ∙ ap (λ (l : List (Bor Piece)). all_items (lent_pieces l)) (c.as_slice.ensures.value ∙ sym c.as_slice-4.ensures.value) in
+    let i : lent fs ≡ all_items (lent_pieces os) = ap (λ (l : List (Bor (List PieceItem))). lent l) c.as_slice-3.ensures.value ∙ c.in-Ok-all_items.ensures ∙ ap (λ (l : List (Bor Piece)). all_items (lent_pieces l)) (c.as_slice.ensures.value ∙ sym c.as_slice-4.ensures.value) in
     let few : code_words (lent fs) ≤ most_code =
-    subst (λ (l : List (Bor (List Item))). code_words (lent l) ≤ most_code) (c.as_slice-2.ensures.value ∙ sym c.as_slice-3.ensures.value) (c.if-not-fits.ensures.0 refl) in
+    subst (λ (l : List (Bor (List PieceItem))). code_words (lent l) ≤ most_code) (c.as_slice-2.ensures.value ∙ sym c.as_slice-3.ensures.value) (c.if-not-fits.ensures.0 refl) in
     let tree = c.externals-externals.ensures in
     agree_is s ps c.functions.result a b c.functions.ensures os fs c.in-Ok.ensures.none o i c.linked_units_agree.ensures tree.spelled (record { typed = tree.typed; limits = tree.limits }) c.in_default.ensures.kept (arc_value c.in_ok-made.field-0) few c.in_ok-made.ensures
 
@@ -104,9 +104,9 @@ new-requires-clause-made c =
     let fs = c.as_slice-3.result.now in
     let os = c.as_slice-4.result.now in
     let o : lent_pieces os ≡ in_order ps 0 c.functions.result = ap (λ (l : List (Bor Piece)). lent_pieces l) c.as_slice-4.ensures.value ∙ c.in-Ok.ensures.ordered in
-    let i : lent fs ≡ all_items (lent_pieces os) = ap (λ (l : List (Bor (List Item))). lent l) c.as_slice-3.ensures.value ∙ c.in-Ok-all_items.ensures ∙ ap (λ (l : List (Bor Piece)). all_items (lent_pieces l)) (c.as_slice.ensures.value ∙ sym c.as_slice-4.ensures.value) in
+    let i : lent fs ≡ all_items (lent_pieces os) = ap (λ (l : List (Bor (List PieceItem))). lent l) c.as_slice-3.ensures.value ∙ c.in-Ok-all_items.ensures ∙ ap (λ (l : List (Bor Piece)). all_items (lent_pieces l)) (c.as_slice.ensures.value ∙ sym c.as_slice-4.ensures.value) in
     let few : code_words (lent fs) ≤ most_code =
-    subst (λ (l : List (Bor (List Item))). code_words (lent l) ≤ most_code) (c.as_slice-2.ensures.value ∙ sym c.as_slice-3.ensures.value) (c.if-not-fits.ensures.0 refl) in
+    subst (λ (l : List (Bor (List PieceItem))). code_words (lent l) ≤ most_code) (c.as_slice-2.ensures.value ∙ sym c.as_slice-3.ensures.value) (c.if-not-fits.ensures.0 refl) in
     let tree = c.externals-externals.ensures in
     record {
       of = s;
@@ -127,8 +127,8 @@ returns-clause-answer c =
     let fs = c.as_slice-3.result.now in
     let os = c.as_slice-4.result.now in
     let o : lent_pieces os ≡ in_order ps 0 c.functions.result = ap (λ (l : List (Bor Piece)). lent_pieces l) c.as_slice-4.ensures.value ∙ c.in-Ok.ensures.ordered in
-    let i : lent fs ≡ all_items (lent_pieces os) = ap (λ (l : List (Bor (List Item))). lent l) c.as_slice-3.ensures.value ∙ c.in-Ok-all_items.ensures ∙ ap (λ (l : List (Bor Piece)). all_items (lent_pieces l)) (c.as_slice.ensures.value ∙ sym c.as_slice-4.ensures.value) in
+    let i : lent fs ≡ all_items (lent_pieces os) = ap (λ (l : List (Bor (List PieceItem))). lent l) c.as_slice-3.ensures.value ∙ c.in-Ok-all_items.ensures ∙ ap (λ (l : List (Bor Piece)). all_items (lent_pieces l)) (c.as_slice.ensures.value ∙ sym c.as_slice-4.ensures.value) in
     let few : code_words (lent fs) ≤ most_code =
-    subst (λ (l : List (Bor (List Item))). code_words (lent l) ≤ most_code) (c.as_slice-2.ensures.value ∙ sym c.as_slice-3.ensures.value) (c.if-not-fits.ensures.0 refl) in
+    subst (λ (l : List (Bor (List PieceItem))). code_words (lent l) ≤ most_code) (c.as_slice-2.ensures.value ∙ sym c.as_slice-3.ensures.value) (c.if-not-fits.ensures.0 refl) in
     ap (λ (v : parsed.Unit). linked (source v) ps) (sym c.deref-unit.ensures)
     ∙ answer_is s ps c.functions.result a b c.functions.ensures os fs c.in-Ok.ensures.none o i (arc_value c.in_ok-made.field-0) few c.in_ok-made.ensures ∙ ap Ok (sym c.new.ensures)

@@ -3,7 +3,7 @@ use Rattle.std.specs.Arc.{arc_value}
 use Rattle.cc_ast.specs.Source.{source}
 use Rattle.cc_ast.specs.declared.unit.Unit.{Unit as Parsed}
 use Rattle.cc_types.specs.Typed.{defined_names}
-use Rattle.cc_core.specs.declared.fault.BuildFault.{BuildFault}
+use Rattle.cc_core.specs.declared.fault.BuildRefusal.{BuildRefusal}
 use Rattle.cc_core.specs.Fault.{RefusesPlan}
 use Rattle.cc_headline.specs.Plan.{IsPlan}
 use Rattle.cc_headline.specs.internal.Refusals.{refused_by}
@@ -12,7 +12,7 @@ use Rattle.cc_headline.proofs.build.CcBuildBuild.plan.Goals as goal
 
 pub returns-in-Err-clause-refused : goal.returns-in-Err-clause-refused
 returns-in-Err-clause-refused c =
-    subst (λ (z : BuildFault). RefusesPlan z (IsPlan c.args.source.now)) (sym (c.refusal.ensures ∙ ap refused_by c.number.ensures)) (refused c.args.source.now c.in-Err.fault c.in-Err.ensures.refused)
+    subst (λ (z : BuildRefusal). RefusesPlan z (IsPlan c.args.source.now)) (sym (c.refusal.ensures ∙ ap refused_by c.number.ensures)) (refused c.args.source.now c.in-Err.fault c.in-Err.ensures.refused)
 
 pub overflow_cast-functions : goal.overflow_cast-functions
 overflow_cast-functions c =

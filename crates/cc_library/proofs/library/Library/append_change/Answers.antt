@@ -8,7 +8,7 @@ use Rattle.cc_journal.specs.Commit.{FailsIn, IsCommitted, append_commit, area_be
 use Rattle.cc_journal.specs.Format.{HasAreaByte, records, room_of}
 use Rattle.cc_journal.specs.declared.fault.JournalFault.{JournalFault}
 use Rattle.cc_journal.specs.declared.fault.JournalFault.TheVariants as journal
-use Rattle.cc_library.specs.declared.command.Command.{Command}
+use Rattle.cc_library.specs.declared.command.LibraryCommand.{LibraryCommand}
 use Rattle.cc_library.specs.declared.fault.LibraryFault.{LibraryFault}
 use Rattle.cc_library.specs.declared.fault.LibraryFault.TheVariants.{Exists, Absent, OutOfMemory}
 use Rattle.cc_library.specs.Fault.{fault_of}
@@ -165,7 +165,7 @@ invariant_of-self-in-Err-append g c =
       same = closed_is c.in-Err-append.fault c.eq-self-inside.result i.log c.append.new.self c.eq-self-inside.ensures (sym c.self.invariant.same ∙ c.if-self.false) c.in-Err-append.ensures.untouched (λ p. c.in-Err-append.ensures.closes (ap Err p));
     }
 
-disk_err : {D : Type 0} (seen : D → List ℕ) (may_leave : D → List ℕ → Type 0) (command : Command) (old new : View D) (f : JournalFault)
+disk_err : {D : Type 0} (seen : D → List ℕ) (may_leave : D → List ℕ → Type 0) (command : LibraryCommand) (old new : View D) (f : JournalFault)
     → (f ≡ journal.DiskFault → (area_byte : ℕ) → HasAreaByte (seen old.disk) area_byte old.area → FailsIn (commit_of area_byte old command) (seen old.disk) (may_leave new.disk))
     → ChangesDisk {T = Unit {0}} seen may_leave command old new (Err (fault_of f))
 disk_err seen may_leave command old new journal.DiskFault fails = fails refl

@@ -4,13 +4,13 @@ use Rattle.cc_library.specs.Answers.{room_with}
 use Rattle.cc_library.specs.Body.{body_of}
 use Rattle.cc_library.specs.Compact.{compacted, room_compacted}
 use Rattle.cc_library.specs.Recovered.{View}
-use Rattle.cc_library.specs.declared.command.Command.{Command}
+use Rattle.cc_library.specs.declared.command.LibraryCommand.{LibraryCommand}
 use Rattle.cc_library.proofs.Compacting.{no_room_left, room_left}
 use Rattle.cc_library.proofs.library.Library.has_room_compacted.Given.{Over}
 use Rattle.cc_library.proofs.library.Library.has_room_compacted.Goals as goal
 
 -- what is said of the records and their room is said of the library that a `compact` leaves
-of_compacted : {D : Type 0} (old new : View D) (command : Command) (b : Bool) → new ≡ record { disk = new.disk; area = old.area; bodies = compacted old.units; units = old.units; closed = false }
+of_compacted : {D : Type 0} (old new : View D) (command : LibraryCommand) (b : Bool) → new ≡ record { disk = new.disk; area = old.area; bodies = compacted old.units; units = old.units; closed = false }
     → (IsTrue b → room_compacted old.units command ≤ old.area) × (room_compacted old.units command ≤ old.area → IsTrue b)
     → (IsTrue b → room_with new command ≤ new.area) × (room_with new command ≤ new.area → IsTrue b)
 of_compacted {D} old new command b is said = subst (λ (v : View D). (IsTrue b → room_with v command ≤ v.area) × (room_with v command ≤ v.area → IsTrue b)) (sym is) said

@@ -2,7 +2,7 @@
 -- recorded, all by `entering`. After the device has failed the book keeps the change that failed.
 use Rattle.std.proofs.Common.{◌≡◌, ◌+◌, ◌≤◌, false, IsTrue, List, [], ◌∷◌, ◌++◌, length, refl, sym, ap, ◌∙◌, subst}
 use Rattle.cc_disk.specs.Images.{LeavesOnly}
-use Rattle.cc_library.specs.declared.command.Command as made
+use Rattle.cc_library.specs.declared.command.LibraryCommand.{LibraryCommand}
 use Rattle.cc_library.specs.Body.{body_of}
 use Rattle.cc_library.specs.Answers.{room_with}
 use Rattle.cc_library.specs.Apply.{apply, after}
@@ -135,7 +135,7 @@ done_facts g c =
     (Change c.args.command) reply.Done c.enter-in-Ok-change-2.new.history.items c.enter-in-Ok-change-2.new.receipts.items c.enter-in-Ok-change-2.result c.self.invariant c.client.invariant stood replied c.in-Ok-change.ensures.agrees
     (r.0 ∙ ap (λ (h : List Entry). length h + 1) c.in-Ok-prepare.ensures.history) (r.1 ∙ entry)
     (c.enter-in-Ok-change-2.ensures.history ∙ (λ i. c.in-Ok-prepare.ensures.history i ++ sym r.1 i ∷ [])) (c.enter-in-Ok-change-2.ensures.receipts ∙ ap (λ (l : List Receipt). l ++ c.enter-in-Ok-change-2.result ∷ []) c.in-Ok-prepare.ensures.receipts)
-    c.enter-in-Ok-change-2.ensures.total c.enter-in-Ok-change-2.ensures.parts c.enter-in-Ok-change-2.ensures.amount (ap (λ (v : View g.row.D.Denot). v.units) c.in-Ok-change-2.ensures.changed.leaves ∙ ap (λ (k : made.Command). after c.self.inside.library.units k) c.in-Ok-change.ensures.change) (ap (λ (v : View g.row.D.Denot). v.closed) c.in-Ok-change-2.ensures.changed.leaves ∙ sym (sym c.is_closed.ensures ∙ c.if-is_closed.false)) (λ h image left. subst (λ (l : List made.Command). RecoversTo c.change-in-Done.new.self.units l image) (sym (c.self.invariant.idle (sym c.is_closed.ensures ∙ c.if-is_closed.false))) (c.in-Ok-change-2.ensures.changed.kept h image left))
+    c.enter-in-Ok-change-2.ensures.total c.enter-in-Ok-change-2.ensures.parts c.enter-in-Ok-change-2.ensures.amount (ap (λ (v : View g.row.D.Denot). v.units) c.in-Ok-change-2.ensures.changed.leaves ∙ ap (λ (k : LibraryCommand). after c.self.inside.library.units k) c.in-Ok-change.ensures.change) (ap (λ (v : View g.row.D.Denot). v.closed) c.in-Ok-change-2.ensures.changed.leaves ∙ sym (sym c.is_closed.ensures ∙ c.if-is_closed.false)) (λ h image left. subst (λ (l : List LibraryCommand). RecoversTo c.change-in-Done.new.self.units l image) (sym (c.self.invariant.idle (sym c.is_closed.ensures ∙ c.if-is_closed.false))) (c.in-Ok-change-2.ensures.changed.kept h image left))
 
 pub invariant_of-self-in-Ok-change-2 : goal.invariant_of-self-in-Ok-change-2
 invariant_of-self-in-Ok-change-2 g c = (done_facts g c).0
@@ -157,7 +157,7 @@ returns-in-Ok-change-2 g c =
     let recorded = (done_facts g c).2 in
     let done : IsDone before old c.args.command after_it new c.enter-in-Ok-change-2.result = record {
       asked = record { idle = idle; stands = recorded.stood; accepted = done_is_ok (apply before.library.units (change_of c.args.command)) (sym replied) };
-      fits = subst (λ (k : made.Command). room_with before.library k ≤ before.library.area) is answers.1;
+      fits = subst (λ (k : LibraryCommand). room_with before.library k ≤ before.library.area) is answers.1;
       recorded = recorded;
       library = c.in-Ok-change-2.ensures.changed.leaves ∙ (λ i. record { disk = c.change-in-Done.new.self.disk; area = before.library.area; bodies = before.library.bodies ++ body_of (is i) ∷ []; units = after before.library.units (is i); closed = false });
       failed = refl;
@@ -169,8 +169,8 @@ returns-in-Ok-change-2 g c =
           (subst (λ (h : Holder). IsBookChanged D before h c.args.command after_it new answered) c.client.view_is
           (record {
             answers = (done, answers.2);
-            disk = λ h. subst (λ (k : made.Command). ChangesDisk D.seen D.may_leave k before.library library answered) is (c.in-Ok-change-2.ensures.changed.disk h);
-            moments = λ h usable. subst (λ (k : made.Command). LeavesOnly D.moment D.left_since before.library.disk library.disk (RecoversOneOf before.library.units (after before.library.units k))) is
+            disk = λ h. subst (λ (k : LibraryCommand). ChangesDisk D.seen D.may_leave k before.library library answered) is (c.in-Ok-change-2.ensures.changed.disk h);
+            moments = λ h usable. subst (λ (k : LibraryCommand). LeavesOnly D.moment D.left_since before.library.disk library.disk (RecoversOneOf before.library.units (after before.library.units k))) is
                 (c.in-Ok-change-2.ensures.changed.moments h usable);
             kept = (done_facts g c).0.images;
           }));
@@ -207,13 +207,13 @@ returns-in-Err-DiskFault g c =
           (record {
             answers = (
               record { idle = idle; stands = stood; accepted = done_is_ok (apply before.library.units (change_of c.args.command)) (sym replied) },
-              subst (λ (k : made.Command). room_with before.library k ≤ before.library.area) is answers.1,
+              subst (λ (k : LibraryCommand). room_with before.library k ≤ before.library.area) is answers.1,
               answers.2,
               λ k. record { base = before.base; library = leaves k; history = c.in-Ok-prepare.ensures.history k; failed = facts.0 k },
               λ k. record { number = old.number; receipts = c.in-Ok-prepare.ensures.receipts k },
             );
-            disk = λ h. subst (λ (k : made.Command). ChangesDisk {T = Receipt} D.seen D.may_leave k before.library library (Err DiskFault)) is (fails h);
-            moments = λ h usable. subst (λ (k : made.Command). LeavesOnly D.moment D.left_since before.library.disk library.disk (RecoversOneOf before.library.units (after before.library.units k))) is
+            disk = λ h. subst (λ (k : LibraryCommand). ChangesDisk {T = Receipt} D.seen D.may_leave k before.library library (Err DiskFault)) is (fails h);
+            moments = λ h usable. subst (λ (k : LibraryCommand). LeavesOnly D.moment D.left_since before.library.disk library.disk (RecoversOneOf before.library.units (after before.library.units k))) is
                 (c.change-in-Done.ensures.changed.moments h usable);
             kept = facts.1.images;
           }));

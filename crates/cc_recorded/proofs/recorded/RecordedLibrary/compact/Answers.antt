@@ -1,7 +1,7 @@
 -- A compaction of the library, as the book sees it: the map stays, and no change has failed where the device was called.
 use Rattle.std.proofs.Common.{◌≡◌, false, List, IsTrue, Result, Ok, Err, sym, ap, subst}
 use Rattle.cc_library.specs.Apply.{Units}
-use Rattle.cc_library.specs.declared.command.Command as made
+use Rattle.cc_library.specs.declared.command.LibraryCommand.{LibraryCommand}
 use Rattle.cc_library.specs.Recovered.{View}
 use Rattle.cc_recorded.specs.Book.{BookView, RecoversTo}
 use Rattle.cc_recorded.specs.Changed.{IsBookCompacted}
@@ -26,7 +26,7 @@ returns g c =
             moments = e.moments;
             kept = λ h image left.
                 subst (λ (u : Units). RecoversTo u before.failed image) (sym (ap (λ (v : View g.row.D.Denot). v.units) e.leaves))
-                (subst (λ (l : List made.Command). RecoversTo before.library.units l image) (sym (c.self.invariant.idle usable)) (e.images h usable image left));
+                (subst (λ (l : List LibraryCommand). RecoversTo before.library.units l image) (sym (c.self.invariant.idle usable)) (e.images h usable image left));
           });
     }
 
@@ -47,6 +47,6 @@ returns-in-Err-DiskFault g c =
             moments = e.moments;
             kept = λ h image left.
                 subst (λ (u : Units). RecoversTo u before.failed image) (sym (ap (λ (v : View g.row.D.Denot). v.units) e.leaves))
-                (subst (λ (l : List made.Command). RecoversTo before.library.units l image) (sym (c.self.invariant.idle usable)) (e.images h usable image left));
+                (subst (λ (l : List LibraryCommand). RecoversTo before.library.units l image) (sym (c.self.invariant.idle usable)) (e.images h usable image left));
           });
     }

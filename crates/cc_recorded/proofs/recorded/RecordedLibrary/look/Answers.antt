@@ -1,6 +1,6 @@
 -- The one exit that puts an entry: as at a commit, by `entering`. A look hands in no unit and changes nothing.
 use Rattle.std.proofs.Common.{◌≡◌, ◌+◌, List, [], ◌∷◌, ◌++◌, length, refl, sym, ap, ◌∙◌, subst}
-use Rattle.cc_library.specs.declared.command.Command as made
+use Rattle.cc_library.specs.declared.command.LibraryCommand.{LibraryCommand}
 use Rattle.cc_library.specs.Apply.{after_all}
 use Rattle.cc_history.specs.declared.entry.Entry.{Entry}
 use Rattle.cc_history.specs.declared.entry.Receipt.{Receipt}
@@ -31,7 +31,7 @@ facts g c =
     c.args.asked answer c.enter.new.history.items c.enter.new.receipts.items c.enter.result c.self.invariant c.client.invariant stood refl (look_agrees c.args.asked c.requires)
     (r.0 ∙ ap (λ (h : List Entry). length h + 1) c.in-Ok-prepare.ensures.history) (r.1 ∙ entry)
     (c.enter.ensures.history ∙ (λ i. c.in-Ok-prepare.ensures.history i ++ sym r.1 i ∷ [])) (c.enter.ensures.receipts ∙ ap (λ (l : List Receipt). l ++ c.enter.result ∷ []) c.in-Ok-prepare.ensures.receipts)
-    c.enter.ensures.total c.enter.ensures.parts c.enter.ensures.amount (ap (λ (l : List made.Command). after_all before.library.units l) (sym (look_changes_nothing c.args.asked answer c.requires))) refl c.self.invariant.images
+    c.enter.ensures.total c.enter.ensures.parts c.enter.ensures.amount (ap (λ (l : List LibraryCommand). after_all before.library.units l) (sym (look_changes_nothing c.args.asked answer c.requires))) refl c.self.invariant.images
 
 pub invariant_of-self-2 : goal.invariant_of-self-2
 invariant_of-self-2 g c = (facts g c).0

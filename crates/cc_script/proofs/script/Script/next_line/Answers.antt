@@ -1,7 +1,7 @@
 use Rattle.std.proofs.Common.{rules, arith, ◌<◌, ◌≤◌, ◌≡◌, ◌≢◌, ◌∙◌, Some, None, length, take}
 use Rattle.std.proofs.lemmas.List.{length-set, length-take-le}
 use Rattle.cc_script.specs.Reading.{IsNext}
-use Rattle.cc_script.specs.declared.script.Next.TheVariants.{Line}
+use Rattle.cc_script.specs.declared.script.NextLine.TheVariants.{Line}
 use Rattle.cc_script.proofs.Rests.{consumed_more, line_at_end, line_with_newline, plain_more, too_long}
 use Rattle.cc_script.proofs.script.Script.next_line.Goals as goal
 
