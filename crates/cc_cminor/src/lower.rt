@@ -44,7 +44,7 @@ fn paired(unit: Arc<TypedUnit>, function: usize, code: Box<Statement>) -> Cminor
     ensures answer { result ≡ record { unit = arc_value unit; function = function; statement = code.value } }
     ensures small { AtMostTwelveAToken (source (arc_value unit)).externals function (statement_of code.value) }
 {
-    let _typed = unit.externals();
+    let _kept = unit.externals();
     calls_are_effects();
     calls_keep_objects();
     names_have_numbers();

@@ -271,7 +271,7 @@ fn refusal_of(core: &Core, command: &LibraryCommand) -> Option<Refusal>
         return Some(refusal);
     }
     // What the type keeps of an area's size.
-    let _ = core.store.used();
+    let _kept = core.store.used();
     if core.store.fits(body_length(command)) {
         None
     } else {

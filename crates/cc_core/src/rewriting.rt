@@ -24,7 +24,7 @@ pub(crate) fn rewrite_all(alloc: Global, core: &mut Core) -> Answer
         return Err(CoreFault::NotNow);
     };
     // What the type keeps of an area's size.
-    let _ = core.store.used();
+    let _kept = core.store.used();
     let bodies = core.library.bodies(alloc)?;
     let commit = core.store.rewrite(alloc, &bodies)?;
     core.store.write_first(&commit);

@@ -43,8 +43,8 @@ impl Build for CcBuild {
     fn names(&self, piece: &Piece, source: &[u8], part: u32) -> bool {
         // What the type of a piece and that of its unit keep, and what linking promises, is what a piece keeps.
         linked_units_agree();
-        let _ = piece.items();
-        let _ = piece.unit().externals();
+        let _kept = piece.items();
+        let _kept = piece.unit().externals();
         piece.function() == part as usize && piece.unit().text() == source
     }
 

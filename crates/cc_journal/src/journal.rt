@@ -77,7 +77,7 @@ impl<D: Disk> Journal<D> {
             → AllHold (D.may_leave self.now.disk) self.now.area self.now.bodies }
     {
         // What the log promises of its images.
-        let _ = self.log.is_closed();
+        let _kept = self.log.is_closed();
         &self.bodies
     }
 

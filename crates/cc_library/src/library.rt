@@ -278,7 +278,7 @@ impl<D: Disk> Library<D> {
         ensures size { MatchResult result.0 (λ l. D.size l.disk ≡ D.size self.disk) (λ e. D.size e.1 ≡ D.size self.disk) }
     {
         // What the log promises of its images, before the first edit.
-        let _ = self.log.is_closed();
+        let _kept = self.log.is_closed();
         let Ok(mut numbers) = Vec::with_capacity(alloc, edits.len()) else {
             return (
                 Err((LibraryFault::OutOfMemory, self.into_disk())),
@@ -295,7 +295,7 @@ impl<D: Disk> Library<D> {
             }
         }
         // What the log promises of its images.
-        let _ = library.log.is_closed();
+        let _kept = library.log.is_closed();
         (Ok(library), numbers)
     }
 
@@ -309,7 +309,7 @@ impl<D: Disk> Library<D> {
             (λ e. LeavesOnly D.moment D.left_since self.disk e.1 (IsMidEdit self.units edit result.0)) }
     {
         // What the log promises of its images, for the edits that end before a device call.
-        let _ = self.log.is_closed();
+        let _kept = self.log.is_closed();
         match self.perform(alloc, edit) {
             Ok(()) => (0, Ok(self)),
             Err(fault) => match fault {
@@ -343,7 +343,7 @@ impl<D: Disk> Library<D> {
             (IsOldOrNew self.old.area self.old.bodies self.old.units (compacted self.old.units) self.old.units) }
     {
         // What the log promises of its images, for the calls that end before a device call.
-        let _ = self.log.is_closed();
+        let _kept = self.log.is_closed();
         if self.closed {
             return Err(LibraryFault::Closed);
         }
@@ -370,7 +370,7 @@ impl<D: Disk> Library<D> {
             (IsOldOrNew self.old.area self.old.bodies self.old.units (self.old.bodies ++ body_of command ∷ []) (after self.old.units command)) }
     {
         // What the log promises of its images, for the calls that end before a device call.
-        let _ = self.log.is_closed();
+        let _kept = self.log.is_closed();
         if self.closed {
             drop(command);
             return Err(LibraryFault::Closed);

@@ -33,7 +33,7 @@ fn pieces(alloc: Global, unit: &Arc<TypedUnit>) -> Result<Vec<Piece>, PieceFault
 {
     let mut pieces = Vec::new(alloc);
     let count = unit.functions();
-    let _externals = unit.externals();
+    let _kept = unit.externals();
     for function in 0..count {
         let piece = match compile_function(alloc, unit, function) {
             Ok(piece) => piece,

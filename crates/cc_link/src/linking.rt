@@ -119,7 +119,7 @@ pub fn link_lent(
     }
     unit_laws();
     linked_units_agree();
-    let _externals = unit.externals();
+    let _kept = unit.externals();
     let made = stored(alloc, unit, bodies.as_slice(), ordered.as_slice());
     Ok(CompiledUnit::new(made?))
 }

@@ -25,7 +25,7 @@ pub(crate) fn stranger(text: &[u8], pieces: &[&Piece]) -> Option<LinkFault>
         let function = piece.function();
         let _kept = piece.items();
         let other: &TypedUnit = piece.unit();
-        let _externals = other.externals();
+        let _kept = other.externals();
         if other.text() != text {
             return Some(LinkFault::Stranger { function, at });
         }

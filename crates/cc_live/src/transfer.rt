@@ -136,7 +136,7 @@ pub fn solve(alloc: Global, rtl: &Rtl, strong: bool) -> Result<Vec<RegisterSet>,
     ensures long { IfOk result (λ sets. length sets.items ≡ length rtl.now.nodes) }
     ensures least { IfOk result (λ sets. AreLeastAs strong rtl.now.nodes (rows_at rtl.now.nodes sets.items)) }
 {
-    let _count = rtl.len();
+    let _kept = rtl.len();
     let graph = rtl.graph(alloc)?;
     let code = Code { rtl, strong };
     let least = solve_backward(alloc, &graph, &code)?;

@@ -140,12 +140,12 @@ fn ends(operation: &Operation) -> bool
             false
         }
         Operation::Const { to, word, next } => {
-            let _registers = to.number();
+            let _kept = to.number();
             let _words = (*word, *next);
             false
         }
         Operation::Unary { to, from, next, .. } => {
-            let _registers = (to.number(), from.number());
+            let _kept = (to.number(), from.number());
             let _words = *next;
             false
         }
@@ -156,7 +156,7 @@ fn ends(operation: &Operation) -> bool
             next,
             ..
         } => {
-            let _registers = (to.number(), left.number(), right.number());
+            let _kept = (to.number(), left.number(), right.number());
             let _words = *next;
             false
         }
@@ -167,7 +167,7 @@ fn ends(operation: &Operation) -> bool
             next,
             ..
         } => {
-            let _registers = (to.number(), index.number());
+            let _kept = (to.number(), index.number());
             let _words = (*object, *next);
             false
         }
@@ -178,7 +178,7 @@ fn ends(operation: &Operation) -> bool
             next,
             ..
         } => {
-            let _registers = (index.number(), from.number());
+            let _kept = (index.number(), from.number());
             let _words = (*object, *next);
             false
         }
@@ -191,7 +191,7 @@ fn ends(operation: &Operation) -> bool
             if_nonzero,
             if_zero,
         } => {
-            let _registers = from.number();
+            let _kept = from.number();
             let _words = (*if_nonzero, *if_zero);
             true
         }
@@ -216,7 +216,7 @@ fn move_fits(slots: u16, each: &Move) -> bool
 {
     match each {
         Move::Between { to, from } => {
-            let _registers = (to.number(), from.number());
+            let _kept = (to.number(), from.number());
             true
         }
         Move::Reload { to: register, slot }
@@ -224,7 +224,7 @@ fn move_fits(slots: u16, each: &Move) -> bool
             slot,
             from: register,
         } => {
-            let _register = register.number();
+            let _kept = register.number();
             slot.number() < slots
         }
     }

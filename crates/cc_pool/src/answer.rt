@@ -70,7 +70,7 @@ impl Refusal {
         requires refused { IsPieceRefusal (source (arc_value unit)).externals function fault }
         requires real { fault ≢ OutOfMemory }
     {
-        let _externals = unit.externals();
+        let _kept = unit.externals();
         Refusal {
             unit,
             function,

@@ -103,7 +103,7 @@ pub(crate) fn in_order(
         // What its type and that of its unit keep.
         let _kept = piece.items();
         let other: &TypedUnit = piece.unit();
-        let _externals = other.externals();
+        let _kept = other.externals();
         if pieces.push(piece).is_err() {
             return Err(PoolFault::OutOfMemory);
         }

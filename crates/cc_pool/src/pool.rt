@@ -155,7 +155,7 @@ impl<N: Queued + Send + Sync + 'static> Pool<N> {
         ensures some { HasSentSome pass.old.sent pass.new.sent (length (defined_names (source (arc_value unit.now)))) }
         ensures taken { pass.new.taken ≡ pass.old.taken }
     {
-        let _externals = unit.externals();
+        let _kept = unit.externals();
         for function in 0..unit.functions() {
             let Ok(order) = Order::new(job, function, unit, answer) else {
                 return Err(PoolFault::OutOfMemory);

@@ -25,7 +25,7 @@ fn parameters_of(pair: &CminorPair) -> u32
 {
     functions_are_resolved();
     let unit: &TypedUnit = pair.unit();
-    let _externals = unit.externals();
+    let _kept = unit.externals();
     let definition = unit.definition(pair.function());
     let parameters = definition.signature.parameters.as_slice();
     parameters.len() as u32

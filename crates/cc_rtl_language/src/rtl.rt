@@ -115,7 +115,7 @@ impl Rtl {
         ensures position { result ≡ position_of self.now.nodes label }
         ensures within { result < length self.now.nodes }
     {
-        let _numbered = self.len();
+        let _kept = self.len();
         label as usize
     }
 

@@ -107,7 +107,7 @@ fn linked(
 {
     match link(alloc, unit, pieces) {
         Ok(made) => {
-            let _ = made.stored();
+            let _kept = made.stored();
             Ok(made)
         }
         Err(LinkFault::ImageTooLarge) => Err(ServiceFault::ImageTooLarge),

@@ -54,7 +54,7 @@ impl<'a> Transfer<EquationSet> for Code<'a> {
         node: usize,
         facts: &EquationSet,
     ) -> Result<EquationSet, AllocError> {
-        let _few = self.rtl.len();
+        let _kept = self.rtl.len();
         match self.rtl.at(node) {
             Some(rtl) => carry(alloc, rtl, &self.blocks[node], facts, self.width),
             None => EquationSet::least(alloc),

@@ -57,7 +57,7 @@ fn decide(alloc: Global, rtl: &Rtl, ltl: &Ltl) -> Result<(), ValidateFault>
     ensures ltl { IfOk result (λ _. IsLtl ltl.now) }
     ensures refused { IfErr result (λ fault. IsRefusal rtl.now ltl.now fault) }
 {
-    let _count = rtl.len();
+    let _kept = rtl.len();
     let blocks = ltl.blocks();
     if ltl.entry() != rtl.entry() {
         return Err(ValidateFault::Unvalidated { label: rtl.entry() });

@@ -11,11 +11,11 @@ use Rattle.cc_cminor.proofs.lower.paired.Goals as goal
 pub new-requires : goal.new-requires
 new-requires c =
     let typed : IsTyped (source (arc_value c.args.unit)).externals =
-    subst (λ (u : parsed.Unit). IsTyped (source u).externals) c.deref.ensures c.externals-typed.ensures.typed in
+    subst (λ (u : parsed.Unit). IsTyped (source u).externals) c.deref.ensures c.externals-kept.ensures.typed in
     let limits : IsWithinLimits (source (arc_value c.args.unit)).externals =
-    subst (λ (u : parsed.Unit). IsWithinLimits (source u).externals) c.deref.ensures c.externals-typed.ensures.limits in
+    subst (λ (u : parsed.Unit). IsWithinLimits (source u).externals) c.deref.ensures c.externals-kept.ensures.limits in
     let spelled : ∥ SpellsText (source (arc_value c.args.unit)).text (source (arc_value c.args.unit)).externals ∥₁ =
-    subst (λ (u : parsed.Unit). ∥ SpellsText (source u).text (source u).externals ∥₁) c.deref.ensures c.externals-typed.ensures.spelled in
+    subst (λ (u : parsed.Unit). ∥ SpellsText (source u).text (source u).externals ∥₁) c.deref.ensures c.externals-kept.ensures.spelled in
     pair_is c.names_have_numbers.ensures.functions c.functions_are_resolved.ensures c.calls_are_effects.ensures c.calls_keep_objects.ensures.calls
     c.names_have_numbers.ensures.objects c.names_have_numbers.ensures.sizes c.units_have_meanings.ensures.calls
     (record { unit = arc_value c.args.unit; function = c.args.function; statement = c.args.code.value }) spelled typed limits c.requires.function c.requires.code
@@ -23,5 +23,5 @@ new-requires c =
 pub returns-clause-small : goal.returns-clause-small
 returns-clause-small c =
     let typed : IsTyped (source (arc_value c.args.unit)).externals =
-    subst (λ (u : parsed.Unit). IsTyped (source u).externals) c.deref.ensures c.externals-typed.ensures.typed in
+    subst (λ (u : parsed.Unit). IsTyped (source u).externals) c.deref.ensures c.externals-kept.ensures.typed in
     lowered_is_small c.names_have_numbers.ensures.functions c.functions_are_resolved.ensures _ typed _ c.requires.function _ c.requires.code

@@ -17,7 +17,7 @@ pub bodies-requires : goal.bodies-requires
 bodies-requires c =
     let old = c.args.core.now in
     let fits = subst (λ (phase : Phase). IsReadyIn phase old.library old.store old.order) c.in-Idle.is c.requires in
-    omega (arith, fits, c.used.ensures.small)
+    omega (arith, fits, c.used-kept.ensures.small)
 
 pub returns-in_err-bodies : goal.returns-in_err-bodies
 returns-in_err-bodies c =

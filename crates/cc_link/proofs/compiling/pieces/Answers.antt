@@ -37,8 +37,8 @@ loop-function-preserved c =
     let items : c.push.new.self.items ≡ c.loop-function.pieces.items ++ c.in-Ok.piece ∷ [] = search rules in
     let whose : (source c.in-Ok.piece.unit).text ≡ text = ap (λ u. (source u).text) c.in-Ok.ensures.unit in
     let compiled : IsCompiled c.in-Ok.piece =
-    compiled_of (arc_value c.args.unit.now) c.in-Ok.piece c.in-Ok.ensures.unit (subst (λ (u : Unit). ∥ SpellsText (source u).text (source u).externals ∥₁) c.deref-2.ensures c.externals-externals.ensures.spelled)
-    (subst (λ (u : Unit). IsChecked (source u)) c.deref-2.ensures (record { typed = c.externals-externals.ensures.typed; limits = c.externals-externals.ensures.limits })) c.items-kept.ensures.piece in
+    compiled_of (arc_value c.args.unit.now) c.in-Ok.piece c.in-Ok.ensures.unit (subst (λ (u : Unit). ∥ SpellsText (source u).text (source u).externals ∥₁) c.deref-2.ensures c.externals-kept.ensures.spelled)
+    (subst (λ (u : Unit). IsChecked (source u)) c.deref-2.ensures (record { typed = c.externals-kept.ensures.typed; limits = c.externals-kept.ensures.limits })) c.items-kept.ensures.piece in
     let which : c.in-Ok.piece.function ≡ 0 + length c.loop-function.pieces.items = let f = c.in-Ok.ensures.function in let n = c.loop-function.invariant.count in omega (arith, f, n) in
     record {
       own = subst (λ (ps : List Piece). AreFrom text 0 ps) (sym items) (one_from text 0 c.loop-function.pieces.items c.in-Ok.piece c.loop-function.invariant.own whose which);

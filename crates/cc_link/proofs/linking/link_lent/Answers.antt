@@ -62,7 +62,7 @@ stored-made-requires-clause-stay c =
     let o : lent_pieces os ≡ in_order ps 0 c.functions.result = ap (λ (l : List (Bor Piece)). lent_pieces l) c.as_slice-4.ensures.value ∙ c.in-Ok.ensures.ordered in
     let i : lent fs ≡ all_items (lent_pieces os) = ap (λ (l : List (Bor (List PieceItem))). lent l) c.as_slice-3.ensures.value ∙ c.in-Ok-all_items.ensures ∙ ap (λ (l : List (Bor Piece)). all_items (lent_pieces l)) (c.as_slice.ensures.value ∙ sym c.as_slice-4.ensures.value) in
     let laws = c.unit_laws.ensures in
-    let tree = c.externals-externals.ensures in
+    let tree = c.externals-kept.ensures in
     stay_is s ps c.functions.result a b c.functions.ensures os fs c.in-Ok.ensures.none o i laws.tokens laws.trees laws.meanings laws.sized tree.spelled tree.typed tree.limits c.in_default.ensures.kept
 
 pub stored-made-requires-clause-few_functions : goal.stored-made-requires-clause-few_functions
@@ -76,7 +76,7 @@ stored-made-requires-clause-few_functions c =
     let os = c.as_slice-4.result.now in
     let o : lent_pieces os ≡ in_order ps 0 c.functions.result = ap (λ (l : List (Bor Piece)). lent_pieces l) c.as_slice-4.ensures.value ∙ c.in-Ok.ensures.ordered in
     let i : lent fs ≡ all_items (lent_pieces os) = ap (λ (l : List (Bor (List PieceItem))). lent l) c.as_slice-3.ensures.value ∙ c.in-Ok-all_items.ensures ∙ ap (λ (l : List (Bor Piece)). all_items (lent_pieces l)) (c.as_slice.ensures.value ∙ sym c.as_slice-4.ensures.value) in
-    few_is s ps c.functions.result a b c.functions.ensures os fs c.in-Ok.ensures.none o i c.externals-externals.ensures.limits
+    few_is s ps c.functions.result a b c.functions.ensures os fs c.in-Ok.ensures.none o i c.externals-kept.ensures.limits
 
 pub new-requires-clause-agrees : goal.new-requires-clause-agrees
 new-requires-clause-agrees c =
@@ -91,7 +91,7 @@ new-requires-clause-agrees c =
     let i : lent fs ≡ all_items (lent_pieces os) = ap (λ (l : List (Bor (List PieceItem))). lent l) c.as_slice-3.ensures.value ∙ c.in-Ok-all_items.ensures ∙ ap (λ (l : List (Bor Piece)). all_items (lent_pieces l)) (c.as_slice.ensures.value ∙ sym c.as_slice-4.ensures.value) in
     let few : code_words (lent fs) ≤ most_code =
     subst (λ (l : List (Bor (List PieceItem))). code_words (lent l) ≤ most_code) (c.as_slice-2.ensures.value ∙ sym c.as_slice-3.ensures.value) (c.if-not-fits.ensures.0 refl) in
-    let tree = c.externals-externals.ensures in
+    let tree = c.externals-kept.ensures in
     agree_is s ps c.functions.result a b c.functions.ensures os fs c.in-Ok.ensures.none o i c.linked_units_agree.ensures tree.spelled (record { typed = tree.typed; limits = tree.limits }) c.in_default.ensures.kept (arc_value c.in_ok-made.field-0) few c.in_ok-made.ensures
 
 pub new-requires-clause-made : goal.new-requires-clause-made
@@ -107,7 +107,7 @@ new-requires-clause-made c =
     let i : lent fs ≡ all_items (lent_pieces os) = ap (λ (l : List (Bor (List PieceItem))). lent l) c.as_slice-3.ensures.value ∙ c.in-Ok-all_items.ensures ∙ ap (λ (l : List (Bor Piece)). all_items (lent_pieces l)) (c.as_slice.ensures.value ∙ sym c.as_slice-4.ensures.value) in
     let few : code_words (lent fs) ≤ most_code =
     subst (λ (l : List (Bor (List PieceItem))). code_words (lent l) ≤ most_code) (c.as_slice-2.ensures.value ∙ sym c.as_slice-3.ensures.value) (c.if-not-fits.ensures.0 refl) in
-    let tree = c.externals-externals.ensures in
+    let tree = c.externals-kept.ensures in
     record {
       of = s;
       spelled = tree.spelled;

@@ -11,7 +11,7 @@ use Rattle.cc_link.proofs.order.stranger.Goals as goal
 pub loop-at-preserved : goal.loop-at-preserved
 loop-at-preserved c =
     let one : c.deref-other.result.now ≡ c.index-pieces-at.result.now.unit = c.deref-other.ensures ∙ c.unit.ensures.answer in
-    let tree = c.externals-externals.ensures in
+    let tree = c.externals-kept.ensures in
     record {
       left = c.loop-at.invariant.left ∙ stranger_next c.args.text.now c.text.result.now c.loop-at.at c.args.pieces.now c.index-pieces-at.result c.loop-at-test.true c.index-pieces-at.is
           (c.text.ensures.answer ∙ ap (λ (u : parsed.Unit). (source u).text) (c.deref-other.ensures ∙ c.unit.ensures.answer)) c.if-ne.ensures;

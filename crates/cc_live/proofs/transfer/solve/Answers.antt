@@ -12,7 +12,7 @@ returns-clause-least c =
     let strong = c.args.strong in
     let sets = c.in_ok-least.least in
     subst (λ (rows : List (List ℕ)). AreLeastAs strong rtl.nodes (rows_at rtl.nodes rows)) (sym c.into_vec.ensures)
-    (least_solved strong rtl c.len-count.ensures.rtl sets
+    (least_solved strong rtl c.len-kept.ensures.rtl sets
     (c.in_ok-least.ensures.long ∙ (ap length c.in_ok-graph.ensures ∙ graph_length rtl.nodes))
     (subst (λ g. Solves Below nothing either (carries strong rtl.nodes) g (facts_at nothing sets)) c.in_ok-graph.ensures c.in_ok-least.ensures.solves)
     (subst (λ g. (other : ℕ → List ℕ) → Solves Below nothing either (carries strong rtl.nodes) g other → LiesUnder Below (facts_at nothing sets) other) c.in_ok-graph.ensures c.in_ok-least.ensures.least))

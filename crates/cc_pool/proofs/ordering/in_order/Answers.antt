@@ -27,7 +27,7 @@ loop-function-preserved c =
     let p = c.in-Some.piece in
     let is = c.in-Some.ensures in
     let one : c.deref-other.result.now ≡ p.unit = c.deref-other.ensures ∙ c.unit.ensures.answer in
-    let tree = c.externals-externals.ensures in
+    let tree = c.externals-kept.ensures in
     let compiled : IsCompiled p = record {
       spelled = subst (λ (u : parsed.Unit). ∥ SpellsText (source u).text (source u).externals ∥₁) one tree.spelled;
       checked = subst (λ (u : parsed.Unit). IsChecked (source u)) one (record { typed = tree.typed; limits = tree.limits });

@@ -6,13 +6,13 @@ use Rattle.cc_rtl.proofs.translate.parameters_of.Goals as goal
 pub definition-definition-requires : goal.definition-definition-requires
 definition-definition-requires c =
     is_defined c.functions_are_resolved.ensures c.args.pair.now.unit c.deref-unit.result.now c.args.pair.now.function c.function.result (c.deref-unit.ensures ∙ c.unit.ensures.answer) c.function.ensures.answer
-    c.externals-externals.ensures.typed c.function.ensures.of_unit
+    c.externals-kept.ensures.typed c.function.ensures.of_unit
 
 pub overflow_cast-result : goal.overflow_cast-result
 overflow_cast-result c =
     let few =
     at_most_eight c.functions_are_resolved.ensures c.args.pair.now.unit c.deref-unit.result.now c.args.pair.now.function c.function.result (c.deref-unit.ensures ∙ c.unit.ensures.answer) c.function.ensures.answer
-    c.externals-externals.ensures.typed c.function.ensures.of_unit c.definition-definition.result c.definition-definition.ensures c.externals-externals.ensures.limits in
+    c.externals-kept.ensures.typed c.function.ensures.of_unit c.definition-definition.result c.definition-definition.ensures c.externals-kept.ensures.limits in
     let same = ap length c.as_slice-parameters.ensures.value in
     omega arith
 
@@ -20,12 +20,12 @@ pub returns-clause-few : goal.returns-clause-few
 returns-clause-few c =
     let few =
     at_most_eight c.functions_are_resolved.ensures c.args.pair.now.unit c.deref-unit.result.now c.args.pair.now.function c.function.result (c.deref-unit.ensures ∙ c.unit.ensures.answer) c.function.ensures.answer
-    c.externals-externals.ensures.typed c.function.ensures.of_unit c.definition-definition.result c.definition-definition.ensures c.externals-externals.ensures.limits in
+    c.externals-kept.ensures.typed c.function.ensures.of_unit c.definition-definition.result c.definition-definition.ensures c.externals-kept.ensures.limits in
     let same = ap length c.as_slice-parameters.ensures.value in
     omega arith
 
 pub returns-clause-parameters : goal.returns-clause-parameters
 returns-clause-parameters c =
     as_many c.functions_are_resolved.ensures c.args.pair.now.unit c.deref-unit.result.now c.args.pair.now.function c.function.result (c.deref-unit.ensures ∙ c.unit.ensures.answer) c.function.ensures.answer
-    c.externals-externals.ensures.typed c.function.ensures.of_unit c.definition-definition.result c.definition-definition.ensures
+    c.externals-kept.ensures.typed c.function.ensures.of_unit c.definition-definition.result c.definition-definition.ensures
     ∙ ap Some (sym (ap length c.as_slice-parameters.ensures.value))

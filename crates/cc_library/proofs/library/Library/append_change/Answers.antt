@@ -38,7 +38,7 @@ returns-in-Some-eq31 g c =
       refl,
     ) in
     record {
-      changed = quiet_changed D i.log i.units i.closed old c.args.command Exists c.self.view_is c.self.invariant.stand c.self.invariant.same c.is_closed.ensures.kept
+      changed = quiet_changed D i.log i.units i.closed old c.args.command Exists c.self.view_is c.self.invariant.stand c.self.invariant.same c.is_closed-kept.ensures.kept
           (λ h image left. g.met.D.Disk.only_now i.log.disk image h left) (g.met.D.Disk.counts_now old.disk) (λ p. cc p) answers;
     }
 
@@ -54,7 +54,7 @@ returns-in-Some g c =
       refl,
     ) in
     record {
-      changed = quiet_changed D i.log i.units i.closed old c.args.command Absent c.self.view_is c.self.invariant.stand c.self.invariant.same c.is_closed.ensures.kept
+      changed = quiet_changed D i.log i.units i.closed old c.args.command Absent c.self.view_is c.self.invariant.stand c.self.invariant.same c.is_closed-kept.ensures.kept
           (λ h image left. g.met.D.Disk.only_now i.log.disk image h left) (g.met.D.Disk.counts_now old.disk) (λ p. cc p) answers;
     }
 
@@ -69,7 +69,7 @@ returns-in-Err g c =
     let long = sym c.body_length.ensures.length in
     record {
       changed = subst (λ (f : LibraryFault). IsChangedAs D command old old (Err f) (IsOldOrNew old.area old.bodies old.units (old.bodies ++ body_of command ∷ []) (after old.units command))) (sym c.from.ensures)
-          (refused_changed D i.log i.units i.closed old command c.in-Err.fault c.self.view_is c.self.invariant.stand c.self.invariant.same c.is_closed.ensures.kept
+          (refused_changed D i.log i.units i.closed old command c.in-Err.fault c.self.view_is c.self.invariant.stand c.self.invariant.same c.is_closed-kept.ensures.kept
           (λ h image left. g.met.D.Disk.only_now i.log.disk image h left) (g.met.D.Disk.counts_now old.disk) ok (λ failures. c.in-Err.ensures.answers (body_of command) failures long));
     }
 
@@ -86,7 +86,7 @@ returns-in_err-body g c =
     let asked : IsAsked old command = subst (λ (v : View g.row.D.Denot). IsAsked v command) c.self.view_is (c.if-self.false, ok) in
     record {
       changed = subst (λ (r : Result (Unit {0}) LibraryFault). IsChangedAs D command old old r (IsOldOrNew old.area old.bodies old.units (old.bodies ++ body_of command ∷ []) (after old.units command))) (sym is)
-          (quiet_changed D i.log i.units i.closed old command OutOfMemory c.self.view_is c.self.invariant.stand c.self.invariant.same c.is_closed.ensures.kept
+          (quiet_changed D i.log i.units i.closed old command OutOfMemory c.self.view_is c.self.invariant.stand c.self.invariant.same c.is_closed-kept.ensures.kept
           (λ h image left. g.met.D.Disk.only_now i.log.disk image h left) (g.met.D.Disk.counts_now old.disk) (λ q. cc q) (asked, refl));
     }
 
@@ -105,7 +105,7 @@ returns-in_err-begin g c =
     record {
       changed = subst (λ (r : Result (Unit {0}) LibraryFault). IsChangedAs D command old new r (IsOldOrNew old.area old.bodies old.units (old.bodies ++ body_of command ∷ []) (after old.units command))) (sym is)
           (subst (λ (v : View g.row.D.Denot). IsChangedAs D command old v (Err OutOfMemory) (IsOldOrNew old.area old.bodies old.units (old.bodies ++ body_of command ∷ []) (after old.units command))) still
-          (quiet_changed D i.log i.units i.closed old command OutOfMemory c.self.view_is c.self.invariant.stand c.self.invariant.same c.is_closed.ensures.kept
+          (quiet_changed D i.log i.units i.closed old command OutOfMemory c.self.view_is c.self.invariant.stand c.self.invariant.same c.is_closed-kept.ensures.kept
           (λ h image left. g.met.D.Disk.only_now i.log.disk image h left) (g.met.D.Disk.counts_now old.disk) (λ q. cc q) (asked, refl)));
     }
 

@@ -136,5 +136,5 @@ returns-in_default-clause-moments g c =
     let i = c.self.inside in
     let old = c.args.self in
     let same = same_left old c.perform.new.self c.args.edit c.in-Err.fault c.in_default.not-DiskFault c.in-Err.ensures.leaves in
-    still_map (IsMidEdit old.units c.args.edit c.number.result) D.honest D.moment D.left_since D.may_leave i.log i.units i.closed old c.self.view_is c.self.invariant.stand c.self.invariant.same c.is_closed.ensures.kept
+    still_map (IsMidEdit old.units c.args.edit c.number.result) D.honest D.moment D.left_since D.may_leave i.log i.units i.closed old c.self.view_is c.self.invariant.stand c.self.invariant.same c.is_closed-kept.ensures.kept
     (λ h image left. g.met.D.Disk.only_now i.log.disk image h left) c.perform.new.self.disk (ap (λ (v : View g.row.D.Denot). v.disk) same) (λ image recovers. inl recovers)

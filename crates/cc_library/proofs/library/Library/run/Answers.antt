@@ -33,7 +33,7 @@ loop-edit-init g c =
           let i = c.self.inside in
           let old = c.args.self in
           subst (λ (ns : List ℕ). LeavesOnly D.moment D.left_since old.disk old.disk (RecoversAmong old.units [] ns)) (sym c.in-Ok.ensures.items)
-          (still_map (RecoversAmong old.units [] []) D.honest D.moment D.left_since D.may_leave i.log i.units i.closed old c.self.view_is c.self.invariant.stand c.self.invariant.same c.is_closed.ensures.kept
+          (still_map (RecoversAmong old.units [] []) D.honest D.moment D.left_since D.may_leave i.log i.units i.closed old c.self.view_is c.self.invariant.stand c.self.invariant.same c.is_closed-kept.ensures.kept
           (λ q image left. g.met.D.Disk.only_now i.log.disk image q left) old.disk refl (λ image recovers. among_none old.units [] image recovers) h not_closed);
     }
 
@@ -103,7 +103,7 @@ returns-in_default-clause-moments g c =
     let i = c.self.inside in
     let old = c.args.self in
     let edits = c.args.edits.items in
-    still_map (RecoversAmong old.units edits c.new.result.items) D.honest D.moment D.left_since D.may_leave i.log i.units i.closed old c.self.view_is c.self.invariant.stand c.self.invariant.same c.is_closed.ensures.kept
+    still_map (RecoversAmong old.units edits c.new.result.items) D.honest D.moment D.left_since D.may_leave i.log i.units i.closed old c.self.view_is c.self.invariant.stand c.self.invariant.same c.is_closed-kept.ensures.kept
     (λ h image left. g.met.D.Disk.only_now i.log.disk image h left) c.into_disk.result c.into_disk.ensures
     (λ image recovers. subst (λ (ns : List ℕ). RecoversAmong old.units edits ns image) (sym c.new.ensures.items) (among_none old.units edits image recovers))
 
@@ -169,7 +169,7 @@ returns-clause-kept g c =
     let D = g.D.Disk in
     let i = c.library.inside in
     subst (λ (v : View g.row.D.Denot). IsTrue D.honest → v.closed ≡ false → (image : List ℕ) → D.may_leave v.disk image → RecoversAlone image v.units) c.library.view_is
-    (λ h not_closed image now. holds_recovers image i.log.area i.log.bodies i.units (c.is_closed-2.ensures.kept h (sym c.library.invariant.same ∙ not_closed) image now) c.library.invariant.stand)
+    (λ h not_closed image now. holds_recovers image i.log.area i.log.bodies i.units (c.is_closed-kept-2.ensures.kept h (sym c.library.invariant.same ∙ not_closed) image now) c.library.invariant.stand)
 
 pub returns-clause-size : goal.returns-clause-size
 returns-clause-size g c = c.loop-edit.invariant.size

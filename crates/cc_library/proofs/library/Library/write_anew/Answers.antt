@@ -35,7 +35,7 @@ returns-then-not-fits g c =
     subst (λ (v : View g.row.D.Denot). (v.closed ≡ false) × (v.area < room_of (compacted v.units)) × (D.failures v.disk ≡ D.failures v.disk)) c.self.view_is
     (c.if-self.false, no_room (room_of (compacted i.units)) i.log.area c.area.result c.fits.result c.area.ensures.area c.if-not-fits.true c.fits.ensures.1, refl) in
     record {
-      compacted = quiet_compacted D i.log i.units i.closed old Full c.self.view_is c.self.invariant.stand c.self.invariant.same c.is_closed.ensures.kept
+      compacted = quiet_compacted D i.log i.units i.closed old Full c.self.view_is c.self.invariant.stand c.self.invariant.same c.is_closed-kept.ensures.kept
           (λ h image left. g.met.D.Disk.only_now i.log.disk image h left) (g.met.D.Disk.counts_now old.disk) (λ p. cc p) answers;
     }
 
@@ -49,7 +49,7 @@ returns-in_err-bodies g c =
     let usable : old.closed ≡ false = subst (λ (v : View g.row.D.Denot). v.closed ≡ false) c.self.view_is c.if-self.false in
     record {
       compacted = subst (λ (r : Result (Unit {0}) LibraryFault). IsCompactedAs D old old r (IsOldOrNew old.area old.bodies old.units (compacted old.units) old.units)) (sym is)
-          (quiet_compacted D i.log i.units i.closed old OutOfMemory c.self.view_is c.self.invariant.stand c.self.invariant.same c.is_closed.ensures.kept
+          (quiet_compacted D i.log i.units i.closed old OutOfMemory c.self.view_is c.self.invariant.stand c.self.invariant.same c.is_closed-kept.ensures.kept
           (λ h image left. g.met.D.Disk.only_now i.log.disk image h left) (g.met.D.Disk.counts_now old.disk) (λ q. cc q) (usable, refl));
     }
 

@@ -12,7 +12,7 @@ use Rattle.cc_pool.proofs.pool.Pool.send_all.Goals as goal
 pub new-requires-clause-few : goal.new-requires-clause-few
 new-requires-clause-few g c =
     let s = source (arc_value c.args.unit.now) in
-    let limits : IsWithinLimits s.externals = subst (λ (u : Unit). IsWithinLimits (source u).externals) c.deref.ensures c.externals-externals.ensures.limits in
+    let limits : IsWithinLimits s.externals = subst (λ (u : Unit). IsWithinLimits (source u).externals) c.deref.ensures c.externals-kept.ensures.limits in
     let count : c.functions-function-end.result ≡ length (defined_names s) = c.functions-function-end.ensures ∙ ap (λ (u : Unit). length (defined_names (source u))) c.deref-2.ensures in
     let few = few_functions s limits in
     let below : c.loop-function.function < c.functions-function-end.result = search rules in

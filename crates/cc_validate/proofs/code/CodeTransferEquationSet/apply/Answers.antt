@@ -28,8 +28,8 @@ bounds-self-inside-node c =
 pub offset_bounds-self-inside-node : goal.offset_bounds-self-inside-node
 offset_bounds-self-inside-node c =
     let here = slice_get_within c.self.inside.rtl.now.nodes c.args.node _ c.in-Some.ensures in
-    let e = c.len-few.ensures.count in
-    let few = c.len-few.ensures.few in
+    let e = c.len-kept.ensures.count in
+    let few = c.len-kept.ensures.few in
     omega (arith, here, e, few)
 
 pub carry-requires-clause-agrees : goal.carry-requires-clause-agrees
