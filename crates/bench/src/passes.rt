@@ -1,4 +1,4 @@
-//! The passes up to the validator. A step does those before it too, so what one costs is the difference of two.
+// The passes up to the validator. A step does those before it too, so what one costs is the difference of two.
 
 use cc_cminor::to_cminor;
 use cc_colour::{colour, spill_all};

@@ -1,4 +1,4 @@
-//! One row of bits: a set of numbers.
+// One row of bits: a set of numbers.
 
 ghost use Rattle.std.specs.Prelude.{◌≡◌, ℕ, ◌+◌, ◌*◌, ◌/◌, ◌%◌, ◌^◌, ◌<◌, ◌≤◌, ◌==◌, ◌||◌, ◌&&◌, not, [], get_or, length, slice_index, IsTrue, IsFalse, IfOk, IfErr};
 ghost use Rattle.std.specs.Int.{bit_at};

@@ -1,4 +1,4 @@
-//! Rows of bits of one width, one behind the other: a set of pairs.
+// Rows of bits of one width, one behind the other: a set of pairs.
 
 ghost use Rattle.std.specs.Prelude.{◌≡◌, ℕ, ◌+◌, ◌*◌, ◌/◌, ◌^◌, ◌<◌, ◌≤◌, ◌==◌, ◌||◌, ◌&&◌, not, false, if◌then◌else◌, IsTrue, IsFalse, IfOk, IfErr};
 ghost use Rattle.cc_bits.specs.Rows.{has, most_width, most_rows, column_moved, row_moved};

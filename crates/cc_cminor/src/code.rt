@@ -1,8 +1,8 @@
-//! The syntax of Cminor: numbered word variables, expressions without effect, and structured statements.
-//!
-//! A tree of the code of a definition is at most some 3,000 nodes deep, so dropping one or walking it by recursion takes less than a
-//! megabyte of stack: each of the source's 64 levels of statements adds at most eight levels of Cminor's, each of the 512 tokens
-//! of a full expression at most four; statements one after the other stand in one list.
+// The syntax of Cminor: numbered word variables, expressions without effect, and structured statements.
+//
+// A tree of the code of a definition is at most some 3,000 nodes deep, so dropping one or walking it by recursion takes less than a
+// megabyte of stack: each of the source's 64 levels of statements adds at most eight levels of Cminor's, each of the 512 tokens
+// of a full expression at most four; statements one after the other stand in one list.
 
 use cc_words::{Binary, Unary, Width};
 

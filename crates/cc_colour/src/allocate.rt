@@ -1,8 +1,8 @@
-//! The allocator: webs, their interferences, the order of Chaitin and Briggs, registers by wishes, slots, blocks.
-//!
-//! First all webs are whole. Those for which a slot over the calls is cheaper than a saved register are cut at calls, and so are later
-//! those that calls keep and that got no register. Where a value in a slot has to go through a register and none is free, all is chosen
-//! anew with two registers that no web gets.
+// The allocator: webs, their interferences, the order of Chaitin and Briggs, registers by wishes, slots, blocks.
+//
+// First all webs are whole. Those for which a slot over the calls is cheaper than a saved register are cut at calls, and so are later
+// those that calls keep and that got no register. Where a value in a slot has to go through a register and none is free, all is chosen
+// anew with two registers that no web gets.
 
 use crate::blocks::{Placed, blocks};
 use crate::interference::{Code, Graph, Partner, Web};

@@ -1,4 +1,4 @@
-//! Rows of bits, 64 to a word. A bit past a row's end is clear, and setting it does nothing.
+// Rows of bits, 64 to a word. A bit past a row's end is clear, and setting it does nothing.
 
 use std::alloc::{AllocError, Global};
 

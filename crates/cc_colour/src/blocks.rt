@@ -1,7 +1,7 @@
-//! The blocks of LTL, once each web has its place.
-//!
-//! An operand in a register is taken where it is, and a result put where it belongs. One in a slot goes through a register that holds
-//! nothing else there. What a call, a read, a write or a return takes and gives is moved all at once, and so are the parameters.
+// The blocks of LTL, once each web has its place.
+//
+// An operand in a register is taken where it is, and a result put where it belongs. One in a slot goes through a register that holds
+// nothing else there. What a call, a read, a write or a return takes and gives is moved all at once, and so are the parameters.
 
 use crate::interference::Code;
 use crate::nodes::{beside_constant, operands, result};

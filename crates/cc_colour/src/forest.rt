@@ -1,4 +1,4 @@
-//! Classes of numbers that are joined: a forest whose trees are flattened as one climbs them. The root of a tree is its least number.
+// Classes of numbers that are joined: a forest whose trees are flattened as one climbs them. The root of a tree is its least number.
 
 use std::alloc::{AllocError, Global};
 

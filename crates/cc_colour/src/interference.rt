@@ -1,8 +1,8 @@
-//! Which webs want different locations, and what each web would like.
-//!
-//! A web interferes with every web that is live behind a node that sets it, but for the one that a move copies into it. What nodes
-//! overwrite by themselves, as a call most registers, is forbidden to what is live behind them. A web that is passed, returned or copied
-//! wishes for the register or the web that would save a move, by how often that move would be done.
+// Which webs want different locations, and what each web would like.
+//
+// A web interferes with every web that is live behind a node that sets it, but for the one that a move copies into it. What nodes
+// overwrite by themselves, as a call most registers, is forbidden to what is live behind them. A web that is passed, returned or copied
+// wishes for the register or the web that would save a move, by how often that move would be done.
 
 use crate::bits::Matrix;
 use crate::nodes::{Shape, beside_constant, operands};

@@ -1,4 +1,4 @@
-//! Live sets as rows of bits.
+// Live sets as rows of bits.
 
 use cc_live::{Liveness, RegisterSet};
 

@@ -1,6 +1,6 @@
-//! What a node reads, what it writes, where it leads, and how often it may be done.
-//!
-//! Nodes are known by their places in the list of a function's nodes, from 0 on.
+// What a node reads, what it writes, where it leads, and how often it may be done.
+//
+// Nodes are known by their places in the list of a function's nodes, from 0 on.
 
 use crate::live::Live;
 use cc_rtl_language::{Node, Rtl};

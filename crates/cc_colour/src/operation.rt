@@ -1,4 +1,4 @@
-//! The operation of LTL that stands for a node, once its registers are chosen.
+// The operation of LTL that stands for a node, once its registers are chosen.
 
 use crate::registers::numbered;
 use cc_ltl::{Operation, Register};

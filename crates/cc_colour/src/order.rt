@@ -1,9 +1,9 @@
-//! In which order webs get their registers (Chaitin, Briggs).
-//!
-//! A web with fewer interferences than it has registers gets one, whatever the others have: it is taken out, and each web that it
-//! interfered with has one interference less. Where none is left of these, the web whose slot would cost least for each interference is
-//! taken out, in the hope that some of the others will share a register. Registers are then chosen in the opposite order. A web to which a
-//! register would save nothing is taken out first, and gets none.
+// In which order webs get their registers (Chaitin, Briggs).
+//
+// A web with fewer interferences than it has registers gets one, whatever the others have: it is taken out, and each web that it
+// interfered with has one interference less. Where none is left of these, the web whose slot would cost least for each interference is
+// taken out, in the hope that some of the others will share a register. Registers are then chosen in the opposite order. A web to which a
+// register would save nothing is taken out first, and gets none.
 
 use crate::interference::{Graph, Web};
 use crate::registers::{ALL, Registers};

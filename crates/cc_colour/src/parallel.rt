@@ -1,7 +1,7 @@
-//! Moves that are to be done all at once, one after the other.
-//!
-//! A move may be done when no other still reads the place that it writes. Where none may, each of them is on a cycle of registers: one
-//! register is copied to a spare one, which is read from then on in its place, and the move into it may be done.
+// Moves that are to be done all at once, one after the other.
+//
+// A move may be done when no other still reads the place that it writes. Where none may, each of them is on a cycle of registers: one
+// register is copied to a spare one, which is read from then on in its place, and the move into it may be done.
 
 use crate::registers::{Place, Registers, first_free, numbered, numbered_slot, only};
 use cc_ltl::Move;

@@ -1,4 +1,4 @@
-//! Where each web is: in its register, or in the slot of the whole web that it is a piece of, which no whole web beside that one has.
+// Where each web is: in its register, or in the slot of the whole web that it is a piece of, which no whole web beside that one has.
 
 use crate::bits::{first_clear, set_bit};
 use crate::interference::{Code, Graph, Web};

@@ -1,4 +1,4 @@
-//! Points: a pseudo-register in front of a node where it is live. A point's number counts the bits of the rows in front of it.
+// Points: a pseudo-register in front of a node where it is live. A point's number counts the bits of the rows in front of it.
 
 use crate::live::Live;
 use std::alloc::{AllocError, Global};

@@ -1,4 +1,4 @@
-//! Sets of registers: bit r of a word for register x(r). Inside the allocator registers and slots are plain numbers.
+// Sets of registers: bit r of a word for register x(r). Inside the allocator registers and slots are plain numbers.
 
 use cc_ltl::{Register, Slot};
 

@@ -1,8 +1,8 @@
-//! Which register each web gets.
-//!
-//! Of the registers that no web beside it has, a web takes the one that saves the most moves: its own wishes count for it, those of the
-//! webs beside it that have none yet count against it, and a register that the function would have to save for it costs that. A web for
-//! which nothing is left, or for which a slot is cheaper, has a slot.
+// Which register each web gets.
+//
+// Of the registers that no web beside it has, a web takes the one that saves the most moves: its own wishes count for it, those of the
+// webs beside it that have none yet count against it, and a register that the function would have to save for it costs that. A web for
+// which nothing is left, or for which a slot is cheaper, has a slot.
 
 use crate::interference::{Graph, Partner, Web};
 use crate::registers::{ALL, DESTROYED, ORDER, Registers, contains, only};

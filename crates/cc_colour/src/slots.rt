@@ -1,4 +1,4 @@
-//! Which slot a pseudo-register has.
+// Which slot a pseudo-register has.
 
 ghost use Rattle.std.specs.Prelude.{◌≡◌, ◌+◌, ◌<◌, ◌≤◌};
 ghost use Rattle.cc_ltl.specs.Registers.{most_slots};

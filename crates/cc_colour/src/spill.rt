@@ -1,7 +1,7 @@
-//! Each pseudo-register in a slot of its own.
-//!
-//! A block reloads its operands, does its operation, and spills the result; at entry the parameters go to their slots. So no equation
-//! is ever kept in a register from block to block, and only a function with more pseudo-registers than slots is refused.
+// Each pseudo-register in a slot of its own.
+//
+// A block reloads its operands, does its operation, and spills the result; at entry the parameters go to their slots. So no equation
+// is ever kept in a register from block to block, and only a function with more pseudo-registers than slots is refused.
 
 ghost use Rattle.std.specs.Prelude.{◌≡◌, ◌<◌, ◌≤◌, ◌^◌, [], length, IfOk};
 

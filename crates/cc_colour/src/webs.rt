@@ -1,11 +1,11 @@
-//! Webs: what one location is chosen for.
-//!
-//! Where a node leads to another and keeps a register that is live in front of both, its two points want the same location, and so are of
-//! one web. So a register that is used for several values in turn, as temporaries are, falls into several webs, each with a location of
-//! its own. A result that nobody reads is a web with no point.
-//!
-//! A web may be cut at calls: its points in front of a call and behind it are then not joined, so that it can be in one place before and
-//! in another after, with a slot in between. What is not cut is whole; the pieces that a whole web falls into have it as origin.
+// Webs: what one location is chosen for.
+//
+// Where a node leads to another and keeps a register that is live in front of both, its two points want the same location, and so are of
+// one web. So a register that is used for several values in turn, as temporaries are, falls into several webs, each with a location of
+// its own. A result that nobody reads is a web with no point.
+//
+// A web may be cut at calls: its points in front of a call and behind it are then not joined, so that it can be in one place before and
+// in another after, with a slot in between. What is not cut is whole; the pieces that a whole web falls into have it as origin.
 
 use crate::forest::Forest;
 use crate::nodes::{Shape, result};

@@ -1,4 +1,4 @@
-//! What the core asks of a compiler: pieces of a source that are made one by one, and a unit of all of them.
+// What the core asks of a compiler: pieces of a source that are made one by one, and a unit of all of them.
 
 ghost use Rattle.std.specs.Prelude.{◌≡◌, ◌↔◌, ℕ, List, Result, Ok, IfOk, IfErr, IsTrue, All, map};
 ghost use Rattle.std.specs.Arc.{arc_value};

@@ -1,4 +1,4 @@
-//! What clients ask, the commands that go into the order, each with a number of its own, and what is answered.
+// What clients ask, the commands that go into the order, each with a number of its own, and what is answered.
 
 ghost use Rattle.std.specs.Prelude.{◌≡◌, IfOk};
 

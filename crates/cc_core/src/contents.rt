@@ -1,4 +1,4 @@
-//! What a state holds: the library with its order and its disk, how far a commit or a rewrite is, jobs, and what workers hold.
+// What a state holds: the library with its order and its disk, how far a commit or a rewrite is, jobs, and what workers hold.
 
 use crate::command::Numbered;
 use crate::ids::ClientId;

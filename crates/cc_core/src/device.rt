@@ -1,4 +1,4 @@
-//! The device steps of a command's commit, and their failure.
+// The device steps of a command's commit, and their failure.
 
 ghost use Rattle.std.specs.Prelude.{◌≡◌, ◌≤◌, ◌^◌, ℕ, List, Option, Some, IfOk, OnErr, IsErrOf, length};
 ghost use Rattle.cc_library.specs.Body.{body_of};

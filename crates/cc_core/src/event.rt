@@ -1,4 +1,4 @@
-//! What may happen: clients hand in jobs, workers take pieces, a commit and a rewrite go step by step, the device fails, the disk crashes.
+// What may happen: clients hand in jobs, workers take pieces, a commit and a rewrite go step by step, the device fails, the disk crashes.
 
 use crate::command::Request;
 use crate::ids::{CallId, ClientId, PartIndex, WorkerId};

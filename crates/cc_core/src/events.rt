@@ -1,4 +1,4 @@
-//! The step of each event: whether it is possible, what it changes, and what it answers.
+// The step of each event: whether it is possible, what it changes, and what it answers.
 
 ghost use Rattle.std.specs.Prelude.{◌≡◌, ◌↔◌, ◌++◌, ◌∷◌, [], ℕ, Option, None, Some, Ok, Result, IfOk, IfErr, OnErr, IsErrOf, OnOk, IsTrue};
 ghost use Rattle.std.specs.FinMap as table;

@@ -1,4 +1,4 @@
-//! Why an event takes no step, why a command is refused, and why a build makes nothing, each with its number.
+// Why an event takes no step, why a command is refused, and why a build makes nothing, each with its number.
 
 ghost use Rattle.std.specs.Prelude.{◌≡◌};
 

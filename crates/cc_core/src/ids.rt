@@ -1,4 +1,4 @@
-//! Clients, workers, calls and pieces are told apart by numbers.
+// Clients, workers, calls and pieces are told apart by numbers.
 
 /// A client, by any number.
 #[derive(Clone, Copy)]

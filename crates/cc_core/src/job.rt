@@ -1,4 +1,4 @@
-//! What a client has handed in, piece by piece, and what a worker has taken of it.
+// What a client has handed in, piece by piece, and what a worker has taken of it.
 
 ghost use Rattle.std.specs.Prelude.{◌≡◌, ℕ, IfOk, map, replicate};
 ghost use Rattle.std.specs.Ordering.{nat_cmp};

@@ -1,4 +1,5 @@
-//! Laws of the protocol core, each the contract of a function that does nothing: what holds of every run, and how a run can go on.
+// Laws of the protocol core, each the contract of a function that does nothing: what holds of every run, and how a run can go on.
+
 ghost use Rattle.std.specs.Prelude.{◌≡◌, ◌++◌, ℕ, Option, None, Some, List};
 ghost use Rattle.std.specs.FinMap.{get, empty};
 ghost use Rattle.cc_library.specs.Apply.{Units, after};

@@ -1,4 +1,4 @@
-//! Opening a disk: what its records stand for, and where a run goes on from there.
+// Opening a disk: what its records stand for, and where a run goes on from there.
 
 ghost use Rattle.std.specs.Prelude.{◌≡◌, ◌^◌, ◌≤◌, true, List, ℕ, IfOk, IfErr, MatchResult, length};
 ghost use Rattle.cc_disk.specs.Model.{bytes_of, IsImage};

@@ -1,4 +1,4 @@
-//! The crash, and the opening after it.
+// The crash, and the opening after it.
 
 ghost use Rattle.std.specs.Prelude.{◌≡◌, ◌↔◌, ◌-◌, ℕ, List, Option, Some, IfOk, OnErr, IsErrOf, IsTrue, length, take};
 ghost use Rattle.std.specs.Arc.{arc_value};

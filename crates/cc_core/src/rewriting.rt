@@ -1,4 +1,4 @@
-//! The device steps of a rewrite, and their failure. What they write is one commit of the journal, made before the first of them.
+// The device steps of a rewrite, and their failure. What they write is one commit of the journal, made before the first of them.
 
 ghost use Rattle.std.specs.Prelude.{◌≡◌, ◌⊎◌, Option, IfOk, OnErr, IsErrOf};
 ghost use Rattle.cc_core.specs.declared.command.Reply.{Reply};

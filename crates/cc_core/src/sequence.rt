@@ -1,4 +1,4 @@
-//! A list that contracts see as a list.
+// A list that contracts see as a list.
 
 ghost use Rattle.std.specs.Prelude.{◌≡◌, ◌<◌, ◌++◌, ◌∷◌, [], List, length, slice_set, slice_get, take, ◌-◌, OnOk, OnErr};
 ghost use Rattle.std.specs.Option.{option_copied};

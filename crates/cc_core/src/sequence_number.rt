@@ -1,4 +1,4 @@
-//! A number that contracts alone see, so that commands that ask the same are told apart.
+// A number that contracts alone see, so that commands that ask the same are told apart.
 
 ghost use Rattle.std.specs.Prelude.{◌≡◌, ℕ, ◌+◌};
 ghost use Rattle.std.specs.Borrow.{ftrue};

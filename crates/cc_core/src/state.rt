@@ -1,4 +1,4 @@
-//! The machine: a state, the step of an event, and the runs that lead to it from a beginning.
+// The machine: a state, the step of an event, and the runs that lead to it from a beginning.
 
 ghost use Rattle.std.specs.Prelude.{◌≡◌, ◌≢◌, ◌↔◌, ◌≤◌, ◌^◌, true, ℕ, Option, IfOk, IfErr, OnErr, OnOk, IsErrOf, All, Contains, List};
 ghost use Rattle.std.specs.FinMap.{empty};

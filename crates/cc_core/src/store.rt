@@ -1,4 +1,4 @@
-//! The core's disk: a journal in one of its two areas, written one device step at a time, by the journal's own commits.
+// The core's disk: a journal in one of its two areas, written one device step at a time, by the journal's own commits.
 
 ghost use Rattle.std.specs.Prelude.{◌≡◌, ◌↔◌, ◌+◌, ◌^◌, ◌≤◌, [], ◌∷◌, List, ℕ, IsTrue, length, IfOk, IfErr, OnOk, OnErr};
 ghost use Rattle.cc_disk.specs.Model.{bytes_of, IsImage, synced};

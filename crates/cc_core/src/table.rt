@@ -1,4 +1,4 @@
-//! Values by number: jobs by client, work by worker.
+// Values by number: jobs by client, work by worker.
 
 ghost use Rattle.std.specs.Prelude.{◌≡◌, OnOk, OnErr, IsSome, IsOk};
 ghost use Rattle.std.specs.Option.{option_copied};

@@ -1,5 +1,6 @@
 // The cells of a disk in memory: what a read gives at each offset, and whether a crash keeps it. The bytes and the marks stand in two
 // vectors, so that a read, a write and a sync copy and fill whole ranges.
+
 ghost use Rattle.std.specs.Prelude.{◌≡◌, ◌+◌, ◌≤◌, ◌++◌, false, length, take, drop, map, replicate, IfOk};
 ghost use Rattle.cc_disk.specs.Model.{bytes_of, left, new_cells, settled, written, synced, crashed};
 ghost use Rattle.cc_disk.specs.internal.Cells.{cells_of};

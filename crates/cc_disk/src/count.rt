@@ -1,4 +1,5 @@
 // A count without an upper end, of which the last number that fits is shown.
+
 ghost use Rattle.std.specs.Prelude.{◌≡◌, ◌+◌, ◌-◌, ◌^◌, ℕ, min, length};
 
 use crate::history::History;

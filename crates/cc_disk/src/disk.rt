@@ -1,4 +1,5 @@
 // What every disk is to those who use it: its calls, and the rules that an honest kind of disk keeps.
+
 ghost use Rattle.std.specs.Prelude.{◌≡◌, ◌+◌, ◌-◌, ◌^◌, ◌≤◌, min, Bool, IsTrue, List, ℕ, ⊤, length, take, drop, OnOk, OnErr, is_ok, if◌then◌else◌};
 ghost use Rattle.cc_disk.specs.Images.{IsWritten, DiffersWithin, UnsettlesWithin, AddsNone, LeavesAlone, Elapses};
 

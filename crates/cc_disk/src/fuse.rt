@@ -1,4 +1,5 @@
 // The disk that fails on purpose, once or for good, after a number of calls.
+
 ghost use Rattle.std.specs.Prelude.{◌≡◌, ◌+◌, true, false, Some};
 ghost use Rattle.cc_disk.specs.Fuse.{course_of, after_call, ReachesAndFails};
 

@@ -1,4 +1,5 @@
 // A history that only contracts read. It takes no memory, and its methods do nothing at run time.
+
 ghost use Rattle.std.specs.Prelude.{◌≡◌, List, [], ◌∷◌, ◌++◌};
 ghost use Rattle.std.specs.Borrow.{ftrue};
 

@@ -1,4 +1,4 @@
-//! A step with how much of its address is in the machine's registers already: how many items it takes follows from both.
+// A step with how much of its address is in the machine's registers already: how many items it takes follows from both.
 
 use cc_select::Step;
 

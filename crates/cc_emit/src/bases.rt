@@ -1,4 +1,4 @@
-//! The addresses of a unit's objects: each right behind the one before it, in the order of their declarations.
+// The addresses of a unit's objects: each right behind the one before it, in the order of their declarations.
 
 ghost use Rattle.std.specs.Prelude.{◌≡◌, ◌≤◌, ◌<◌, ◌++◌, ◌∷◌, ℕ, List, length, IfOk, OnOk};
 ghost use Rattle.cc_ast.specs.Erase.{object_trees, external_tree, external_trees};

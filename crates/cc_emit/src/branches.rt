@@ -1,5 +1,5 @@
-//! Branches: one instruction to a near place, else the opposite one over a jump. A branch on a register and a word has an instruction in
-//! front of it where no comparison with 0 says the same.
+// Branches: one instruction to a near place, else the opposite one over a jump. A branch on a register and a word has an instruction in
+// front of it where no comparison with 0 says the same.
 
 ghost use Rattle.std.specs.Prelude.{◌≡◌, ◌<◌, ◌≤◌, ◌+◌, ◌++◌, true, length, get_or, OnOk};
 ghost use Rattle.cc_rv32.specs.Fields.{IsBranchOffset};

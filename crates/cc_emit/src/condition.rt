@@ -1,5 +1,5 @@
-//! Conditions of branches: how the words of two registers compare. A comparison of registers is a condition of its own, so a branch on it
-//! needs no truth value in a register; so is one with a word, where a comparison with 0 says the same.
+// Conditions of branches: how the words of two registers compare. A comparison of registers is a condition of its own, so a branch on it
+// needs no truth value in a register; so is one with a word, where a comparison with 0 says the same.
 
 ghost use Rattle.std.specs.Prelude.{◌≡◌, ◌<◌};
 ghost use Rattle.cc_emit.specs.Branches.{opposite, compares, opposed, turned, comparison, immediate_against_zero, operation_on_zero, against_zero};

@@ -1,4 +1,4 @@
-//! Constants: one instruction where the word has twelve bits or twelve zeros at its end, else two.
+// Constants: one instruction where the word has twelve bits or twelve zeros at its end, else two.
 
 ghost use Rattle.std.specs.Prelude.{◌≡◌, ◌≤◌, ◌<◌, ◌++◌, OnOk};
 ghost use Rattle.cc_emit.specs.Emission.{const_items, const_size};

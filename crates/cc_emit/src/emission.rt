@@ -1,4 +1,4 @@
-//! The items of a function's code: those that stand for one step, and those of all steps behind the prologue.
+// The items of a function's code: those that stand for one step, and those of all steps behind the prologue.
 
 ghost use Rattle.std.specs.Prelude.{◌≡◌, ◌≤◌, ◌<◌, ◌+◌, ◌^◌, ◌++◌, ◌∷◌, [], ℕ, true, length, get_or, OnOk, IfOk};
 ghost use Rattle.std.specs.List.{AllByRecursion};

@@ -1,4 +1,4 @@
-//! The pass: the piece of a pair of Linear, by the steps that are selected for it.
+// The pass: the piece of a pair of Linear, by the steps that are selected for it.
 
 ghost use Rattle.std.specs.Prelude.{◌≡◌, IfOk};
 ghost use Rattle.cc_emit.specs.Function.{pair_items};

@@ -1,4 +1,4 @@
-//! The frame of a function: its slots, and the registers that it saves behind them.
+// The frame of a function: its slots, and the registers that it saves behind them.
 
 ghost use Rattle.std.specs.Prelude.{◌≡◌, ◌≤◌, ◌<◌, ◌+◌, ◌*◌, ◌++◌, ◌==◌, ℕ, false, length, get_or, IfOk, OnOk, MatchOption};
 ghost use Rattle.std.specs.List.{AllByRecursion};

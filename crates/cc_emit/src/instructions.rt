@@ -1,4 +1,4 @@
-//! Instructions by the numbers of their operands, as items, and a word cut in two, for `lui` and the instruction behind it.
+// Instructions by the numbers of their operands, as items, and a word cut in two, for `lui` and the instruction behind it.
 
 ghost use Rattle.std.specs.Prelude.{◌≡◌, ◌<◌, ◌^◌, ◌++◌, ◌∷◌, [], OnOk};
 ghost use Rattle.cc_rv32.specs.Fields.{IsImmediate, IsBranchOffset};

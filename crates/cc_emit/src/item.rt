@@ -1,4 +1,4 @@
-//! The items of a function's code, before it is known where the code stands.
+// The items of a function's code, before it is known where the code stands.
 
 use cc_rv32::instr::Instr;
 

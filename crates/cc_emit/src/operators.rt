@@ -1,4 +1,4 @@
-//! Operators: the items of each, by its recipe.
+// Operators: the items of each, by its recipe.
 
 ghost use Rattle.std.specs.Prelude.{◌≡◌, ◌<◌, ◌≤◌, ◌%◌, ◌++◌, OnOk};
 ghost use Rattle.cc_emit.specs.Emission.{recipe, recipe_items, word_recipe, word_recipe_items, unary_instr};

@@ -1,4 +1,4 @@
-//! The code of one function of a unit, with the fact that the machine does with it what the function does.
+// The code of one function of a unit, with the fact that the machine does with it what the function does.
 
 ghost use Rattle.std.specs.Prelude.{◌≡◌, ◌<◌, ◌≤◌, length};
 ghost use Rattle.std.specs.Arc.{arc_value};

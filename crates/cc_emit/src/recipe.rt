@@ -1,4 +1,4 @@
-//! How operators become instructions: by one, or by asking of one's result whether it is 0. How many these are and which follows from that.
+// How operators become instructions: by one, or by asking of one's result whether it is 0. How many these are and which follows from that.
 
 ghost use Rattle.std.specs.Prelude.{◌≡◌, ◌<◌, ◌≤◌};
 ghost use Rattle.cc_emit.specs.Branches.{asked_of};

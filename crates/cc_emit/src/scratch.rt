@@ -1,8 +1,8 @@
-//! What the scratch registers hold within a straight piece. An access leaves in `x6` the upper part of an address, and in `x5` the address
-//! of an element, less the lower part of its object's address, or less the object's distance from `x3`; later accesses take what they need
-//! of it. It is forgotten at a label and a call, and the element's address where its index register is written or `x5` is used. What is
-//! reached from `x3`, the global pointer, needs no upper part; a function sets `x3` where its accesses take fewer instructions so, those
-//! that set it counted.
+// What the scratch registers hold within a straight piece. An access leaves in `x6` the upper part of an address, and in `x5` the address
+// of an element, less the lower part of its object's address, or less the object's distance from `x3`; later accesses take what they need
+// of it. It is forgotten at a label and a call, and the element's address where its index register is written or `x5` is used. What is
+// reached from `x3`, the global pointer, needs no upper part; a function sets `x3` where its accesses take fewer instructions so, those
+// that set it counted.
 
 ghost use Rattle.std.specs.Prelude.{◌≡◌, ◌≤◌, ◌<◌, ◌^◌, Bool, length, IfOk};
 ghost use Rattle.cc_words.specs.Widths.{same_width};

@@ -1,6 +1,6 @@
-//! Where labels stand. A place is told by how many items come from it on, so a table of labels is filled from the back, and each sum is
-//! known where it is needed. A first table takes each branch for long; by it a branch is near or far. A second one has the places with
-//! each branch as long as it is.
+// Where labels stand. A place is told by how many items come from it on, so a table of labels is filled from the back, and each sum is
+// known where it is needed. A first table takes each branch for long; by it a branch is near or far. A second one has the places with
+// each branch as long as it is.
 
 ghost use Rattle.std.specs.Prelude.{◌≡◌, ◌≤◌, ◌<◌, ◌^◌, length, get_or, ℕ, List, [], ◌∷◌, false, IfOk};
 ghost use Rattle.std.specs.List.{AllByRecursion};

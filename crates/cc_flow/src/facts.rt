@@ -1,4 +1,4 @@
-//! What may be known at a node, and what a node makes of it.
+// What may be known at a node, and what a node makes of it.
 
 ghost use Rattle.std.specs.Prelude.{◌≡◌, ℕ, ◌<◌, ◌≤◌, IfOk, IfErr, IsTrue, IsFalse};
 ghost use Rattle.cc_flow.specs.Lattice.{Equivalent, IsLattice};

@@ -1,4 +1,4 @@
-//! Graphs whose nodes are numbers.
+// Graphs whose nodes are numbers.
 
 ghost use Rattle.std.specs.Prelude.{◌≡◌, ℕ, ◌<◌, ◌++◌, ◌∷◌, [], All, Contains, length, replicate, slice_set, set, IfOk, IfErr};
 ghost use Rattle.cc_flow.specs.Flow.{successors_of, rows_of};

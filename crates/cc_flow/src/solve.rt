@@ -1,4 +1,4 @@
-//! The solver.
+// The solver.
 
 ghost use Rattle.std.specs.Prelude.{◌≡◌, ℕ, ◌<◌, length, set, IfOk, IsTrue, IsFalse, All, sum_by, Bool, true, Contains};
 ghost use Rattle.cc_flow.specs.Lattice.{Equivalent};

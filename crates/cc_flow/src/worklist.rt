@@ -1,4 +1,4 @@
-//! The nodes that wait for a visit.
+// The nodes that wait for a visit.
 
 ghost use Rattle.std.specs.Prelude.{◌≡◌, ◌<◌, ℕ, Bool, true, false, replicate, slice_set, slice_get, Some, All, IfOk, IfSome, IfNone, length};
 ghost use Rattle.cc_flow.specs.internal.Waiting.{waits};

@@ -1,4 +1,5 @@
 // The build that compiles.
+
 ghost use Rattle.std.specs.Prelude.{◌≡◌, ℕ, List, Result};
 ghost use Rattle.cc_headline.specs.Plan.{IsPlan};
 ghost use Rattle.cc_headline.specs.Compiling.{compiling, Keeps, is_right};

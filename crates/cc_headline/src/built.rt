@@ -1,4 +1,5 @@
 // What the type of a compiled unit keeps, as the protocol core asks for it.
+
 ghost use Rattle.cc_headline.specs.Built.{MadeUnitsAreBuilt};
 
 use cc_link::linked_units_agree;

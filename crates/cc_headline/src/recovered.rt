@@ -1,4 +1,5 @@
 // The headline: what is recovered after any events and any crash, and that each unit of it does what its source says.
+
 ghost use Rattle.std.specs.Prelude.{◌≡◌, List, IfOk, IfErr};
 ghost use Rattle.cc_core.specs.declared.contents.Contents.{Contents};
 ghost use Rattle.cc_core.specs.declared.event.Event.{Event};

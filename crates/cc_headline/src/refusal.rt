@@ -1,4 +1,5 @@
 // The faults of the compiler as the core's refusals.
+
 ghost use Rattle.std.specs.Prelude.{◌≡◌};
 ghost use Rattle.cc_headline.specs.internal.Refusals.{refused_by};
 

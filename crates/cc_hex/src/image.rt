@@ -1,4 +1,4 @@
-//! An image's text: rows of 16 bytes, first those of its code and then those of its globals.
+// An image's text: rows of 16 bytes, first those of its code and then those of its globals.
 
 ghost use Rattle.std.specs.Prelude.{◌≡◌, ◌+◌, ◌++◌, ◌^◌, ◌≤◌, length, IfOk, OnOk};
 ghost use Rattle.cc_hex.specs.Contents.{bytes_of_words, Holds, Says};

@@ -1,4 +1,4 @@
-//! One record of an Intel HEX text, written behind the ones before it.
+// One record of an Intel HEX text, written behind the ones before it.
 
 ghost use Rattle.std.specs.Prelude.{◌≡◌, ◌++◌, ◌<◌, ◌≤◌, ◌/◌, ◌%◌, length, sum, OnOk};
 ghost use Rattle.std.specs.List.{flat_map};

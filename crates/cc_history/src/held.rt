@@ -2,6 +2,7 @@
 //
 // An entry is counted as 256 bytes, with the unit that a change handed in and the names that a list was answered. A unit that `fetch`
 // was answered is shared with the library, or with the entry that put it, and is not counted again.
+
 ghost use Rattle.std.specs.Prelude.{◌≡◌, ◌+◌, ◌≤◌};
 ghost use Rattle.cc_history.specs.Held.{asked_bytes, at_most_told, certificate_bytes, command_bytes, entry_bytes, receipts_bytes, reply_bytes, unit_bytes};
 

@@ -1,4 +1,5 @@
 // Whether two calls are the same, by their contents.
+
 ghost use Rattle.std.specs.Prelude.{◌≡◌, ◌↔◌, IsTrue};
 
 use crate::command::{Asked, Command};

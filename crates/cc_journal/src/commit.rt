@@ -1,6 +1,7 @@
 // One commit: how records get onto the disk. Bytes are written where they count for nothing yet, and synced; then one byte
 // is written that puts them in force, and synced. So a crash at any moment leaves the old records or the new ones. An
 // `append` and a `rewrite` differ in which bytes these are alone.
+
 ghost use Rattle.std.specs.Prelude.{◌≡◌, ◌+◌, ◌*◌, ◌^◌, ◌<◌, ◌≤◌, ◌++◌, List, ℕ, IsTrue, length, IfOk, OnErr, OnOk, is_ok, if◌then◌else◌};
 ghost use Rattle.cc_disk.specs.Images.{LeavesAlone, LeavesOnly};
 ghost use Rattle.cc_journal.specs.Format.{open_gate, records, room_of};

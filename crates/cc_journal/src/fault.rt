@@ -1,4 +1,5 @@
 // Why a journal refuses.
+
 ghost use Rattle.std.specs.Prelude.{◌≡◌};
 ghost use Rattle.cc_journal.specs.declared.fault.JournalFault.TheVariants.{DiskFault as Failed, OutOfMemory as NoMemory};
 

@@ -1,4 +1,5 @@
 // Making an empty journal on a disk.
+
 ghost use Rattle.std.specs.Prelude.{◌≡◌, ◌+◌, ◌++◌, [], ◌∷◌, List, ℕ, IsTrue, drop, OnOk, IsErrOf};
 ghost use Rattle.cc_journal.specs.Format.{header, AllHold};
 ghost use Rattle.cc_journal.specs.Answers.{FormatAnswers};

@@ -1,4 +1,5 @@
 // The log: where records stand on a disk, and how they get there. It knows no body: who needs the bodies keeps them.
+
 ghost use Rattle.std.specs.Prelude.{◌≡◌, ◌≢◌, ◌⊎◌, ◌+◌, ◌*◌, ◌^◌, ◌<◌, ◌≤◌, ◌++◌, [], ◌∷◌, List, ℕ, true, false, IsTrue, IsNone, length, IfOk, IfErr, IfSome, MatchResult, OnOk, OnErr, IsErrOf, vec_len, vec_capacity};
 ghost use Rattle.cc_disk.specs.Images.{IsWritten, LeavesAlone, LeavesOnly, OnlyReads};
 ghost use Rattle.cc_journal.specs.Format.{AllHold, HasAreaByte, HoldsOldOrNew, HoldsOneOf, HoldsRecords, IsArea, record_bytes, records, room_of};

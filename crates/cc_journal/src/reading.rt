@@ -1,4 +1,5 @@
 // Reading a journal from a disk of which nothing is known.
+
 ghost use Rattle.std.specs.Prelude.{IfSome, IsNone, IsErrOf, ◌↔◌, ◌≡◌, ◌≢◌, ◌⊎◌, ◌+◌, ◌*◌, ◌^◌, ◌<◌, ◌≤◌, ◌++◌, [], ◌∷◌, List, ℕ, false, IsTrue, length, take, drop, IfOk, IfErr, MatchResult, OnOk, OnErr, is_ok, if◌then◌else◌};
 ghost use Rattle.std.specs.Int.{w32, to_le_bytes, from_le_bytes};
 ghost use Rattle.cc_disk.specs.Images.{LeavesAlone, OnlyReads};

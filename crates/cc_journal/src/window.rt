@@ -1,6 +1,7 @@
 // Reading ahead. Records are short, and a device call for each of their parts would cost more than the parts: so one call
 // reads what follows an offset, as far as a window goes, and the parts of the records there are taken from the window. A
 // body that goes on behind the window is completed by a call of its own, so no byte is read twice.
+
 ghost use Rattle.std.specs.Prelude.{◌≡◌, ◌+◌, ◌-◌, ◌^◌, ◌<◌, ◌≤◌, [], List, ℕ, IsTrue, length, take, drop, IfOk, IfErr, OnOk};
 ghost use Rattle.cc_disk.specs.Images.{OnlyReads};
 ghost use Rattle.cc_journal.specs.internal.Reading.{IsBytesFault, Shows, counted};

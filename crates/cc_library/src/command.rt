@@ -1,4 +1,5 @@
 // What changes a library.
+
 ghost use Rattle.std.specs.Prelude.{◌≡◌, IfOk};
 ghost use Rattle.cc_library.specs.Body.{kind_number};
 

@@ -1,4 +1,5 @@
 // Why bytes are no name, and why a library refuses.
+
 ghost use Rattle.std.specs.Prelude.{◌≡◌};
 
 use cc_journal::JournalFault;

@@ -1,4 +1,5 @@
 // The library and its calls.
+
 ghost use Rattle.std.specs.Prelude.{◌≡◌, ◌↔◌, ◌≤◌, ◌⊎◌, ◌+◌, [], ◌∷◌, ◌++◌, List, ℕ, false, IsTrue, IfOk, IfErr, Ok, OnOk, MatchResult};
 ghost use Rattle.std.specs.Option.{option_map};
 ghost use Rattle.std.specs.Arc.{arc_value};

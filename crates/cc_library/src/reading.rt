@@ -1,4 +1,5 @@
 // Reading a command from the body of a record.
+
 ghost use Rattle.std.specs.Prelude.{◌≡◌, ◌≤◌, ◌*◌, List, ℕ, length, drop, IfOk};
 ghost use Rattle.cc_library.specs.declared.command.LibraryCommand.{LibraryCommand};
 ghost use Rattle.cc_library.specs.Body.{Spells};

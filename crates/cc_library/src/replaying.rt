@@ -1,4 +1,5 @@
 // What the records of a journal stand for.
+
 ghost use Rattle.std.specs.Prelude.{IfOk, IfErr};
 ghost use Rattle.cc_library.specs.Recovered.{StandFor};
 ghost use Rattle.cc_library.specs.Answers.{ReplayFaults};

@@ -1,4 +1,4 @@
-//! Where chains of empty blocks end, and the order of blocks, both by places in the list of blocks.
+// Where chains of empty blocks end, and the order of blocks, both by places in the list of blocks.
 
 pub mod arrange;
 pub mod chains;

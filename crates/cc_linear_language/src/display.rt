@@ -1,4 +1,4 @@
-//! A function as text: its number and its slots, and a line for each item.
+// A function as text: its number and its slots, and a line for each item.
 
 use crate::item::LinearItem;
 use crate::pair::LinearPair;

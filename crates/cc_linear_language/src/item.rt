@@ -1,4 +1,4 @@
-//! The items of Linear: moves, operations on registers, labels, jumps and branches.
+// The items of Linear: moves, operations on registers, labels, jumps and branches.
 
 use cc_ltl::{Move, Register};
 use cc_words::{Binary, Unary, Width};

@@ -1,4 +1,4 @@
-//! What an audit says.
+// What an audit says.
 
 /// What an audit says.
 #[derive(Clone, Copy)]

@@ -1,9 +1,9 @@
-//! Whether a stored unit is what this compiler makes of its text along its certificate: the compiler's passes with the allocation read
-//! from the certificate in place of one that is made.
-//!
-//! Nothing is believed of the three parts. The unit is made anew from the text and the functions of LTL that are read, and is then the
-//! stored one or not: since a function of LTL has one spelling, no byte of the certificate can be left over, or be another. What a unit that
-//! was made is right in belongs to its type.
+// Whether a stored unit is what this compiler makes of its text along its certificate: the compiler's passes with the allocation read
+// from the certificate in place of one that is made.
+//
+// Nothing is believed of the three parts. The unit is made anew from the text and the functions of LTL that are read, and is then the
+// stored one or not: since a function of LTL has one spelling, no byte of the certificate can be left over, or be another. What a unit that
+// was made is right in belongs to its type.
 
 ghost use Rattle.std.specs.Prelude.{◌≡◌, ◌↔◌, ◌<◌, length, Some, IfOk, IsTrue};
 ghost use Rattle.std.specs.Arc.{arc_value};

@@ -1,4 +1,4 @@
-//! Why a text has no image.
+// Why a text has no image.
 
 ghost use Rattle.std.specs.Prelude.{◌≡◌};
 ghost use Rattle.cc_link.specs.Compile.{build_fault_number, build_fault_place};

@@ -1,4 +1,4 @@
-//! The certificate of a unit: how many functions it has, and the LTL of each, behind its length. Here it is written, and taken apart.
+// The certificate of a unit: how many functions it has, and the LTL of each, behind its length. Here it is written, and taken apart.
 
 ghost use Rattle.std.specs.Prelude.{◌≡◌, ◌≤◌, ◌<◌, ◌^◌, ◌++◌, length, IfOk, OnOk};
 ghost use Rattle.cc_ltl.specs.Ltl.{IsLtl};

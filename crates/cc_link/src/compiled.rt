@@ -1,4 +1,4 @@
-//! A unit that was compiled.
+// A unit that was compiled.
 
 ghost use Rattle.std.specs.Prelude.{◌≡◌};
 ghost use Rattle.std.specs.Arc.{arc_value};

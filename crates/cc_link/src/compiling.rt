@@ -1,4 +1,4 @@
-//! From a text to a compiled unit, on one thread.
+// From a text to a compiled unit, on one thread.
 
 ghost use Rattle.std.specs.Prelude.{◌≡◌, ◌<◌, ℕ, List, length, All, IfOk, IfErr};
 ghost use Rattle.std.specs.Arc.{arc_value};

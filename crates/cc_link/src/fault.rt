@@ -1,4 +1,4 @@
-//! Why there is no unit, and why a function has no piece.
+// Why there is no unit, and why a function has no piece.
 
 ghost use Rattle.std.specs.Prelude.{◌≡◌};
 ghost use Rattle.cc_link.specs.Fault.{link_fault_number};

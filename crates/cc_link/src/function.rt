@@ -1,4 +1,4 @@
-//! One function through all passes: from its tree to the piece of its code.
+// One function through all passes: from its tree to the piece of its code.
 
 ghost use Rattle.std.specs.Prelude.{◌≡◌, ◌<◌, length, IfOk, IfErr};
 ghost use Rattle.std.specs.Arc.{arc_value};

@@ -1,4 +1,4 @@
-//! The words of objects in an image: four elements of an array of `unsigned char` are one word.
+// The words of objects in an image: four elements of an array of `unsigned char` are one word.
 
 ghost use Rattle.std.specs.Prelude.{◌≡◌, ◌<◌, ◌+◌, ◌^◌, ◌++◌, get_or, length, IfOk, OnOk};
 ghost use Rattle.cc_ast.specs.Erase.{object_tree, object_trees, external_tree, external_trees};

@@ -1,7 +1,7 @@
-//! From the pieces of a unit's functions to the unit that the library keeps.
-//!
-//! Pieces come in any order. First it is seen that there is one of each function, and that all are of this text; then what stands where
-//! depends on nothing but the functions' items in the order of definitions.
+// From the pieces of a unit's functions to the unit that the library keeps.
+//
+// Pieces come in any order. First it is seen that there is one of each function, and that all are of this text; then what stands where
+// depends on nothing but the functions' items in the order of definitions.
 
 ghost use Rattle.std.specs.Prelude.{◌≡◌, ◌⊎◌, ◌≤◌, ◌<◌, ◌^◌, Some, Ok, Err, length, IfOk, IfErr};
 ghost use Rattle.std.specs.Arc.{arc_value};

@@ -1,4 +1,4 @@
-//! Why a function has no piece.
+// Why a function has no piece.
 
 ghost use Rattle.std.specs.Prelude.{◌≡◌};
 ghost use Rattle.cc_link.specs.Compile.{piece_fault_number};

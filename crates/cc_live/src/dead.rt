@@ -1,4 +1,4 @@
-//! A function without its dead nodes.
+// A function without its dead nodes.
 
 ghost use Rattle.std.specs.Prelude.{◌≡◌, [], get_or, length, All, IsSome, IfOk, IfErr};
 ghost use Rattle.cc_rtl_language.specs.Rtl.{node_at, successors};

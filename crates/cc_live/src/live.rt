@@ -1,4 +1,4 @@
-//! The least live sets.
+// The least live sets.
 
 ghost use Rattle.std.specs.Prelude.{◌≡◌, length, IfOk};
 ghost use Rattle.cc_rtl_language.specs.Live.{Sets, AreLive};

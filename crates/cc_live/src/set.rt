@@ -1,4 +1,4 @@
-//! Sets of registers, as rows of bits: register r is bit r % 64 of word r / 64.
+// Sets of registers, as rows of bits: register r is bit r % 64 of word r / 64.
 
 ghost use Rattle.std.specs.Prelude.{◌≡◌, ℕ, ◌==◌, ◌||◌, ◌&&◌, not, IfOk, IfErr};
 ghost use Rattle.cc_flow.specs.Lattice.{Equivalent};

@@ -1,4 +1,4 @@
-//! What a node makes of the registers that are live behind it, and what the solver makes of that.
+// What a node makes of the registers that are live behind it, and what the solver makes of that.
 
 ghost use Rattle.std.specs.Prelude.{◌≡◌, ℕ, ◌||◌, ◌&&◌, ◌↔◌, not, length, IsTrue, IfOk};
 ghost use Rattle.cc_rtl_language.specs.Code.{node_of};

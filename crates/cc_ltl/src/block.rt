@@ -1,4 +1,4 @@
-//! A block: moves, one operation, moves.
+// A block: moves, one operation, moves.
 
 ghost use Rattle.std.specs.Prelude.{◌≡◌, ◌<◌, ◌^◌, ◌↔◌, length, IsOk, MatchResult};
 

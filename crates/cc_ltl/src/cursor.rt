@@ -1,5 +1,5 @@
-//! The bytes of a function that are still to be read, and the fields that are read off their front: each step gives the field and
-//! leaves the bytes behind it, or gives none.
+// The bytes of a function that are still to be read, and the fields that are read off their front: each step gives the field and
+// leaves the bytes behind it, or gives none.
 
 ghost use Rattle.std.specs.Prelude.{◌≡◌, ◌==◌, length};
 ghost use Rattle.cc_ltl.specs.internal.Reading.{Reads, binary_in, byte_in, half_in, register_in, slot_in, unary_in, width_in, word_in};

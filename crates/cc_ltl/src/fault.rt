@@ -1,4 +1,4 @@
-//! Why bytes are no function.
+// Why bytes are no function.
 
 ghost use Rattle.std.specs.Prelude.{◌≡◌};
 

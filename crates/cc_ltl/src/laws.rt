@@ -1,4 +1,4 @@
-//! Laws of the definitions, each the contract of a function that does nothing.
+// Laws of the definitions, each the contract of a function that does nothing.
 
 ghost use Rattle.std.specs.Prelude.{◌≡◌, List, ℕ};
 ghost use Rattle.cc_simulation.specs.Cuts.{IsLayer};

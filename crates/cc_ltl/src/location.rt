@@ -1,4 +1,4 @@
-//! Where a word can be: an allocatable register, or a slot of the frame.
+// Where a word can be: an allocatable register, or a slot of the frame.
 
 ghost use Rattle.std.specs.Prelude.{◌≡◌, ◌<◌, ◌≤◌, IsSome, IfSome, ◌↔◌};
 ghost use Rattle.cc_ltl.specs.Registers.{IsAllocatable, most_slots};

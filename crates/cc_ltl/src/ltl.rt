@@ -1,4 +1,4 @@
-//! A function of LTL: its blocks, in the order of their labels.
+// A function of LTL: its blocks, in the order of their labels.
 
 ghost use Rattle.std.specs.Prelude.{◌≡◌, ◌↔◌, length, not, IsTrue, IsOk, MatchResult, OnOk};
 ghost use Rattle.std.specs.List.{AllByRecursion};

@@ -1,4 +1,4 @@
-//! What a block does: moves between locations, and one operation on registers.
+// What a block does: moves between locations, and one operation on registers.
 
 use crate::location::{Register, Slot};
 use cc_words::{Binary, Unary, Width};

@@ -1,5 +1,5 @@
-//! The function that bytes spell, from left to right. No room is taken by a number that the bytes say: a list grows by what was
-//! read, so bytes that lie about their length cost no more than they have.
+// The function that bytes spell, from left to right. No room is taken by a number that the bytes say: a list grows by what was
+// read, so bytes that lie about their length cost no more than they have.
 
 ghost use Rattle.std.specs.Prelude.{◌≡◌, length, IfOk};
 ghost use Rattle.cc_ltl.specs.Bytes.{ReadAnswers};

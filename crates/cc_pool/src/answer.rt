@@ -1,4 +1,4 @@
-//! What a worker answers for a function.
+// What a worker answers for a function.
 
 ghost use Rattle.std.specs.Prelude.{◌≡◌, ◌≢◌, ◌<◌, length, IfSome};
 ghost use Rattle.std.specs.Arc.{arc_value};

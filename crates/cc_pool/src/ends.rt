@@ -1,7 +1,7 @@
-//! The queue's two ends, and a pass of it. Only these functions call the channel.
-//!
-//! Whoever holds the one end holds the other: a worker that waits on the queue keeps it open itself, so its receive ends with an item
-//! and never because all senders are gone.
+// The queue's two ends, and a pass of it. Only these functions call the channel.
+//
+// Whoever holds the one end holds the other: a worker that waits on the queue keeps it open itself, so its receive ends with an item
+// and never because all senders are gone.
 
 ghost use Rattle.std.specs.Prelude.{◌≡◌, [], IfOk, OnErr, OnOk, IfSome, IfNone};
 ghost use Rattle.cc_pool.specs.declared.rule.Role.TheVariants.{Owner, Out};

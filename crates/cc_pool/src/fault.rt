@@ -1,4 +1,4 @@
-//! Why a job has no pieces.
+// Why a job has no pieces.
 
 ghost use Rattle.std.specs.Prelude.{◌≡◌};
 ghost use Rattle.cc_pool.specs.Fault.{pool_fault_number};

@@ -1,4 +1,4 @@
-//! A gate that workers pass.
+// A gate that workers pass.
 
 /// What a worker calls between taking a piece and compiling it. The worker holds no lock then.
 pub trait Gate {

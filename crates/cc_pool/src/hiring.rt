@@ -1,7 +1,7 @@
-//! How workers start and end.
-//!
-//! A worker that ends hands its pass back over a channel with a place for each. The handle of its thread is let go: a thread's handle
-//! stays with the thread that made it, and the pool is shared by many.
+// How workers start and end.
+//
+// A worker that ends hands its pass back over a channel with a place for each. The handle of its thread is let go: a thread's handle
+// stays with the thread that made it, and the pool is shared by many.
 
 ghost use Rattle.std.specs.Prelude.{◌≡◌, ◌+◌, ◌++◌, length, OnOk};
 ghost use Rattle.cc_pool.specs.declared.rule.Role.TheVariants.{Owner};

@@ -1,4 +1,4 @@
-//! What goes to the workers.
+// What goes to the workers.
 
 ghost use Rattle.std.specs.Prelude.{◌≡◌, ◌<◌, IfOk, length};
 ghost use Rattle.std.specs.Arc.{arc_value};

@@ -1,7 +1,7 @@
-//! How a job's answers are put in order.
-//!
-//! A plain channel says nothing of which job a message is from. So an answer is told by its text, compared when it runs, and its
-//! function's number: what another text's answer may be stays out.
+// How a job's answers are put in order.
+//
+// A plain channel says nothing of which job a message is from. So an answer is told by its text, compared when it runs, and its
+// function's number: what another text's answer may be stays out.
 
 ghost use Rattle.std.specs.Prelude.{◌≡◌, ◌<◌, length, All, HoldsAt, IfOk, IfErr, IfSome};
 ghost use Rattle.cc_link.specs.Made.{IsCompiled};

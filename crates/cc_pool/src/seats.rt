@@ -1,4 +1,4 @@
-//! Who holds a pass of the queue.
+// Who holds a pass of the queue.
 
 ghost use Rattle.std.specs.Prelude.{◌≡◌, ◌+◌, [], ◌++◌, ◌∷◌, OnOk, OnErr, IfSome};
 ghost use Rattle.cc_pool.specs.declared.item.Item.TheVariants.{Piece};

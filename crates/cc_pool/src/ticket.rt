@@ -1,4 +1,4 @@
-//! A job that was handed in.
+// A job that was handed in.
 
 ghost use Rattle.std.specs.Prelude.{◌≡◌, length, All, IfOk, IfErr};
 ghost use Rattle.std.specs.Arc.{arc_value};

@@ -1,4 +1,4 @@
-//! What a worker does.
+// What a worker does.
 
 use crate::ends::Ends;
 use crate::gate::Gate;

@@ -1,4 +1,5 @@
 // Whether a library with its history can be ended with its clients.
+
 ghost use Rattle.std.specs.Prelude.{◌≡◌, ℕ, ◌↔◌, false, IsTrue, IfErr, OnErr, OnOk, length, map};
 ghost use Rattle.cc_history.specs.Closing.{AreApart, AreOwn, IsClosed, IsNotWhole, ReceiptsStand, SomeoneAstray, receipts_of};
 ghost use Rattle.cc_recorded.specs.Answers.{IsNotClosed};

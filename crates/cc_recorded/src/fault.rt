@@ -1,4 +1,5 @@
 // Why a call is refused under the lock.
+
 ghost use Rattle.std.specs.Prelude.{◌≡◌};
 ghost use Rattle.cc_recorded.specs.Fault.{book_fault_number};
 

@@ -1,4 +1,5 @@
 // What a commit is on the state of the protocol core that a book shows.
+
 ghost use Rattle.std.specs.Prelude.{◌≡◌, [], false, true, IsTrue, Option, Result};
 ghost use Rattle.cc_disk.specs.Images.{LeavesAlone};
 ghost use Rattle.cc_journal.specs.Format.{HoldsRecords};

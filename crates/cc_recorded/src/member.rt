@@ -1,4 +1,5 @@
 // Who calls, as the book knows it.
+
 ghost use Rattle.std.specs.Prelude.{◌≡◌, ◌+◌, [], length};
 ghost use Rattle.cc_history.specs.History.{IsOwn};
 

@@ -1,4 +1,5 @@
 // What a book's parameter names.
+
 use std::marker::Brand;
 use std::sync::ledger::Ledger;
 

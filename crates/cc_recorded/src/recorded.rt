@@ -1,4 +1,5 @@
 // The library with the history of its calls.
+
 ghost use Rattle.std.specs.Prelude.{◌≡◌, ◌≤◌, ℕ, List, [], false, IsTrue, IfErr, IfOk, length};
 ghost use Rattle.cc_library.specs.Answers.{IsMended};
 ghost use Rattle.cc_library.specs.Apply.{apply};

@@ -1,8 +1,8 @@
-// Which local, object or function a name is, where the objects lie, and in which type an operator works.
-//
-// `layout` has where the names of file scope lead, on `places`, and `units` and `objects` lay a unit out; `environment` is
-// where a statement stands, and `declarations`, `objects` and `units` bring names into it; `operations` has the operation on
-// words that an operator is. Any walk that translates a typed unit rests on these.
+//! Which local, object or function a name is, where the objects lie, and in which type an operator works.
+//!
+//! `layout` has where the names of file scope lead, on `places`, and `units` and `objects` lay a unit out; `environment` is
+//! where a statement stands, and `declarations`, `objects` and `units` bring names into it; `operations` has the operation on
+//! words that an operator is. Any walk that translates a typed unit rests on these.
 #![tactic(auto)]
 
 mod declarations;

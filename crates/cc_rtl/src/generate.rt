@@ -1,7 +1,11 @@
-//! The nodes of a function's code.
-//!
-//! Nodes are made from the end of the code to its beginning, so that the label to go on at is known when a node is made; then they get
-//! labels anew, which ascend along the code.
+// The nodes of a function's code.
+//
+// Nodes are made from the end of the code to its beginning, so that the label to go on at is known when a node is made; then they get
+// labels anew, which ascend along the code.
+
+mod expressions;
+mod graph;
+mod statements;
 
 ghost use Rattle.std.specs.Prelude.{◌≡◌, ◌≤◌, IfOk};
 ghost use Rattle.cc_cminor.specs.Code.{statement_of};
@@ -10,10 +14,6 @@ ghost use Rattle.cc_rtl_language.specs.Rtl.{most_nodes};
 ghost use Rattle.cc_rtl_language.specs.Code.{labelled_of};
 ghost use Rattle.cc_rtl.specs.Size.{function_nodes};
 ghost use Rattle.cc_rtl.specs.internal.Generating.{generated_nodes};
-
-mod expressions;
-mod graph;
-mod statements;
 
 use cc_cminor::Statement;
 use cc_instr_list::InstrList;

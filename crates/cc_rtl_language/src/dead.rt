@@ -1,4 +1,4 @@
-//! Nodes that become nops.
+// Nodes that become nops.
 
 ghost use Rattle.std.specs.Prelude.{◌≡◌, ◌==◌, All, IsSome, Some, MatchOption, option_map};
 ghost use Rattle.cc_rtl_language.specs.Rtl as rtl;

@@ -1,4 +1,4 @@
-//! The nodes of RTL.
+// The nodes of RTL.
 
 use cc_words::{Binary, Unary, Width};
 use smallvec::SmallVec;

@@ -1,4 +1,4 @@
-//! The nodes of a function as dataflow counts them: by their positions, with the graph of their successors.
+// The nodes of a function as dataflow counts them: by their positions, with the graph of their successors.
 
 ghost use Rattle.std.specs.Prelude.{◌≡◌, ◌<◌, ◌++◌, length, map, slice_set, All, IsSome, IfOk};
 ghost use Rattle.cc_flow.specs.Flow.{successors_of};

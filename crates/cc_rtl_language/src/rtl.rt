@@ -1,7 +1,7 @@
-//! A function of RTL: its nodes, in an instruction list.
-//!
-//! The list's labels are the nodes': they are the numbers from 0 on, and ascend along the code as it was made. So a label is its node's
-//! position too, and a node is found in constant time; an edit puts another node in its place under the same label.
+// A function of RTL: its nodes, in an instruction list.
+//
+// The list's labels are the nodes': they are the numbers from 0 on, and ascend along the code as it was made. So a label is its node's
+// position too, and a node is found in constant time; an edit puts another node in its place under the same label.
 
 ghost use Rattle.std.specs.Prelude.{◌≡◌, ◌<◌, ◌≤◌, length, slice_get, Some, All, IsSome, IfOk, MatchOption};
 ghost use Rattle.cc_rtl_language.specs.Rtl.{IsRtl, most_nodes, node_at};

@@ -1,4 +1,4 @@
-//! The word of an instruction: its fields, put side by side.
+// The word of an instruction: its fields, put side by side.
 
 ghost use Rattle.std.specs.Prelude.{◌≡◌, ◌<◌, Some};
 ghost use Rattle.cc_rv32.specs.Table.{instruction_of, encoding_of, IsEncodable, fields_word, immediate_word, upper_word};

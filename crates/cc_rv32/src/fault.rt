@@ -1,4 +1,4 @@
-//! Why a call of this crate has refused.
+// Why a call of this crate has refused.
 
 ghost use Rattle.std.specs.Prelude.{◌≡◌};
 

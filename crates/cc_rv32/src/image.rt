@@ -1,4 +1,4 @@
-//! An image: the words of a program and of its data.
+// An image: the words of a program and of its data.
 
 ghost use Rattle.std.specs.Prelude.{◌≡◌, ◌≤◌, ◌<◌, ◌↔◌, length, IsOk, MatchResult};
 

@@ -1,4 +1,4 @@
-//! The listing of an image: a line for each word of its code, with its address, the word and the instruction.
+// The listing of an image: a line for each word of its code, with its address, the word and the instruction.
 
 ghost use Rattle.std.specs.Prelude.{◌≡◌, ◌++◌, ◌<◌, ◌≤◌, length, Some, IfOk, OnOk, string_bytes};
 ghost use Rattle.std.specs.Fmt.{decimal};

@@ -1,4 +1,4 @@
-//! The simulator: an image, run on an input, a number of instructions at a time.
+// The simulator: an image, run on an input, a number of instructions at a time.
 
 ghost use Rattle.std.specs.Prelude.{◌≡◌, ◌≢◌, ◌+◌, ◌<◌, ℕ, List, IfOk, OnErr};
 ghost use Rattle.cc_rv32.specs.Machine.{Run, machine_run, machine_behavior, start};

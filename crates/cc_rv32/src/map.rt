@@ -1,4 +1,4 @@
-//! The memory map: where an image's code and globals lie, and where the stack ends, in bytes.
+// The memory map: where an image's code and globals lie, and where the stack ends, in bytes.
 
 /// Where the code begins.
 pub const CODE_FROM: u32 = 0x0001_0000;

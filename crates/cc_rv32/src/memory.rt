@@ -1,5 +1,5 @@
-//! Globals and stack as two lists of words, reached by byte address with one comparison each: the stack first, since most
-//! loads and stores go there.
+// Globals and stack as two lists of words, reached by byte address with one comparison each: the stack first, since most
+// loads and stores go there.
 
 ghost use Rattle.std.specs.Prelude.{◌≡◌, ◌+◌, ◌*◌, ◌<◌, ◌⊎◌, length};
 ghost use Rattle.cc_rv32.specs.Machine.{with_part};

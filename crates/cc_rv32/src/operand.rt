@@ -1,4 +1,4 @@
-//! The operands of instructions: each type holds exactly what its field of the instruction word can.
+// The operands of instructions: each type holds exactly what its field of the instruction word can.
 
 ghost use Rattle.std.specs.Prelude.{◌≡◌, ◌<◌, ◌^◌, ◌↔◌, IsTrue};
 ghost use Rattle.cc_rv32.specs.Fields.{IsImmediate, IsBranchOffset, IsJumpOffset};

@@ -1,4 +1,4 @@
-//! The operands of an instruction as the listing shows them: behind the name, a register or two, and what comes last.
+// The operands of an instruction as the listing shows them: behind the name, a register or two, and what comes last.
 
 ghost use Rattle.std.specs.Prelude.{Some};
 ghost use Rattle.cc_rv32.specs.internal.Operands.{last_text, operands_text};

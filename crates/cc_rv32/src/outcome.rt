@@ -1,4 +1,4 @@
-//! What a run of the machine has come to.
+// What a run of the machine has come to.
 
 /// What a run has come to. A machine that has exited or trapped stays so.
 #[derive(Clone, Copy, PartialEq, Eq, Debug)]

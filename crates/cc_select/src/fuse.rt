@@ -1,4 +1,4 @@
-//! A comparison and the test of its truth value directly behind it as one branch, where nobody else reads that value.
+// A comparison and the test of its truth value directly behind it as one branch, where nobody else reads that value.
 
 ghost use Rattle.std.specs.Prelude.{◌≡◌, ◌<◌, ℕ, Bool, length, IfOk, MatchOption, drop, None, Some};
 ghost use Rattle.cc_select.specs.Table.{Table};

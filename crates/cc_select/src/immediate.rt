@@ -1,4 +1,4 @@
-//! The operators on a register and a word: which words each can have, and which operators have one.
+// The operators on a register and a word: which words each can have, and which operators have one.
 
 ghost use Rattle.std.specs.Prelude.{◌≡◌};
 ghost use Rattle.cc_select.specs.Immediates.{is_short, has_word, is_power, immediate_of, immediate_of_left, is_comparison, gains};

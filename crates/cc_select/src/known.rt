@@ -1,5 +1,5 @@
-//! Which words are known: what the items since the last label say of the registers. An operation of which an operand is known has it as a
-//! word, where it can, an access to an element whose number is known has the number, and a branch that is certain to be taken is a jump.
+// Which words are known: what the items since the last label say of the registers. An operation of which an operand is known has it as a
+// word, where it can, an access to an element whose number is known has the number, and a branch that is certain to be taken is a jump.
 
 ghost use Rattle.std.specs.Prelude.{◌≡◌, ◌<◌, None, Some};
 ghost use Rattle.cc_select.specs.Known.{unknown, learn, forget, known_behind, choose, is_taken, with_left, with_number, with_right, with_word};

@@ -1,4 +1,4 @@
-//! Which registers are live: before a step, where those behind it are known, by a table of the labels.
+// Which registers are live: before a step, where those behind it are known, by a table of the labels.
 
 ghost use Rattle.std.specs.Prelude.{◌≡◌, get_or, IfOk, ◌==◌, if◌then◌else◌, ℕ, Bool};
 ghost use Rattle.cc_select.specs.Live.{live_move, live_item, live_before};

@@ -1,4 +1,4 @@
-//! The steps of one function of a unit, with the fact that their run keeps up with the function.
+// The steps of one function of a unit, with the fact that their run keeps up with the function.
 
 ghost use Rattle.std.specs.Prelude.{◌≡◌, ◌<◌, ◌≤◌, length};
 ghost use Rattle.std.specs.Arc.{arc_value};

@@ -1,4 +1,4 @@
-//! Sets of registers.
+// Sets of registers.
 
 ghost use Rattle.std.specs.Prelude.{◌≡◌, ◌<◌, ◌||◌, not};
 ghost use Rattle.cc_select.specs.Live.{nothing, with, without, either};

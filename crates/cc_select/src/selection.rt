@@ -1,4 +1,4 @@
-//! The pass: the steps of a pair of Linear.
+// The pass: the steps of a pair of Linear.
 
 ghost use Rattle.std.specs.Prelude.{◌≡◌, IfOk};
 ghost use Rattle.cc_ast.specs.Source.{source};

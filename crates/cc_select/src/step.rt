@@ -1,4 +1,4 @@
-//! The steps of a function: an item of Linear, an operation with a word or an element's number within it, or a branch that compares.
+// The steps of a function: an item of Linear, an operation with a word or an element's number within it, or a branch that compares.
 
 use cc_linear_language::LinearItem;
 use cc_ltl::Register;

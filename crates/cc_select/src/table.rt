@@ -1,6 +1,6 @@
-//! The table of labels. Each sweep goes over the steps from the back and notes what is live at labels, with what the last sweep found; the
-//! first table that a look finds to have what is live at each label's place is the one, and where 32 sweeps give none, everything is live
-//! at each label. The look notes what is live behind each step, which is what the passes need.
+// The table of labels. Each sweep goes over the steps from the back and notes what is live at labels, with what the last sweep found; the
+// first table that a look finds to have what is live at each label's place is the one, and where 32 sweeps give none, everything is live
+// at each label. The look notes what is live behind each step, which is what the passes need.
 
 ghost use Rattle.std.specs.Prelude.{◌≡◌, length, IfOk, true};
 ghost use Rattle.cc_select.specs.Table.{Table, table, rows, fits};

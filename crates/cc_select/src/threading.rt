@@ -1,8 +1,8 @@
-//! Jump threading: a test that stands directly behind a label goes before the label and into each jump there, if only jumps lead to the label.
-//! So a truth value is tested where it is made, and a jump takes the place of the test where the value is known. The steps of the items are
-//! chosen as they come.
-//!
-//! Two walks make the table of these tests: from the back, the test behind each label, and then none for the labels that branches lead to.
+// Jump threading: a test that stands directly behind a label goes before the label and into each jump there, if only jumps lead to the label.
+// So a truth value is tested where it is made, and a jump takes the place of the test where the value is known. The steps of the items are
+// chosen as they come.
+//
+// Two walks make the table of these tests: from the back, the test behind each label, and then none for the labels that branches lead to.
 
 ghost use Rattle.std.specs.Prelude.{◌≡◌, ◌++◌, ◌∷◌, [], ℕ, ◌+◌, ◌≤◌, drop, None, false, not, IfOk, vec_len, vec_capacity, if◌then◌else◌, ◌==◌};
 ghost use Rattle.cc_linear_language.specs.declared.item.LinearItem.TheVariants.{Jump};

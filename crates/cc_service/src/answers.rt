@@ -1,4 +1,5 @@
 // What the service's looks answer: a receipt, in whose entry the reply stands.
+
 ghost use Rattle.std.specs.Prelude.{◌≡◌, ◌↔◌, IsTrue};
 ghost use Rattle.cc_history.specs.declared.reply.Reply.TheVariants as reply;
 ghost use Rattle.cc_service.specs.Serving.{HasNames, HasUnit};

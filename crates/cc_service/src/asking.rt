@@ -1,4 +1,5 @@
 // What a client asks of a book.
+
 ghost use Rattle.std.specs.Prelude.{◌≡◌, IfErr, IfOk};
 ghost use Rattle.cc_history.specs.declared.reply.Reply.TheVariants as reply;
 ghost use Rattle.cc_recorded.specs.Answers.{IsLook, LookAnswers};

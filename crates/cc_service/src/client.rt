@@ -1,4 +1,5 @@
 // Who calls.
+
 ghost use Rattle.std.specs.Prelude.{◌≡◌, ◌-◌, [], drop, length, slice_get};
 ghost use Rattle.std.specs.Option.{option_map};
 ghost use Rattle.cc_history.specs.Held.{at_most_told, receipts_bytes};

@@ -1,4 +1,5 @@
 // From a text to a compiled unit, by the workers of a pool. No lock is held here.
+
 ghost use Rattle.std.specs.Prelude.{◌≡◌, length, All, IfErr, IfOk};
 ghost use Rattle.std.specs.Arc.{arc_value};
 ghost use Rattle.cc_ast.specs.Source.{source};

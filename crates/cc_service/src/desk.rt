@@ -1,4 +1,5 @@
 // Who makes a service's clients.
+
 ghost use Rattle.std.specs.Prelude.{◌≡◌, ◌+◌, ◌≤◌, [], IfNone, IfSome};
 
 use crate::named::{MOST_CLIENTS, Named};

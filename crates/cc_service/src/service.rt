@@ -1,4 +1,5 @@
 // The service.
+
 ghost use Rattle.std.specs.Prelude.{◌≡◌, ◌≤◌, ℕ, List, [], IsTrue, IfErr, IfOk, map};
 ghost use Rattle.cc_disk.specs.Images.{OnlyReads};
 ghost use Rattle.cc_library.specs.Apply.{Units};

@@ -1,4 +1,5 @@
 // A script done by a client of a service, and the scripts of a spool, done so one after another.
+
 ghost use Rattle.std.specs.Prelude.{◌≡◌, ◌++◌, ◌∷◌, [], ℕ, Option};
 ghost use Rattle.cc_session.specs.Playing.{IsPlayedBy};
 ghost use Rattle.cc_session.specs.Spooling.{HasDone, IsDoneBy, given_by};

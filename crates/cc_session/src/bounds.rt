@@ -4,6 +4,7 @@
 // next one on the same disk: a generation. The clients share a meter. Each asks it before it takes a script, tells it when it has taken
 // one, and adds what its new receipts hold when the answer is handed over. Bytes are added before the script counts as done, so a client
 // that sees no script being done sees the bytes of all. That it is full, once a client has found it, stays so for all.
+
 ghost use Rattle.std.specs.Prelude.{◌↔◌, IsTrue};
 ghost use Rattle.cc_session.specs.internal.Enough.{IsEnough};
 

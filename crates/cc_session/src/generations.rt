@@ -1,4 +1,5 @@
 // Serving on and on: each generation is one service, and the next begins with the disk and the spools that it left.
+
 ghost use Rattle.std.specs.Prelude.{◌≡◌, ◌≤◌, ℕ, true, map};
 ghost use Rattle.cc_session.specs.Generations.{ServesOn};
 ghost use Rattle.cc_session.specs.declared.end.SessionEnd.TheVariants.{Finished};

@@ -1,4 +1,5 @@
 // A session, from the opening of its service to the end.
+
 ghost use Rattle.std.specs.Prelude.{◌≡◌, if◌then◌else◌, ◌≤◌, ◌<◌, ℕ, List, [], Option, IsTrue, IfOk, IfErr, vec_len};
 ghost use Rattle.std.specs.Vec.{vec_capacity};
 ghost use Rattle.cc_disk.specs.Images.{OnlyReads};

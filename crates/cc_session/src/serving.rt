@@ -2,6 +2,7 @@
 //
 // All memory that this needs beside the clients' is taken before the service is opened, so that no client is lost once it works. The disk
 // and the spools are handed back, so a next service can go on with them.
+
 ghost use Rattle.std.specs.Prelude.{◌≡◌, ◌≤◌, ◌<◌, ℕ, All, List, [], IsTrue, IfOk, IfErr, OnOk, length, map, slice_index_or, vec_len};
 ghost use Rattle.std.specs.Vec.{vec_capacity};
 ghost use Rattle.cc_library.specs.Apply.{Units};

@@ -1,4 +1,5 @@
 // The spool in memory.
+
 ghost use Rattle.std.specs.Prelude.{◌≡◌, ◌≢◌, ◌<◌, ◌≤◌, ◌++◌, ◌∷◌, [], true, false, IfOk, IfNone, IfSome, map, vec_len};
 ghost use Rattle.std.specs.Vec.{vec_capacity};
 

@@ -1,4 +1,5 @@
 // What serving needs of a spool.
+
 ghost use Rattle.std.specs.Prelude.{◌≡◌, ◌++◌, ◌∷◌, [], ℕ, List, Option, IfSome, IfNone};
 
 use std::io::{Read, Write};

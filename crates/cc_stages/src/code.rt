@@ -1,5 +1,5 @@
-//! The listing of a unit's image, and where in it each function's lines stand: behind three lines, those of the start that calls `main`, the
-//! functions follow one another in the order of their definitions, a line for each word.
+// The listing of a unit's image, and where in it each function's lines stand: behind three lines, those of the start that calls `main`, the
+// functions follow one another in the order of their definitions, a line for each word.
 
 ghost use Rattle.std.specs.Prelude.{◌≡◌, IfErr};
 ghost use Rattle.cc_stages.specs.declared.fault.StagesFault.TheVariants.{UnknownFunction};

@@ -1,4 +1,4 @@
-//! Why a unit's stages are not written, or not to their end.
+// Why a unit's stages are not written, or not to their end.
 
 ghost use Rattle.std.specs.Prelude.{◌≡◌};
 ghost use Rattle.cc_stages.specs.Fault.{fault_number};

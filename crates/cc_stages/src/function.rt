@@ -1,5 +1,5 @@
-//! One function through the passes: each stage is written as it comes. Where a pass refuses the function, its stage says so and is the
-//! last one.
+// One function through the passes: each stage is written as it comes. Where a pass refuses the function, its stage says so and is the
+// last one.
 
 ghost use Rattle.std.specs.Prelude.{◌≡◌, ◌<◌, length, IfErr};
 ghost use Rattle.std.specs.Arc.{arc_value};

@@ -1,4 +1,4 @@
-//! A function's name, and where it stands in the text.
+// A function's name, and where it stands in the text.
 
 ghost use Rattle.std.specs.Prelude.{◌≡◌, ◌<◌, length};
 ghost use Rattle.cc_ast.specs.Source.{source};

@@ -1,4 +1,4 @@
-//! The stages of a function, and how each is written: a line that begins it, `== f: RTL`, and its text.
+// The stages of a function, and how each is written: a line that begins it, `== f: RTL`, and its text.
 
 use std::fmt::Display;
 use std::io::{self, Write};

@@ -1,4 +1,4 @@
-//! The stages of a unit's functions, one function after the other.
+// The stages of a unit's functions, one function after the other.
 
 ghost use Rattle.std.specs.Prelude.{◌≡◌, ◌<◌, ℕ, Some, IsNone, IfSome, IfErr, IsErrOf, MatchOption, length, slice_get};
 ghost use Rattle.std.specs.Arc.{arc_value};

@@ -1,4 +1,5 @@
 // A unit as the library keeps it.
+
 ghost use Rattle.std.specs.Prelude.{◌≡◌, ◌≤◌, ◌↔◌, length, IsOk, IsTrue, MatchResult};
 
 use cc_rv32::image::Image;

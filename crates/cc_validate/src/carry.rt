@@ -1,5 +1,5 @@
-//! What a node and its block make of the equations that are to hold behind them: all are carried backward through the moves behind, the
-//! operation and the moves before; the operands' equations join them in front of the operation.
+// What a node and its block make of the equations that are to hold behind them: all are carried backward through the moves behind, the
+// operation and the moves before; the operands' equations join them in front of the operation.
 
 ghost use Rattle.std.specs.Prelude.{◌≡◌, ◌≤◌, Some, IfOk};
 ghost use Rattle.cc_flow.specs.Lattice.{Equivalent};

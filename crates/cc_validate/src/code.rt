@@ -1,4 +1,4 @@
-//! The nodes and blocks of a function as the solver takes them: side by side, by their positions.
+// The nodes and blocks of a function as the solver takes them: side by side, by their positions.
 
 ghost use Rattle.std.specs.Prelude.{◌≡◌, ◌≤◌};
 ghost use Rattle.cc_bits.specs.Rows.{most_width};

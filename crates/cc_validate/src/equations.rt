@@ -1,7 +1,7 @@
-//! Sets of equations without a contradiction. What lies in this file alone is how a set is kept: as rows of bits, a row for each
-//! pseudo-register, and in it a bit for each location. Rows past the last one with an equation take no memory, and rows are no wider than
-//! the locations of the function ask. Through moves a set goes one by one, column to column; through more moves than there are locations
-//! it goes at once, by a table of where each location's word comes from.
+// Sets of equations without a contradiction. What lies in this file alone is how a set is kept: as rows of bits, a row for each
+// pseudo-register, and in it a bit for each location. Rows past the last one with an equation take no memory, and rows are no wider than
+// the locations of the function ask. Through moves a set goes one by one, column to column; through more moves than there are locations
+// it goes at once, by a table of where each location's word comes from.
 
 ghost use Rattle.std.specs.Prelude.{◌≡◌, ◌+◌, ◌<◌, ◌≤◌, ◌^◌, ◌↔◌, ◌≢◌, ◌==◌, ◌&&◌, ◌∷◌, [], ℕ, Some, Contains, get_or, length, if◌then◌else◌, IfOk, IfErr, IsTrue, IsFalse};
 ghost use Rattle.cc_flow.specs.Lattice.{Equivalent};

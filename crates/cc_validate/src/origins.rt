@@ -1,4 +1,4 @@
-//! Where words come from through many moves: a table of all places, made once, in place of a step for each move.
+// Where words come from through many moves: a table of all places, made once, in place of a step for each move.
 
 ghost use Rattle.std.specs.Prelude.{[], IfOk};
 ghost use Rattle.cc_validate.specs.internal.Origins.{AreOrigins};

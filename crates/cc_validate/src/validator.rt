@@ -1,4 +1,4 @@
-//! The validator.
+// The validator.
 
 ghost use Rattle.std.specs.Prelude.{◌≡◌, ◌↔◌, ◌≤◌, length, All, IfOk, IfErr, IfSome, IfNone, IsTrue, IsSome};
 ghost use Rattle.cc_bits.specs.Rows.{most_width};

@@ -1,5 +1,5 @@
-//! The operators of the intermediate languages: three on one word, nineteen on two; and how wide the elements are that they load
-//! and store. Every language that comes after C has these and no others, so they and what they give stand here once.
+// The operators of the intermediate languages: three on one word, nineteen on two; and how wide the elements are that they load
+// and store. Every language that comes after C has these and no others, so they and what they give stand here once.
 
 ghost use Rattle.std.specs.Prelude.{◌≡◌};
 ghost use Rattle.cc_words.specs.Operators.{apply_unary, apply_binary, unary_text, binary_text};

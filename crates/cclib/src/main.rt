@@ -1,14 +1,14 @@
-// The program `cclib`: reads a C program from standard input, and checks, interprets, runs or lists it, or does a script over a library.
-// How a command line is read is the matter of `cc_command_line`, how a task is done that of `cc_tasks`, a script that of `cc_session`, the
-// file of a library and what is taken out of one that of `cc_filing`, a server's client that of `cc_submit`. `library` has a session over
-// a file, `serving` a server, `stack` what the stack needs.
+//! The program `cclib`: reads a C program from standard input, and checks, interprets, runs or lists it, or does a script over a library.
+//! How a command line is read is the matter of `cc_command_line`, how a task is done that of `cc_tasks`, a script that of `cc_session`, the
+//! file of a library and what is taken out of one that of `cc_filing`, a server's client that of `cc_submit`. `library` has a session over
+//! a file, `serving` a server, `stack` what the stack needs.
 #![tactic(auto)]
-
-ghost use Rattle.cc_command_line.specs.Work.{IsAllowed};
 
 mod library;
 mod serving;
 mod stack;
+
+ghost use Rattle.cc_command_line.specs.Work.{IsAllowed};
 
 use cc_answers::Persons;
 use cc_command_line::{NoRequest, Invocation, Work, read_or_tell, tell_bytes};

@@ -1,4 +1,5 @@
 // Two builds: one whose units have to be right, and one of which anything is.
+
 ghost use Rattle.tests_core.specs.Builds.{rules, keeps, is_right, planned, law, nothing, is_anything, nothing_planned, nothing_law};
 
 use crate::piece::Piece;

@@ -1,4 +1,5 @@
 // What a commit answers, and what it leaves.
+
 use crate::script::Line::{
     Ack, Add, Begin, Crash, Done, Recover, Refuse, Replace, RewriteAll, SyncAll, SyncArea,
     SyncBody, SyncGate, Take, Withdraw, WriteArea, WriteBody, WriteGate,

@@ -1,4 +1,5 @@
 // Crashes at each event of a commit, and what is recovered.
+
 use crate::builds::FewPieces;
 use crate::script::Line::{
     Ack, Add, Begin, Crash, Done, Fails, Recover, SyncBody, SyncGate, Take, WriteBody, WriteGate,

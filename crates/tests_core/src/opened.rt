@@ -1,4 +1,5 @@
 // Runs that begin on disks with units.
+
 ghost use Rattle.std.specs.Prelude.{List, ℕ, IfOk};
 ghost use Rattle.cc_disk.specs.Model.{bytes_of, IsImage};
 ghost use Rattle.cc_library.specs.Apply.{Units};

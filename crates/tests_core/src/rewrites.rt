@@ -1,4 +1,5 @@
 // Rewrites: what their events answer, that they make room, and what a crash or a failure at each of them leaves.
+
 use crate::script::Line::{
     Ack, Add, Begin, Crash, Done, Fails, Recover, Replace, RewriteAll, SyncAll, SyncArea, SyncBody,
     SyncGate, Take, Withdraw, WriteArea, WriteBody, WriteGate,

@@ -1,4 +1,5 @@
 // Scripts: events by plain numbers, what they answer, and what they leave.
+
 ghost use Rattle.std.specs.Prelude.{◌≤◌, ◌^◌};
 
 use crate::builds::FewPieces;

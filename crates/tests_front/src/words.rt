@@ -1,6 +1,6 @@
-//! Tests of `cc_words` on values from outside: what `gcc -fwrapv` gives for the same expression of C at
-//! `unsigned` and at `int`, on x86-64. A negative number stands as its word in two's complement.
-//! Each public call is made here, those that answer `None` at the ends of their ranges too.
+// Tests of `cc_words` on values from outside: what `gcc -fwrapv` gives for the same expression of C at
+// `unsigned` and at `int`, on x86-64. A negative number stands as its word in two's complement.
+// Each public call is made here, those that answer `None` at the ends of their ranges too.
 
 use cc_words::{
     Binary, Unary, add, div_s, div_u, eq, le_s, le_u, lt_s, lt_u, mul, ne, rem_s, rem_u, shl,

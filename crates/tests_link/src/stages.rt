@@ -1,6 +1,6 @@
-//! What is shown of a unit's functions, stage by stage.
-//!
-//! `row` has the texts of one program.
+// What is shown of a unit's functions, stage by stage.
+//
+// `row` has the texts of one program.
 
 #[cfg(test)]
 mod row;

@@ -1,6 +1,7 @@
-//! Writes images as Intel HEX and compares the text with what GNU objcopy 2.40 wrote of the same bytes; objcopy of LLVM 14
-//! wrote the same. Below 1 MiB both write a record of type 02 (extended segment address) where ours is of type 04 (extended
-//! linear address), and one that ends those; the lines are the same otherwise.
+// Writes images as Intel HEX and compares the text with what GNU objcopy 2.40 wrote of the same bytes; objcopy of LLVM 14
+// wrote the same. Below 1 MiB both write a record of type 02 (extended segment address) where ours is of type 04 (extended
+// linear address), and one that ends those; the lines are the same otherwise.
+
 use crate::listing_tests::image_of;
 use cc_hex::image::write;
 use cc_rv32::image::{MOST_CODE, MOST_GLOBALS};

@@ -1,4 +1,5 @@
-//! Lists words from outside and compares their lines; decodes and encodes them again.
+// Lists words from outside and compares their lines; decodes and encodes them again.
+
 use cc_rv32::decode::decode;
 use cc_rv32::encode::encode;
 use cc_rv32::image::{Code, Globals, Image, MOST_CODE};

@@ -1,4 +1,4 @@
-//! What a machine comes to: each operation on two words, loads and stores, branches, services and traps, and runs cut in two.
+// What a machine comes to: each operation on two words, loads and stores, branches, services and traps, and runs cut in two.
 
 use super::listing_tests::image_of;
 use cc_rv32::encode::encode;

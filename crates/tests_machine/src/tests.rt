@@ -1,4 +1,5 @@
-//! Words that the table lacks, operands at the ends of their ranges, and the lengths of images.
+// Words that the table lacks, operands at the ends of their ranges, and the lengths of images.
+
 use cc_rv32::decode::decode;
 use cc_rv32::encode::encode;
 use cc_rv32::image::{Code, Globals, MOST_CODE, MOST_GLOBALS};

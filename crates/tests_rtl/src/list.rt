@@ -1,5 +1,6 @@
-//! Tests of the instruction list, from outside: labels through edits, worked by hand, a list that is emptied and filled again, items
-//! that are dropped once, and the most labels.
+// Tests of the instruction list, from outside: labels through edits, worked by hand, a list that is emptied and filled again, items
+// that are dropped once, and the most labels.
+
 use cc_instr_list::InstrList;
 use std::rc::Rc;
 use std::string::String;

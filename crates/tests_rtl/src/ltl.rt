@@ -1,4 +1,4 @@
-//! Tests of LTL from outside: bytes that were written by hand, every change of one byte, and the listing.
+// Tests of LTL from outside: bytes that were written by hand, every change of one byte, and the listing.
 
 #[cfg(test)]
 mod bytes;

@@ -2,6 +2,7 @@
 //
 // `playing` plays the calls of two clients against the model, `script` has twenty calls, `failing` the devices that fail at each call,
 // opened again after crashes.
+
 mod failing;
 mod playing;
 mod script;

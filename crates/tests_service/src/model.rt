@@ -1,4 +1,5 @@
 // A model of the map: three names, each with the place of its unit's text where it has one. And what it says of a call, and of a history.
+
 use crate::helpers::{NAMES, TEXTS, bytes_at, name_at};
 use cc_disk::Disk;
 use cc_history::{Asked, Command, Receipt, Reply, SharedEntry};

@@ -2,6 +2,7 @@
 //
 // `starting` opens one, `reading` reads answers, `answers` makes each call, `calls` has one client and two in threads, `crowds` sixteen,
 // `gates` holds a worker, `devices` fails, `files` lets a service go and opens its file again, `full` fills a library, `memory` has a growth refused.
+
 mod answers;
 mod calls;
 mod crowds;

@@ -1,4 +1,4 @@
-// Tests of the spool in a folder, over real folders where the test runs. Expected answers come from docs/FORMATS.md.
+//! Tests of the spool in a folder, over real folders where the test runs. Expected answers come from docs/FORMATS.md.
 #![tactic(auto)]
 
 #[cfg(test)]

@@ -1,5 +1,6 @@
 // Records that reading ahead cuts in two: what is read at once ends within a gate's record, at each of its first bytes, and
 // within a body.
+
 use crate::helpers::{holds, opened};
 use cc_disk::MemoryDisk;
 use cc_journal::format;

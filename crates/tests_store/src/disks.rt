@@ -1,4 +1,5 @@
 // The disk in memory and the fuse, call by call.
+
 use crate::helpers::{disk_of, has_bytes};
 use cc_disk::{Disk, FuseDisk, FuseMode, MemoryDisk};
 use std::alloc::Global;

@@ -1,4 +1,5 @@
 // The disk on a file.
+
 use crate::helpers::{are_bodies, bytes_of, opened};
 use cc_disk::{Disk, FileDisk};
 use cc_journal::format;

@@ -1,4 +1,5 @@
 // Disks made of bytes, and what they hold.
+
 use cc_disk::{Disk, MemoryDisk};
 use cc_journal::{Body, Journal, JournalFault, format};
 use std::alloc::Global;

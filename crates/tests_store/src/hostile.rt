@@ -1,4 +1,5 @@
 // Disks that nobody formatted so.
+
 use crate::helpers::{bytes_of, holds, opened, part, refusal, row_disk};
 use cc_disk::{Disk, FuseDisk, FuseMode};
 use cc_journal::Journal;

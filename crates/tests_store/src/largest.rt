@@ -1,4 +1,5 @@
 // The largest area, on a disk that keeps a few of its bytes alone.
+
 use crate::helpers::refusal;
 use crate::sparse::SparseDisk;
 use cc_journal::format;

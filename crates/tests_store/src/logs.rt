@@ -1,4 +1,5 @@
 // The calls of a log, which keeps no body: each hands them over instead.
+
 use crate::helpers::{ROW, SIZE, are_bodies, bytes_of, formatted, has_bytes, one_body, part};
 use cc_disk::{Disk, FuseDisk, FuseMode, MemoryDisk};
 use cc_journal::{Body, JournalFault, Log};

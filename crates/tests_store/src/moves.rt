@@ -1,4 +1,5 @@
 // Every point of failure of a `rewrite`, in each mode and out of each area, and a crash after it.
+
 use crate::helpers::{formatted, holds, number, one_body, opened};
 use cc_disk::{Disk, FuseDisk, FuseMode, MemoryDisk};
 use std::alloc::Global;

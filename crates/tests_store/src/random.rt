@@ -1,4 +1,5 @@
 // Disks of random bytes: each is read as the format says.
+
 use crate::helpers::{ROW, SIZE, are_bodies, disk_of, part};
 use cc_journal::Journal;
 use std::alloc::Global;

@@ -1,4 +1,5 @@
 // The worked rows of the journal.
+
 use crate::helpers::{
     ROW, SIZE, are_bodies, bytes_of, formatted, has_bytes, holds, number, one_body, opened, part,
 };

@@ -1,4 +1,5 @@
 // A disk of any size that keeps a few of its bytes alone. It is not honest: of what it reads nothing is promised.
+
 ghost use Rattle.std.specs.Prelude.{false, ◌≡◌, [], ⊤};
 ghost use Rattle.std.proofs.lemmas.Bool.{false≢true};
 

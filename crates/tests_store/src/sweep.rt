@@ -1,4 +1,5 @@
 // Every point of failure of format, open and two appends, in each mode, and a crash after it.
+
 use crate::helpers::{AREA, SIZE, are_bodies};
 use cc_disk::{FuseDisk, FuseMode, MemoryDisk};
 use cc_journal::{Journal, format};

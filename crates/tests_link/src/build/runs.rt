@@ -1,4 +1,5 @@
 // Commits of compiled units, what refuses them, and crashes.
+
 use super::script::Line::{
     Ack, Add, Begin, Crash, Done, Recover, Refuse, Replace, SyncBody, SyncGate, Take, Withdraw,
     WriteBody, WriteGate,

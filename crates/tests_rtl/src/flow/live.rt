@@ -1,4 +1,4 @@
-//! Live variables of three names, with a count of the visits.
+// Live variables of three names, with a count of the visits.
 
 ghost use Rattle.std.specs.Prelude.{◌≡◌, IfOk};
 ghost use Rattle.std.proofs.Common.{arith};

@@ -1,4 +1,5 @@
 // Live variables of small code, worked by hand.
+
 use crate::flow::live::{A, B, C, graph, idle, put, set};
 use cc_flow::solve_backward;
 use std::process::Abort;

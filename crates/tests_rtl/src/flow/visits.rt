@@ -1,4 +1,5 @@
 // How often a node is visited: a limit on functions has 4,096 nodes.
+
 use crate::flow::live::{A, B, C, Code, idle, lead, put, set};
 use cc_flow::{Graph, solve_backward};
 use std::alloc::{AllocError, Global};

@@ -1,4 +1,5 @@
 // Functions as bytes, written by hand from the tables of docs/FORMATS.md, and their listings.
+
 use cc_ltl::{LtlFault, read_ltl, write_ltl};
 use std::alloc::Global;
 use std::test::Fail;

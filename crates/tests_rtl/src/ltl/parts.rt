@@ -1,4 +1,5 @@
 // Functions that are made from their parts.
+
 use cc_ltl::{Block, Ltl, Move, Moves, Operation, Register, Slot, write_ltl};
 use std::alloc::Global;
 use std::test::Fail;

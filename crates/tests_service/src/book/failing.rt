@@ -1,4 +1,5 @@
 // A device that fails at each call of a script: what is answered then and later, and what a crash leaves.
+
 use crate::book::playing::{State, play};
 use crate::helpers::{SIZE, formatted, opened};
 use crate::model::{Call, Change, shows};

@@ -1,4 +1,5 @@
 // Plays the calls of two clients on a book, and looks at each answer by the model.
+
 ghost use Rattle.std.specs.Prelude.{◌≡◌, ◌+◌, ℕ, IsTrue, List};
 ghost use Rattle.cc_library.specs.Apply.{Units};
 ghost use Rattle.cc_library.specs.Recovered.{Recovers};

@@ -1,4 +1,5 @@
 // Twenty calls of two clients, with compactions between them, over a disk in memory and over one behind a fuse that holds.
+
 use crate::book::playing::{Played, play};
 use crate::helpers::{formatted, opened};
 use crate::model::{Call, Change, shows};

@@ -1,4 +1,5 @@
 // What one client is answered: each call on its happy path, and each refusal of names, texts and the map.
+
 ghost use Rattle.std.specs.Prelude.{◌≡◌, ℕ, List};
 
 use super::reading::{done_at, is_found, is_listed, number};

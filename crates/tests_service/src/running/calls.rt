@@ -1,4 +1,5 @@
 // Calls of one client, and of two in threads.
+
 ghost use Rattle.std.specs.Prelude.{◌≡◌, ℕ, List};
 
 use super::reading::{absent_at, done_at, is_found, number};

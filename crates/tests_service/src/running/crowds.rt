@@ -1,4 +1,5 @@
 // Sixteen clients in threads of their own, whose history is replayed against the model.
+
 ghost use Rattle.std.specs.Prelude.{◌≡◌, ℕ, List};
 
 use super::reading::number;

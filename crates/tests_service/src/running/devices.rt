@@ -1,4 +1,5 @@
 // A device that fails once.
+
 ghost use Rattle.std.specs.Prelude.{◌≡◌, ℕ, List};
 
 use super::reading::{absent_at, is_listed, number};

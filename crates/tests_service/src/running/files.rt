@@ -1,4 +1,5 @@
 // A service on a file: one that is let go without an end, and what the next one finds.
+
 ghost use Rattle.std.specs.Prelude.{◌≡◌};
 
 use super::reading::{done_at, is_found};

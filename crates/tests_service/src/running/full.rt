@@ -1,4 +1,5 @@
 // A library that is full, and what clients are answered whose changes compact, or do not.
+
 ghost use Rattle.std.specs.Prelude.{◌≡◌, ℕ, List};
 
 use super::reading::number;

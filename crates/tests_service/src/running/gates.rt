@@ -1,4 +1,5 @@
 // A worker that a gate holds: the other one works, and other clients are answered.
+
 ghost use Rattle.std.specs.Prelude.{◌≡◌, ℕ, List};
 
 use super::reading::number;

@@ -1,4 +1,5 @@
 // An `add` of which a growth is refused. `bench/memory.sh service` refuses each allocation of this test in turn, so one in all.
+
 ghost use Rattle.std.specs.Prelude.{◌≡◌, ℕ, List};
 
 use super::reading::number;

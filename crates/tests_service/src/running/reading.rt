@@ -1,4 +1,5 @@
 // Reads answers.
+
 use crate::model::{Model, are_names};
 use cc_history::Receipt;
 use cc_service::{BookFault, Found, Listing, ServiceFault};

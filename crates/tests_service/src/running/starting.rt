@@ -1,4 +1,5 @@
 // Services that begin on a device.
+
 ghost use Rattle.std.specs.Prelude.{◌≡◌, ◌≤◌, ℕ, List};
 ghost use Rattle.cc_disk.specs.Model.{bytes_of};
 ghost use Rattle.cc_library.specs.Apply.{Units};

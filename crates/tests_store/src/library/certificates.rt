@@ -1,4 +1,5 @@
 // Bodies of both versions on a disk: files that were written before certificates came, and units with one.
+
 use crate::library::helpers::{formatted, name, opened, refusal, unit};
 use cc_disk::MemoryDisk;
 use cc_journal::Journal;

@@ -1,4 +1,5 @@
 // Units, names and disks, and what a library holds.
+
 ghost use Rattle.std.specs.Prelude.{◌≡◌, None, IfOk};
 
 use cc_disk::{Disk, MemoryDisk};

@@ -1,4 +1,5 @@
 // Disks that nobody formatted so.
+
 use crate::helpers::{bytes_of, disk_of};
 use crate::library::helpers::{Step, formatted, opened, recovers, refusal, steps_done};
 use cc_disk::{FuseDisk, FuseMode, MemoryDisk};

@@ -1,4 +1,5 @@
 // Names, and the bytes of commands.
+
 use crate::library::helpers::{name, unit};
 use cc_library::{
     LibraryCommand, Kind, Name, ReadFault, body_length, body_of_command, command_body, read_command,

@@ -1,4 +1,5 @@
 // What a `compact` makes room for. A unit of one word without source takes 25 bytes under a name of one letter.
+
 use crate::library::helpers::{Step, does, formatted, name, number, opened, steps_done, unit};
 use cc_disk::{Disk, FuseDisk, FuseMode};
 use cc_library::{LibraryCommand, Library, SharedUnit};

@@ -1,4 +1,5 @@
 // The worked rows of the library.
+
 use crate::helpers::bytes_of;
 use crate::library::helpers::{
     Held, Step, does, edits, formatted, holds, opened, recovers, steps_done, word_unit,

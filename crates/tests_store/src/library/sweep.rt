@@ -1,5 +1,6 @@
 // Every point of failure of add, add, replace, compact, withdraw, in each mode, and a crash after it; and the same through
 // `run`.
+
 use crate::library::helpers::{
     Held, Step, crash_leaves, edits, formatted, next_byte, opened, refusal, steps_done,
 };
