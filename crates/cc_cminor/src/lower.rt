@@ -16,11 +16,11 @@ use super::code::Statement;
 use super::fault::CminorFault;
 use super::pair::CminorPair;
 use super::statements::body;
-use cc_resolve::function_environment;
 use cc_c_laws::{
     calls_are_effects, calls_keep_objects, functions_are_resolved, names_have_numbers,
     units_have_meanings,
 };
+use cc_resolve::function_environment;
 use cc_types::TypedUnit;
 use std::alloc::{AllocError, Global};
 use std::sync::Arc;

@@ -6,7 +6,7 @@ ghost use Rattle.cc_command_line.specs.Work.{IsAllowed};
 
 use crate::library::{Session, library_command, library_of};
 use crate::numbers::number_in;
-use crate::spool::{Submitter, Server, serve_command, serve_of, submit_command, submit_of};
+use crate::spool::{Server, Submitter, serve_command, serve_of, submit_command, submit_of};
 use crate::unit::{Wanted, image_command, image_of, source_command, source_of};
 use cc_task::{MOST_STEPS, Task};
 use clap::error::ErrorKind;

@@ -15,6 +15,6 @@ mod unit;
 
 pub use command_line::{Invocation, Work, line, read_invocation, refused_bytes};
 pub use library::{LEAST_AREA, MOST_AREA, MOST_WORKERS, Session};
-pub use spool::{Submitter, MOST_CLIENTS, MOST_DAYS, MOST_WAIT, Server};
+pub use spool::{MOST_CLIENTS, MOST_DAYS, MOST_WAIT, Server, Submitter};
 pub use telling::{NoRequest, read_or_tell, tell_bytes};
 pub use unit::Wanted;

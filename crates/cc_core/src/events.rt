@@ -304,7 +304,11 @@ fn decide<B: Build>(
 }
 
 // Puts a command last in the order, in commit for this client.
-fn put_in_order(core: &mut Core, client: ClientId, command: LibraryCommand) -> Result<(), AllocError>
+fn put_in_order(
+    core: &mut Core,
+    client: ClientId,
+    command: LibraryCommand,
+) -> Result<(), AllocError>
     ensures answer { OnOk result (Begun core.old client (Ok command) None core.new) }
     ensures leaves { OnErr result (core.new ≡ core.old) }
 {

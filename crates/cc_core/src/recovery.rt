@@ -52,7 +52,9 @@ fn is_in_effect(library: &UnitMap, command: &LibraryCommand) -> bool
     ensures { IsTrue result ↔ IsInEffect library.now command.now }
 {
     match command {
-        LibraryCommand::Add(name, unit) | LibraryCommand::Replace(name, unit) => match library.get(name) {
+        LibraryCommand::Add(name, unit) | LibraryCommand::Replace(name, unit) => match library.get(
+            name,
+        ) {
             Some(there) => there.is_same(unit.stored()),
             None => false,
         },

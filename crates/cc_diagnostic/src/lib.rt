@@ -23,7 +23,9 @@ mod typing;
 mod walk;
 mod warning;
 
-pub use cc_syntax_diagnostic::{Diagnostic, MessagePart, Related, message, near_name, of_name, of_syntax};
+pub use cc_syntax_diagnostic::{
+    Diagnostic, MessagePart, Related, message, near_name, of_name, of_syntax,
+};
 pub use code::{Bytecode, Element, Function, Instruction, TypedOperator};
 pub use further::further_of_typing;
 pub use typing::of_typing;

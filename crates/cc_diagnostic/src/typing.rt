@@ -144,7 +144,12 @@ fn misused(alloc: Global, view: &View<'_>) -> Result<String, AllocError> {
 fn not_declared(alloc: Global, view: &View<'_>) -> Result<String, AllocError> {
     let what = MessagePart::Words(" is not declared");
     if let Some(said) = said_of_foreign(view.word) {
-        let parts = [view.word(), what, MessagePart::Words(": "), MessagePart::Words(said)];
+        let parts = [
+            view.word(),
+            what,
+            MessagePart::Words(": "),
+            MessagePart::Words(said),
+        ];
         return message(alloc, &parts);
     }
     let near = match near_keyword(view.word) {
@@ -283,7 +288,13 @@ fn wrong_length(alloc: Global, view: &View<'_>, object: &Object) -> Result<Strin
     let for_length = MessagePart::Words(" initialisers for its length of ");
     message(
         alloc,
-        &[view.word(), MessagePart::Words(" has "), given, for_length, count],
+        &[
+            view.word(),
+            MessagePart::Words(" has "),
+            given,
+            for_length,
+            count,
+        ],
     )
 }
 

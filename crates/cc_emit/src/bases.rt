@@ -11,8 +11,8 @@ ghost use Rattle.cc_emit.specs.Objects.{object_address};
 ghost use Rattle.cc_emit.specs.internal.Bases.{base_in, bases_from, address_behind};
 
 use cc_ast::{External, Object};
-use cc_rv32::map::GLOBALS_FROM;
 use cc_c_laws::names_have_numbers;
+use cc_rv32::map::GLOBALS_FROM;
 use cc_types::object_words;
 use std::alloc::{AllocError, Global};
 use std::marker::Model;

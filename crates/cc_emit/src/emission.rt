@@ -105,7 +105,12 @@ fn put_based(
     put_upper(items, known, base)?;
     put(
         items,
-        operate(RegisterOperation::Add, SCRATCH, distance, base_register(known)),
+        operate(
+            RegisterOperation::Add,
+            SCRATCH,
+            distance,
+            base_register(known),
+        ),
     )?;
     put(items, access)
 }

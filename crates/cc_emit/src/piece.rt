@@ -52,7 +52,12 @@ impl Model for Piece {
 
 impl Piece {
     // The one place where a piece is made.
-    pub(crate) fn new(unit: Arc<TypedUnit>, function: usize, ltl: Ltl, items: Vec<PieceItem>) -> Piece
+    pub(crate) fn new(
+        unit: Arc<TypedUnit>,
+        function: usize,
+        ltl: Ltl,
+        items: Vec<PieceItem>,
+    ) -> Piece
         requires { IsPieceOfUnit (record { unit = arc_value unit; function = function; ltl = ltl; items = items.items }) }
         ensures { result ≡ record { unit = arc_value unit; function = function; ltl = ltl; items = items.items } }
     {

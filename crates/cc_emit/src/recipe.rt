@@ -7,7 +7,9 @@ ghost use Rattle.cc_emit.specs.internal.Room.{HasRoom};
 ghost use Rattle.cc_select.specs.declared.step.WordOperator.TheVariants.{Eq, Ne};
 
 use crate::instructions::{ZERO, low, operate, operate_immediate, shift};
-use cc_rv32::instr::{BranchOperation, ImmediateOperation, Instr, RegisterOperation, ShiftOperation};
+use cc_rv32::instr::{
+    BranchOperation, ImmediateOperation, Instr, RegisterOperation, ShiftOperation,
+};
 use cc_select::WordOperator;
 use cc_words::{Binary, add, sub};
 

@@ -7,7 +7,7 @@ ghost use Rattle.std.specs.Option.{option_map};
 ghost use Rattle.cc_library.specs.Name.{is_name};
 ghost use Rattle.cc_library.specs.Body.{AreBelow, HasShort, HasUnit, HoldsUnit, IsCertificate, IsCommand, IsShort, IsUnit, body_bytes, body_of, certificate_part, part_version, unit_fields, unit_part, words_field};
 
-use crate::command::{LibraryCommand, Kind};
+use crate::command::{Kind, LibraryCommand};
 use crate::name::Name;
 use cc_journal::{Body, CLOSED};
 use cc_unit::{Certificate, StoredUnit};
@@ -59,7 +59,10 @@ pub fn body_of_command(alloc: Global, command: &LibraryCommand) -> Result<Vec<u8
 }
 
 // The same as `body_of_command`, with what stands around the body in its record: it is written and kept without a copy.
-pub(crate) fn framed_body_of_command(alloc: Global, command: &LibraryCommand) -> Result<Body, AllocError>
+pub(crate) fn framed_body_of_command(
+    alloc: Global,
+    command: &LibraryCommand,
+) -> Result<Body, AllocError>
     requires { length (body_of command.now) < 2 ^ 32 }
     ensures written { IfOk result (λ body. body ≡ body_of command.now) }
     ensures command { OnOk result (IsCommand command.now) }

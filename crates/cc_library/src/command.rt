@@ -50,8 +50,14 @@ impl LibraryCommand {
         ensures { IfOk result (λ command. command ≡ self.now) }
     {
         match self {
-            LibraryCommand::Add(name, unit) => Ok(LibraryCommand::Add(name.clone()?, unit.again()?)),
-            LibraryCommand::Replace(name, unit) => Ok(LibraryCommand::Replace(name.clone()?, unit.again()?)),
+            LibraryCommand::Add(name, unit) => Ok(LibraryCommand::Add(
+                name.clone()?,
+                unit.again()?,
+            )),
+            LibraryCommand::Replace(name, unit) => Ok(LibraryCommand::Replace(
+                name.clone()?,
+                unit.again()?,
+            )),
             LibraryCommand::Withdraw(name) => Ok(LibraryCommand::Withdraw(name.clone()?)),
         }
     }

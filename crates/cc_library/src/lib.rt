@@ -17,7 +17,7 @@ mod unit;
 mod units;
 
 pub use body::{body_length, body_of_command, command_body};
-pub use command::{LibraryCommand, Edit, Kind};
+pub use command::{Edit, Kind, LibraryCommand};
 pub use fault::{LibraryFault, NameFault};
 pub use library::Library;
 pub use name::{NAME_BYTES, Name};

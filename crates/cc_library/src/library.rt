@@ -17,7 +17,7 @@ ghost use Rattle.cc_library.specs.Runs.{AreDone, AreEdited, EditAnswers, EditLea
 ghost use Rattle.cc_library.specs.internal.Steps.{IsOldOrNew, IsMidEdit};
 
 use crate::body::{body_length, framed_body_of_command};
-use crate::command::{LibraryCommand, Edit};
+use crate::command::{Edit, LibraryCommand};
 use crate::fault::LibraryFault;
 use crate::name::Name;
 use crate::replaying::replay;

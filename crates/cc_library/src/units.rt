@@ -13,7 +13,7 @@ ghost use Rattle.cc_library.specs.Recovered.{AreSpelled};
 ghost use Rattle.cc_library.specs.internal.Halves.{begun, finished, undone};
 
 use crate::body::{framed_body, length_with};
-use crate::command::{LibraryCommand, Kind};
+use crate::command::{Kind, LibraryCommand};
 use crate::name::Name;
 use crate::unit::SharedUnit;
 use cc_journal::Body;

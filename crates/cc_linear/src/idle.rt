@@ -30,7 +30,9 @@ fn sorted_targets(alloc: Global, items: &[LinearItem]) -> Result<Vec<u32>, Alloc
     let mut led = Vec::new(alloc);
     for item in items {
         match *item {
-            LinearItem::Jump { to } | LinearItem::IfNonzero { to, .. } | LinearItem::IfZero { to, .. } => {
+            LinearItem::Jump { to }
+            | LinearItem::IfNonzero { to, .. }
+            | LinearItem::IfZero { to, .. } => {
                 led.push(to)?;
             }
             _ => {}

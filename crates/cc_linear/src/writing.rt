@@ -12,7 +12,11 @@ use cc_ltl::{Block, Move, Operation, Register};
 use std::alloc::AllocError;
 
 /// Puts moves behind the items, and an item behind them, where there is one.
-pub fn put(items: &mut Vec<LinearItem>, moves: &[Move], item: Option<LinearItem>) -> Result<(), AllocError>
+pub fn put(
+    items: &mut Vec<LinearItem>,
+    moves: &[Move],
+    item: Option<LinearItem>,
+) -> Result<(), AllocError>
     ensures { OnOk result (items.new.items ≡ items.old.items ++ (moves_then moves.now [] ++ listed_items item)) }
 {
     for between in moves {
@@ -101,7 +105,10 @@ pub fn branch(
 {
     match following {
         Some(label) if label == nonzero => (LinearItem::IfZero { from, to: zero }, None),
-        _ => (LinearItem::IfNonzero { from, to: nonzero }, way(zero, following)),
+        _ => (
+            LinearItem::IfNonzero { from, to: nonzero },
+            way(zero, following),
+        ),
     }
 }
 

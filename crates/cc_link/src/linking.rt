@@ -20,7 +20,7 @@ use crate::globals::image_words;
 use crate::laws::{linked_units_agree, unit_laws};
 use crate::order::{all_items, doubled, in_order, stranger};
 use crate::words::{code, fits};
-use cc_emit::{PieceItem, Piece};
+use cc_emit::{Piece, PieceItem};
 use cc_resolve::lay_out;
 use cc_rv32::image::{Globals, Image};
 use cc_types::TypedUnit;

@@ -97,7 +97,11 @@ fn add_function(
 }
 
 /// Puts the words of all functions behind others.
-fn add_functions(words: &mut Vec<u32>, places: &[u32], bodies: &[&[PieceItem]]) -> Result<(), AllocError>
+fn add_functions(
+    words: &mut Vec<u32>,
+    places: &[u32],
+    bodies: &[&[PieceItem]],
+) -> Result<(), AllocError>
     requires places { ArePlaces places.now }
     requires stand { CanAllStand (length places.now) FUNCTIONS_FROM (lent bodies.now) }
     ensures { OnOk result (words.new.items ≡ words.old.items ++ encoded (fill_all (λ f. slice_index places.now f) FUNCTIONS_FROM (lent bodies.now))) }

@@ -7,8 +7,8 @@ ghost use Rattle.cc_live.specs.internal.Facts.{Below, nothing, either};
 ghost use Rattle.cc_live.specs.internal.Room.{room as room_of, height as height_of, bounded as room_bounded};
 ghost use Rattle.cc_live.specs.internal.Laws.{laws};
 
-use cc_flow::Facts;
 use cc_bits::BitRow;
+use cc_flow::Facts;
 use std::alloc::{AllocError, Global};
 use std::marker::Model;
 

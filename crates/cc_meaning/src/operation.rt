@@ -3,8 +3,8 @@
 ghost use Rattle.std.specs.Prelude.{◌≡◌, ok_or};
 ghost use Rattle.cc_meaning.specs.internal.FormMeaning.{unary_result, binary_result, cause_of_operation};
 
-use cc_resolve::{BinaryOperation, UnaryOperation};
 use cc_c_laws::Cause;
+use cc_resolve::{BinaryOperation, UnaryOperation};
 
 /// What an operation on one word gives.
 #[inline(always)]

@@ -20,7 +20,7 @@ use cc_disk::{Disk, History};
 use cc_history::{
     Asked, Command, Entry, NameList, Receipt, Reply, SharedEntry, calls_are_recorded, last_stands,
 };
-use cc_library::{LibraryCommand, Library, LibraryFault, SharedUnit, UnitMap};
+use cc_library::{Library, LibraryCommand, LibraryFault, SharedUnit, UnitMap};
 use std::alloc::{AllocError, Global};
 use std::marker::Model;
 use std::sync::Arc;

@@ -12,9 +12,9 @@ use crate::fault::RtlFault;
 use crate::generate::generate;
 use crate::size::fits;
 use crate::variables::with_statement;
+use cc_c_laws::functions_are_resolved;
 use cc_cminor::CminorPair;
 use cc_rtl_language::{Rtl, RtlPair};
-use cc_c_laws::functions_are_resolved;
 use cc_types::TypedUnit;
 use std::alloc::Global;
 

@@ -1,7 +1,7 @@
 // What is told of a run that went wrong.
 
 use super::replay::{Replay, Trouble, Wrong};
-use cc_diagnostic::{Bytecode, Diagnostic, Element, TypedOperator, MessagePart, code_of, message};
+use cc_diagnostic::{Bytecode, Diagnostic, Element, MessagePart, TypedOperator, code_of, message};
 use cc_meaning::{Cause, MOST_OPEN};
 use cc_resolve::lay_out;
 use cc_syntax::{BinaryOperator, Identifier, SyntaxFault, Unit, parse};
@@ -60,7 +60,14 @@ fn of_operation(
                 _ => "division of ",
             };
             let by = MessagePart::Words(" by ");
-            let parts = [MessagePart::Words(what), first, by, second, behind, function];
+            let parts = [
+                MessagePart::Words(what),
+                first,
+                by,
+                second,
+                behind,
+                function,
+            ];
             message(alloc, &parts)
         }
     }

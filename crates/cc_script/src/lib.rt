@@ -11,7 +11,7 @@ mod commands;
 mod fault;
 mod script;
 
-pub use command::{ScriptCommand, Dialect, MOST_STEPS, command_of};
+pub use command::{Dialect, MOST_STEPS, ScriptCommand, command_of};
 pub use commands::{COMMANDS, PLAIN_COMMANDS};
 pub use fault::ScriptFault;
 pub use script::{LINE_BYTES, MOST_BYTES, NextLine, Script};

@@ -9,7 +9,7 @@ ghost use Rattle.cc_select.specs.internal.Sets.{known_in, kept_by_call};
 
 use crate::immediate::{has_word, immediate_of, immediate_of_left};
 use crate::registers::{DESTROYED, RESULT, Registers};
-use crate::step::{WordOperator, Step};
+use crate::step::{Step, WordOperator};
 use cc_linear_language::LinearItem;
 use cc_ltl::{Move, Register};
 use cc_words::{Binary, Width};
@@ -90,11 +90,15 @@ impl Known {
         ensures { known_in self.new ≡ known_behind item.now (known_in self.old) }
     {
         match *item {
-            LinearItem::Label { .. } | LinearItem::Jump { .. } | LinearItem::Return => self.forget_all(),
-            LinearItem::IfNonzero { .. } | LinearItem::IfZero { .. } | LinearItem::Store { .. } => {}
+            LinearItem::Label { .. } | LinearItem::Jump { .. } | LinearItem::Return =>
+                self.forget_all(),
+            LinearItem::IfNonzero { .. } | LinearItem::IfZero { .. } | LinearItem::Store { .. } =>
+                {}
             LinearItem::Copy { between } => self.go_behind_move(between),
             LinearItem::Const { to, word } => self.learn(to, word),
-            LinearItem::Unary { to, .. } | LinearItem::Binary { to, .. } | LinearItem::Load { to, .. } => {
+            LinearItem::Unary { to, .. }
+            | LinearItem::Binary { to, .. }
+            | LinearItem::Load { to, .. } => {
                 self.forget(to.number());
             }
             LinearItem::Call { .. } => self.forget_destroyed(),

@@ -24,4 +24,4 @@ mod threading;
 
 pub use pair::SelectedPair;
 pub use selection::select;
-pub use step::{WordOperator, Step};
+pub use step::{Step, WordOperator};

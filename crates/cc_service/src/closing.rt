@@ -11,7 +11,7 @@ use crate::client::Client;
 use crate::named::Named;
 use cc_disk::{Disk, History};
 use cc_history::{Receipt, SharedEntry, receipts_count_up};
-use cc_library::{LibraryCommand, Library, UnitMap};
+use cc_library::{Library, LibraryCommand, UnitMap};
 use cc_pool::Pass;
 use cc_recorded::{Book, BookFault, Ended};
 use std::alloc::{AllocError, Global};

@@ -15,7 +15,9 @@ use crate::telling::{refuse, tell_change, tell_done};
 use cc_answers::{Teller, run_image};
 use cc_disk::Disk;
 use cc_library::Name;
-use cc_script::{ScriptCommand, Dialect, LINE_BYTES, MOST_BYTES, NextLine, ScriptFault, command_of};
+use cc_script::{
+    Dialect, LINE_BYTES, MOST_BYTES, NextLine, ScriptCommand, ScriptFault, command_of,
+};
 use cc_service::{Client, Found, Named, Put, Service};
 use cc_task::Part;
 use std::alloc::Global;

@@ -36,7 +36,7 @@ pub use answer::AnswerFile;
 pub use fault::SpoolFault;
 pub use folder::{FolderSpool, MOST_ENTRIES, count_entries};
 pub use framing::{fault_lines, frame, source_in};
-pub use layout::{Held, FolderLayout};
+pub use layout::{FolderLayout, Held};
 pub use memory::{Answered, MemorySpool};
 pub use names::is_plain;
 pub use recovery::{Recovered, clear_old, recover};

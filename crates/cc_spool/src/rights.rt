@@ -6,7 +6,7 @@
 ghost use Rattle.std.specs.Prelude.{◌≡◌, IfSome};
 
 use crate::found::Found;
-use crate::layout::{Held, FolderLayout};
+use crate::layout::{FolderLayout, Held};
 use crate::names::{TRIED, fresh_name};
 use crate::place::Place;
 use crate::refusal::Refusal;

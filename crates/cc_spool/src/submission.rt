@@ -277,7 +277,12 @@ impl Waiting {
     }
 
     // Writes an answer on, and takes it away.
-    fn take_answer<W: Write>(self, layout: &FolderLayout, mut file: File, writer: &mut W) -> Submission {
+    fn take_answer<W: Write>(
+        self,
+        layout: &FolderLayout,
+        mut file: File,
+        writer: &mut W,
+    ) -> Submission {
         let copied = copy(&mut file, writer, u64::MAX);
         drop(file);
         match copied {

@@ -6,7 +6,7 @@
 // unsigned.
 
 use cc_linear_language::LinearItem;
-use cc_select::{WordOperator, SelectedPair, Step};
+use cc_select::{SelectedPair, Step, WordOperator};
 use std::io::{self, Write};
 
 // The name of an operator on a register and a word, as that of the same operator on two registers.

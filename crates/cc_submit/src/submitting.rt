@@ -8,10 +8,10 @@ ghost use Rattle.cc_submit.specs.internal.Sent.{asks_source, has_source, is_whol
 
 use cc_answers::{Persons, Telling, explain_bad_line, explain_no_command, explain_words, words_of};
 use cc_command_line::Submitter;
-use cc_tasks::perform_and_explain;
-use cc_script::{ScriptCommand, Dialect, ScriptFault, command_of};
+use cc_script::{Dialect, ScriptCommand, ScriptFault, command_of};
 use cc_spool::{FolderLayout, SpoolFault, Submission, fault_lines, source_in, submit};
 use cc_task::Task;
+use cc_tasks::perform_and_explain;
 use std::alloc::{AllocError, Global};
 use std::io::{self, BufWriter, Input, Print, Read, Write};
 
@@ -41,8 +41,8 @@ fn takes_source(alloc: Global, line: &str) -> Result<bool, AllocError>
     with_length.extend_from_slice(line.as_bytes())?;
     with_length.extend_from_slice(b" 0")?;
     Ok(match command_of(Dialect::Served, with_length.as_slice()) {
-        Some(ScriptCommand::Add { name: _, length: _ }) | Some(ScriptCommand::Replace { name: _, length: _ }) =>
-            true,
+        Some(ScriptCommand::Add { name: _, length: _ })
+        | Some(ScriptCommand::Replace { name: _, length: _ }) => true,
         _ => false,
     })
 }

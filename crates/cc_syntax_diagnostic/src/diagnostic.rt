@@ -66,7 +66,10 @@ pub fn of_name<'a>(
 ) -> Result<Diagnostic, AllocError> {
     let rest = text.get(at..).unwrap_or(b"");
     let name = MessagePart::Token(rest.get(..length).unwrap_or(rest));
-    let message = message(alloc, &[name, MessagePart::Words(" "), MessagePart::Words(words)])?;
+    let message = message(
+        alloc,
+        &[name, MessagePart::Words(" "), MessagePart::Words(words)],
+    )?;
     Ok(Diagnostic {
         at: Some(at),
         message,

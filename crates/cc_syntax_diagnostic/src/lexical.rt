@@ -78,7 +78,12 @@ pub fn bad_byte(alloc: Global, text: &[u8], at: usize) -> Result<String, AllocEr
     let what = MessagePart::Words(" begins no token");
     message(
         alloc,
-        &[shown(rest), what, MessagePart::Words(colon), MessagePart::Words(said)],
+        &[
+            shown(rest),
+            what,
+            MessagePart::Words(colon),
+            MessagePart::Words(said),
+        ],
     )
 }
 
@@ -142,7 +147,11 @@ pub fn bad_constant(alloc: Global, text: &[u8], at: usize) -> Result<String, All
     let what = MessagePart::Words(" is no decimal, octal or hexadecimal constant: ");
     message(
         alloc,
-        &[MessagePart::Token(number), what, MessagePart::Words(reason(number))],
+        &[
+            MessagePart::Token(number),
+            what,
+            MessagePart::Words(reason(number)),
+        ],
     )
 }
 
@@ -159,5 +168,8 @@ pub fn constant_too_large(alloc: Global, text: &[u8], at: usize) -> Result<Strin
     } else {
         " is larger than 2147483647, the largest int"
     };
-    message(alloc, &[MessagePart::Token(number), MessagePart::Words(limit)])
+    message(
+        alloc,
+        &[MessagePart::Token(number), MessagePart::Words(limit)],
+    )
 }

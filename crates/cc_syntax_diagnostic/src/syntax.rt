@@ -157,7 +157,10 @@ fn for_reason(
 ) -> Result<Told, AllocError> {
     let before = message(
         alloc,
-        &[MessagePart::Words("unexpected "), MessagePart::Token(reason.found)],
+        &[
+            MessagePart::Words("unexpected "),
+            MessagePart::Token(reason.found),
+        ],
     )?;
     let count = if reason.is_keyword && is_name(list) {
         list.len()

@@ -20,8 +20,8 @@ ghost use Rattle.cc_validate.specs.declared.equation.Equation.{Equation};
 use crate::equation::Equation;
 use crate::moves::{number, source, target};
 use crate::origins::{PLACES, origins};
-use cc_ltl::Move;
 use cc_bits::BitRows;
+use cc_ltl::Move;
 use std::alloc::{AllocError, Global};
 use std::marker::Model;
 

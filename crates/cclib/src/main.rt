@@ -11,11 +11,11 @@ mod stack;
 ghost use Rattle.cc_command_line.specs.Work.{IsAllowed};
 
 use cc_answers::Persons;
-use cc_command_line::{NoRequest, Invocation, Work, read_or_tell, tell_bytes};
+use cc_command_line::{Invocation, NoRequest, Work, read_or_tell, tell_bytes};
 use cc_filing::take_out_of_file;
-use cc_tasks::{Fault, perform, perform_and_explain, perform_and_explain_stages, perform_stages};
 use cc_submit::submit_script;
 use cc_task::Task;
+use cc_tasks::{Fault, perform, perform_and_explain, perform_and_explain_stages, perform_stages};
 use library::library_session;
 use serving::serve_folder;
 use stack::reserve_stack;

@@ -9,7 +9,7 @@ use cc_disk::FileDisk;
 use cc_filing::{disk_to_serve, no_disk};
 use cc_session::{BOUNDS, Generation, GenerationEnd, Served, SessionEnd, Steward, serve_on};
 use cc_spool::{
-    FolderSpool, Held, FolderLayout, MOST_ENTRIES, Recovered, SpoolFault, WidePart, clear_old,
+    FolderLayout, FolderSpool, Held, MOST_ENTRIES, Recovered, SpoolFault, WidePart, clear_old,
     count_entries, recover, take_folder, wide_parts,
 };
 use std::alloc::{AllocError, Global};

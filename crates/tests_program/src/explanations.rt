@@ -1,7 +1,7 @@
 // What is explained of faults and of runs that go wrong, beside what is answered.
 
-use cc_tasks::perform_and_explain;
 use cc_task::Task;
+use cc_tasks::perform_and_explain;
 use std::alloc::Global;
 
 // Texts, what `check` writes for each, and what is explained.

@@ -1,7 +1,7 @@
 // Readers and writers that fail.
 
-use cc_tasks::{perform, perform_and_explain};
 use cc_task::Task;
+use cc_tasks::{perform, perform_and_explain};
 use std::io::{self, ErrorKind, Read, Write};
 
 /// Gives `l` at its first read, and fails from then on.

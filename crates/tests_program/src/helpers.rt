@@ -1,7 +1,7 @@
 // What a task writes for a text, and texts made of parts.
 
-use cc_tasks::perform;
 use cc_task::Task;
+use cc_tasks::perform;
 use std::alloc::{AllocError, Global};
 
 /// Whether a task writes these lines for a text, with this status.

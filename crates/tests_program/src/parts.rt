@@ -4,9 +4,9 @@
 use cc_disk::{Disk, FuseDisk, FuseMode, MemoryDisk};
 use cc_journal::{Journal, format};
 use cc_library::{Library, Name};
-use cc_tasks::take_out;
 use cc_rv32::image::{Code, Globals, Image};
 use cc_task::Part;
+use cc_tasks::take_out;
 use cc_unit::{Source, StoredUnit};
 use std::alloc::Global;
 use std::io::{self, ErrorKind, Write};

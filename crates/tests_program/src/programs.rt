@@ -1,8 +1,8 @@
 // Small programs, what they write and how they end.
 
 use super::helpers::{checks, interprets, writes};
-use cc_tasks::perform;
 use cc_task::Task;
+use cc_tasks::perform;
 use std::alloc::{AllocError, Global};
 
 // Small programs, the steps of each run, what it writes on no input and how it ends.

@@ -1,7 +1,7 @@
 // The command lines of a server and its clients.
 
 use crate::words::is_refused;
-use cc_command_line::{Submitter, Server, Work, line};
+use cc_command_line::{Server, Submitter, Work, line};
 use std::alloc::Global;
 
 // What a command line asks of a server, of the file `a.disk` and the folder `spool`.

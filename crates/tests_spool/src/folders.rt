@@ -4,7 +4,7 @@ use crate::helpers::{
     End, Folder, Meanwhile, answer, answer_one, clears, counts, done, ends_so, must, recovered,
     renumber_one, second,
 };
-use cc_spool::{FolderSpool, FolderLayout, Recovered, Spool};
+use cc_spool::{FolderLayout, FolderSpool, Recovered, Spool};
 use std::io::{self, Write};
 use std::thread;
 use std::time::Duration;

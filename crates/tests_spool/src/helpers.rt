@@ -4,8 +4,8 @@
 // in many places, would be proved for minutes, since each of its exits lets go of all that it has.
 
 use cc_spool::{
-    FolderSpool, Held, FolderLayout, Recovered, Spool, Submission, clear_old, count_entries, recover,
-    submit, take_folder,
+    FolderLayout, FolderSpool, Held, Recovered, Spool, Submission, clear_old, count_entries,
+    recover, submit, take_folder,
 };
 use std::fs::{self, File, OpenOptions, Permissions};
 use std::io::Write;

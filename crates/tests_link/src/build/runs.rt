@@ -5,8 +5,8 @@ use super::script::Line::{
     WriteBody, WriteGate,
 };
 use super::script::{Line, events, leaves};
-use cc_headline::{CcBuild, run};
 use cc_core::state::State;
+use cc_headline::{CcBuild, run};
 use std::alloc::Global;
 use std::test::Fail;
 

@@ -1,6 +1,5 @@
 // Scripts: events by plain numbers, what they answer, and what they leave.
 
-use cc_headline::CcBuild;
 use cc_core::command::{Reply, Request};
 use cc_core::event::Event;
 use cc_core::fault::CoreFault;
@@ -8,6 +7,7 @@ use cc_core::ids::{CallId, ClientId, PartIndex, WorkerId};
 use cc_core::sequence::Sequence;
 use cc_core::state::State;
 use cc_emit::Piece;
+use cc_headline::CcBuild;
 use cc_library::Name;
 use cc_link::{compile_function, typed_unit};
 use cc_rv32::image::Image;

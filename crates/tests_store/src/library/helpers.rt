@@ -4,7 +4,7 @@ ghost use Rattle.std.specs.Prelude.{◌≡◌, None, IfOk};
 
 use cc_disk::{Disk, MemoryDisk};
 use cc_journal::format;
-use cc_library::{LibraryCommand, Edit, Library, LibraryFault, Name, SharedUnit};
+use cc_library::{Edit, Library, LibraryCommand, LibraryFault, Name, SharedUnit};
 use cc_rv32::image::{Code, Globals, Image};
 use cc_unit::{Source, StoredUnit};
 use std::alloc::Global;

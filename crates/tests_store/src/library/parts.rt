@@ -2,7 +2,7 @@
 
 use crate::library::helpers::{name, unit};
 use cc_library::{
-    LibraryCommand, Kind, Name, ReadFault, body_length, body_of_command, command_body, read_command,
+    Kind, LibraryCommand, Name, ReadFault, body_length, body_of_command, command_body, read_command,
 };
 use cc_unit::StoredUnit;
 use std::alloc::Global;
@@ -78,7 +78,10 @@ fn certificate_of(alloc: Global, unit: &StoredUnit) -> Result<Option<Vec<u8>>, F
 fn certificate_read(alloc: Global, bytes: &[u8]) -> Result<Option<Vec<u8>>, Fail> {
     let command = read_command(alloc, bytes)?;
     match &command {
-        LibraryCommand::Add(_, unit) | LibraryCommand::Replace(_, unit) => certificate_of(alloc, unit.stored()),
+        LibraryCommand::Add(_, unit) | LibraryCommand::Replace(_, unit) => certificate_of(
+            alloc,
+            unit.stored(),
+        ),
         LibraryCommand::Withdraw(_) => Err(Fail::from("a Withdraw has no unit")),
     }
 }

@@ -2,7 +2,7 @@
 
 use crate::library::helpers::{Step, does, formatted, name, number, opened, steps_done, unit};
 use cc_disk::{Disk, FuseDisk, FuseMode};
-use cc_library::{LibraryCommand, Library, SharedUnit};
+use cc_library::{Library, LibraryCommand, SharedUnit};
 use std::alloc::Global;
 use std::sync::Arc;
 use std::test::Fail;
