@@ -1,3 +1,6 @@
+-- How the machine is shown to follow the steps: each step of the source is paid for by an instruction within a fixed rate, so an endless
+-- loop cannot be dropped. A function without a frame may execute nothing before its first move, so the first step is paid for by the jump
+-- that calls the function.
 -- what emission asks of frames and items
 pub mod Fine
 -- reads behind writes, and words

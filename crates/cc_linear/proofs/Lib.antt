@@ -1,3 +1,8 @@
+-- How a list of items is shown to keep up with blocks. The run of the list may be late: when the blocks have come to the next label, the
+-- list may still have to do the moves after an operation, and at most one jump. A block is passed over only where it is empty and its
+-- successor is nearer to the end of its chain, so a cycle of empty blocks keeps one jump. So each move of the list pays for at most as
+-- many blocks as the longest chain has, and one more (linear_tracks of Laid). Every order that has each label once, and all that is
+-- reached, is right (laid_out of Ordering).
 -- a list that lays blocks out does what they do
 pub mod Laid
 -- blocks in any order are laid out

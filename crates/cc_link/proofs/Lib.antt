@@ -1,3 +1,5 @@
+-- How an image is shown to agree with its text: a callee's instructions are counted by induction on the calls that are still allowed
+-- (CallsMeet); each call pays with its own jump for the first step of the function that it calls.
 pub mod Counting
 pub mod Machine
 pub mod Laying

@@ -1,3 +1,5 @@
+-- How the simulator is shown to be the machine. Code is decoded once into flat operations; each does what its instruction does (Flats,
+-- Simulates), many of them what a run does (Running), and a service call ends such a stretch (Serving, Advancing).
 pub mod RoundTrip
 pub mod Flats
 pub mod Memories

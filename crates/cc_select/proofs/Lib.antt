@@ -1,3 +1,11 @@
+-- How the steps are shown to keep up with the items, pass by pass. With tests before labels: where a run jumps to such a label, the other
+-- one makes the jump when it makes the test, so one of two moves is matched by none (Threaded; that labels occur once and that only jumps
+-- lead to those is Tests). With constants in the operations that read them: item and step go hand in hand from the same locations, and
+-- what is known of a register holds (Choosing). Without the constants that nobody reads: the locations agree on what is live, and each
+-- constant that is left out is a move that nothing matches, at most as many as the list is long (Lean). A comparison and its branch as
+-- one step stand for two moves, and between them the truth value is in nobody's way (Fused). The last two ask of the table of live
+-- registers only that it is settled, which a look finds (Settled); how it was found no proof asks. A run of the steps is the same
+-- whatever the registers hold that are not live (Unread).
 -- tests on numbers, and truth values
 pub mod Basics
 -- the table of labels is settled
