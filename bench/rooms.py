@@ -38,6 +38,8 @@ class Page:
         item, inside, comment = None, False, []
         for line in self.text.split("\n"):
             bare = line.strip()
+            if bare.startswith("-- ORDER "):
+                continue
             if bare.startswith("--") or not bare:
                 comment = [*comment, line] if bare else []
                 continue

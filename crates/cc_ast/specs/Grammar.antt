@@ -26,6 +26,7 @@ unary_punctuator unary.Complement = punctuator.Tilde
 unary_punctuator unary.Not = punctuator.Exclamation
 
 -- the punctuator of a binary operator (C99 6.5.5 to 6.5.14)
+-- ORDER BinaryOperator
 abbrev pub binary_punctuator : BinaryOperator → Punctuator
 binary_punctuator binary.Multiply = punctuator.Star
 binary_punctuator binary.Divide = punctuator.Slash

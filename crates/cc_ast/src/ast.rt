@@ -12,6 +12,7 @@ pub enum UnaryOperator {
     Not,
 }
 
+// ORDER BinaryOperator
 /// A binary operator (C99 6.5.5 to 6.5.14). `And`, `Xor` and `Or` go bit by bit; `LogicalAnd` and `LogicalOr` are `&&` and
 /// `||`, which evaluate their right operand only where they need it.
 #[derive(Clone, Copy)]

@@ -76,6 +76,7 @@ pub fn truth(alloc: Global, operand: Box<Expression>) -> Result<Box<Expression>,
 fn operator_of(operation: BinaryOperation) -> (Binary, bool)
     ensures { (a b : cminor.Expression) → in_order result.1 result.0 a b ≡ operation_of operation a b }
 {
+    // ORDER Binary
     match operation {
         BinaryOperation::Multiply => (Binary::Mul, false),
         BinaryOperation::DivideSigned => (Binary::DivS, false),

@@ -28,6 +28,7 @@ pub(crate) const WORKERS_RULE: &str = "N is a decimal number from 1 to 8";
 
 pub(crate) const PATH_RULE: &str = "a path of no letters names no file and no folder";
 
+// ORDER ScriptCommand
 // What a person reads below the options of the command.
 const LIBRARY_HELP: &str = "\
 The script comes on standard input, one command a line:

@@ -50,6 +50,7 @@ server: `fault 55 Interrupted` behind the lines that it had.
 Example:
   cclib serve units.disk spool --format 1048576";
 
+// ORDER ScriptCommand
 // The same for `submit`.
 const SUBMIT_HELP: &str = "\
 Without a COMMAND the script comes on standard input. A COMMAND is one line of a script:

@@ -5,6 +5,7 @@ use std::alloc::{AllocError, Global};
 
 // The operators that can go wrong are these punctuators.
 fn can_go_wrong(token: Token) -> bool {
+    // ORDER BinaryOperator
     match token.kind {
         TokenKind::Punctuator(punctuator) => matches!(
             punctuator,

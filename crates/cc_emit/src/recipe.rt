@@ -31,6 +31,7 @@ impl Recipe {
     pub(crate) fn of(operator: Binary) -> Recipe
         ensures { result ≡ recipe operator }
     {
+        // ORDER Binary
         match operator {
             Binary::Add => Recipe::Direct(RegisterOperation::Add),
             Binary::Sub => Recipe::Direct(RegisterOperation::Sub),

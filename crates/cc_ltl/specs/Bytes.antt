@@ -24,11 +24,13 @@ abbrev pub word_bytes : ℕ → List ℕ
 word_bytes n = to_le_bytes w32 n
 
 -- the bytes of the operators
+-- ORDER Unary
 abbrev pub unary_number : UnaryOperator → ℕ
 unary_number Neg = 0
 unary_number Complement = 1
 unary_number IsZero = 2
 
+-- ORDER Binary
 abbrev pub binary_number : BinaryOperator → ℕ
 binary_number Add = 0
 binary_number Sub = 1
@@ -57,6 +59,7 @@ move_bytes (Reload to slot) = 1 ∷ to ∷ half_bytes slot
 move_bytes (Spill slot from) = 2 ∷ (half_bytes slot ++ from ∷ [])
 
 -- an operation: its number, and its fields; of a load and of a store how many bytes an element has comes first
+-- ORDER Operation
 abbrev pub operation_bytes : Operation → List ℕ
 operation_bytes (Nop next) = 0 ∷ word_bytes next
 operation_bytes (Const to w next) = 1 ∷ to ∷ (word_bytes w ++ word_bytes next)

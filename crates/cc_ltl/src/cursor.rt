@@ -8,9 +8,11 @@ use crate::location::{Register, Slot};
 use cc_words::{Binary, Unary, Width};
 use std::marker::Model;
 
+// ORDER Unary
 // The operators, in the order of their numbers.
 const UNARY: [Unary; 3] = [Unary::Neg, Unary::Complement, Unary::IsZero];
 
+// ORDER Binary
 const BINARY: [Binary; 19] = [
     Binary::Add,
     Binary::Sub,

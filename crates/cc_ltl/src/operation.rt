@@ -3,6 +3,7 @@
 use crate::location::{Register, Slot};
 use cc_words::{Binary, Unary, Width};
 
+// ORDER Operation
 /// A word goes from one location to another. No word goes from slot to slot.
 #[derive(Clone, Copy)]
 pub enum Move {

@@ -140,6 +140,7 @@ impl<'a> Cursor<'a> {
     fn next_move(&mut self) -> Option<Move>
         ensures { Reads (move_in self.old) result self.new }
     {
+        // ORDER Operation
         match self.byte()? {
             0 => self.between(),
             1 => self.reload(),
@@ -185,6 +186,7 @@ impl<'a> Cursor<'a> {
     fn operation(&mut self) -> Option<Operation>
         ensures { Reads (operation_in self.old) result self.new }
     {
+        // ORDER Operation
         match self.byte()? {
             0 => self.nop(),
             1 => self.constant(),

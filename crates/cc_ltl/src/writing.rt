@@ -67,6 +67,7 @@ fn put_move(bytes: &mut Vec<u8>, each: &Move) -> Result<(), AllocError>
 fn put_operation(bytes: &mut Vec<u8>, operation: &Operation) -> Result<(), AllocError>
     ensures { OnOk result (bytes.new.items ≡ bytes.old.items ++ operation_bytes operation.now) }
 {
+    // ORDER Operation
     match *operation {
         Operation::Nop { next } => put(bytes, &[0], next),
         Operation::Const { to, word, next } => {
@@ -159,6 +160,7 @@ fn put_word(bytes: &mut Vec<u8>, number: u32) -> Result<(), AllocError>
 fn number_of_unary(operator: Unary) -> u8
     ensures { result ≡ unary_number operator }
 {
+    // ORDER Unary
     match operator {
         Unary::Neg => 0,
         Unary::Complement => 1,
@@ -169,6 +171,7 @@ fn number_of_unary(operator: Unary) -> u8
 fn number_of_binary(operator: Binary) -> u8
     ensures { result ≡ binary_number operator }
 {
+    // ORDER Binary
     match operator {
         Binary::Add => 0,
         Binary::Sub => 1,

@@ -67,6 +67,7 @@ pub fn operation(operator: BinaryOperator, working: Scalar) -> BinaryOperation
     ensures { result ≡ operation operator working }
 {
     use BinaryOperation::*;
+    // ORDER BinaryOperator
     match operator {
         BinaryOperator::Multiply => Multiply,
         BinaryOperator::Divide => by_type(working, DivideSigned, DivideUnsigned),

@@ -40,6 +40,7 @@ register_text r = codes "x" ++ decimal r
 
 -- ---- names
 
+-- ORDER Instr
 abbrev pub operation_text : RegisterOperation → List ℕ
 operation_text Add = codes "add"
 operation_text Sub = codes "sub"

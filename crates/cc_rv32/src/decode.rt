@@ -169,6 +169,7 @@ fn multiplication_in(funct3: u32) -> RegisterOperation
     ensures funct3 { operation_funct3 result ≡ funct3 }
     ensures funct7 { operation_funct7 result ≡ 1 }
 {
+    // ORDER Instr
     match funct3 {
         0 => RegisterOperation::Mul,
         1 => RegisterOperation::Mulh,

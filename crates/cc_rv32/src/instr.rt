@@ -6,6 +6,7 @@ ghost use Rattle.cc_rv32.specs.Table.{operation_funct3, operation_funct7, immedi
 
 use crate::operand::{BranchOffset, Immediate, JumpOffset, Register, ShiftCount, UpperImmediate};
 
+// ORDER Instr
 /// What an instruction on two registers computes (opcode OP).
 #[derive(Clone, Copy)]
 pub enum RegisterOperation {
@@ -53,6 +54,7 @@ impl RegisterOperation {
         ensures table { result ≡ operation_funct3 self }
         ensures in_range { result < 8 }
     {
+        // ORDER Instr
         match self {
             RegisterOperation::Add => 0,
             RegisterOperation::Sub => 0,
@@ -80,6 +82,7 @@ impl RegisterOperation {
         ensures table { result ≡ operation_funct7 self }
         ensures in_range { result < 128 }
     {
+        // ORDER Instr
         match self {
             RegisterOperation::Add => 0x00,
             RegisterOperation::Sub => 0x20,

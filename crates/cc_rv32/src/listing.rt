@@ -292,6 +292,7 @@ fn parts_of(instr: Instr) -> Parts
 fn operation_name(operation: RegisterOperation) -> &'static str
     ensures { result.now ≡ operation_text operation }
 {
+    // ORDER Instr
     match operation {
         RegisterOperation::Add => "add",
         RegisterOperation::Sub => "sub",

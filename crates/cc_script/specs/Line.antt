@@ -9,6 +9,7 @@ use Rattle.cc_script.specs.declared.command.Dialect.{Dialect}
 use Rattle.cc_script.specs.declared.command.Dialect.TheVariants.{Plain, Served}
 
 -- what a script asks for: a change with a number of bytes of source behind its line, one without, or a look
+-- ORDER ScriptCommand
 pub data ScriptRequest : Type 0 where
   Add : (name : List ℕ) → (length : ℕ) → ScriptRequest
   Replace : (name : List ℕ) → (length : ℕ) → ScriptRequest

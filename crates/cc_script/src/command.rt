@@ -19,6 +19,7 @@ pub enum Dialect {
     Served,
 }
 
+// ORDER ScriptCommand
 /// What a line of a script asks for.
 #[derive(Clone, Copy, Drop)]
 pub enum ScriptCommand<'a> {

@@ -3,6 +3,7 @@
 /// How many of `COMMANDS` a session's script may have: those that come first.
 pub const PLAIN_COMMANDS: usize = 7;
 
+// ORDER ScriptCommand
 /// The commands of a script, in the order in which a person is told of them: those of a session's script, and then those that only one that
 /// is left for a server has. Where LEN stands at the end, that many bytes of source stand behind the line.
 pub const COMMANDS: [&[u8]; 9] = [

@@ -46,6 +46,7 @@ fn is_power(word: u32) -> bool
 pub(crate) fn immediate_of(operator: Binary, word: u32) -> Option<(WordOperator, u32)>
     ensures { result ≡ immediate_of operator word }
 {
+    // ORDER Binary
     match operator {
         Binary::Add => Some((WordOperator::Add, word)),
         Binary::Sub => Some((WordOperator::Sub, word)),

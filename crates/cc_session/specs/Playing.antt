@@ -51,6 +51,7 @@ abbrev pub Audits : (old new : Holder) → Type 0
 Audits old new = ((fault : ServiceFault) × ListAnswers old new (Err fault)) ⊎ IsListedAndFetched old new
 
 -- what a line asks for is done; nothing where it asks for nothing
+-- ORDER ScriptCommand
 abbrev pub Obeys : Option ScriptRequest → (before after : List ℕ) (old new : Holder) → Type 0
 Obeys (Some (Add name count)) before after old new = IsSent Adds name count before after old new
 Obeys (Some (Replace name count)) before after old new = IsSent Replaces name count before after old new

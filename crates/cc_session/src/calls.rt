@@ -250,6 +250,7 @@ impl<'a, N: Named + Send + Sync + 'static, H: Wait, D: Disk> Caller<'a, N, H, D>
         }
     }
 
+    // ORDER ScriptCommand
     // Does what a line of a script asks for.
     fn obey<R: Read, W: Write, E: Write>(
         &self,

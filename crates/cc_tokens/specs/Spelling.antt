@@ -7,6 +7,7 @@ use Rattle.cc_tokens.specs.declared.token.Punctuator.{Punctuator}
 use Rattle.cc_tokens.specs.declared.token.Punctuator.TheVariants.{OpenParenthesis, CloseParenthesis, OpenBracket, CloseBracket, OpenBrace, CloseBrace, Semicolon, Comma, Question, Colon, Plus, Minus, Star, Slash, Percent, ShiftLeft, ShiftRight, Less, Greater, LessOrEqual, GreaterOrEqual, Equal, NotEqual, Ampersand, Bar, Caret, Tilde, Exclamation, AndAnd, OrOr, Assign, PlusAssign, MinusAssign, StarAssign, SlashAssign, PercentAssign, ShiftLeftAssign, ShiftRightAssign, AmpersandAssign, BarAssign, CaretAssign, PlusPlus, MinusMinus}
 
 -- the bytes of a keyword (C99 6.4.1)
+-- ORDER Keyword
 abbrev pub keyword_bytes : Keyword → List ℕ
 keyword_bytes Auto = codes "auto"
 keyword_bytes Break = codes "break"
@@ -47,6 +48,7 @@ keyword_bytes Complex = codes "_Complex"
 keyword_bytes Imaginary = codes "_Imaginary"
 
 -- the bytes of a punctuator (C99 6.4.6, those of the profile)
+-- ORDER Punctuator
 abbrev pub punctuator_bytes : Punctuator → List ℕ
 punctuator_bytes OpenParenthesis = codes "("
 punctuator_bytes CloseParenthesis = codes ")"

@@ -137,6 +137,7 @@ fn run_len(run: Run, bytes: &[u8]) -> usize
 fn keywords_with(first: u8) -> &'static [Keyword]
     ensures { result.now ≡ keywords_with first }
 {
+    // ORDER Keyword
     match first {
         b'_' => &[Keyword::Bool, Keyword::Complex, Keyword::Imaginary],
         b'a' => &[Keyword::Auto],
@@ -187,6 +188,7 @@ fn keyword_named(word: &[u8]) -> Option<Keyword>
 fn punctuators_with(first: u8) -> &'static [Punctuator]
     ensures { result.now ≡ punctuators_with first }
 {
+    // ORDER Punctuator
     match first {
         b'<' => &[
             Punctuator::ShiftLeftAssign,

@@ -5,6 +5,7 @@ ghost use Rattle.cc_tokens.specs.Spelling.{keyword_bytes, punctuator_bytes};
 
 use super::scalar::Scalar;
 
+// ORDER Keyword
 /// The 37 keywords of C99 6.4.1.
 #[derive(Clone, Copy)]
 pub enum Keyword {
@@ -47,6 +48,7 @@ pub enum Keyword {
     Imaginary,
 }
 
+// ORDER Keyword
 /// Every keyword.
 pub(crate) const KEYWORDS: [Keyword; 37] = [
     Keyword::Auto,
@@ -93,6 +95,7 @@ impl Keyword {
     pub fn bytes(self) -> &'static [u8]
         ensures { result.now ≡ keyword_bytes self }
     {
+        // ORDER Keyword
         match self {
             Keyword::Auto => b"auto",
             Keyword::Break => b"break",
@@ -135,6 +138,7 @@ impl Keyword {
     }
 }
 
+// ORDER Punctuator
 /// The punctuators of the profile (C99 6.4.6).
 #[derive(Clone, Copy)]
 pub enum Punctuator {
@@ -183,6 +187,7 @@ pub enum Punctuator {
     MinusMinus,
 }
 
+// ORDER Punctuator
 /// Every punctuator, the longest first.
 pub(crate) const PUNCTUATORS: [Punctuator; 43] = [
     Punctuator::ShiftLeftAssign,

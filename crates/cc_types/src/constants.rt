@@ -42,6 +42,7 @@ pub fn binary_word(operator: BinaryOperator, working: Scalar, a: u32, b: u32) ->
     ensures { result ≡ binary_word operator working a b }
 {
     let signed = working == Scalar::Int;
+    // ORDER BinaryOperator
     match operator {
         BinaryOperator::Multiply => Some(cc_words::mul(a, b)),
         BinaryOperator::Divide if signed => cc_words::div_s(a, b),

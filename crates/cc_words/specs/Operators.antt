@@ -13,6 +13,7 @@ apply_unary Complement w = complement w
 apply_unary IsZero w = is_zero w
 
 -- what an operator on two words gives, or none where C has no answer
+-- ORDER Binary
 abbrev pub apply_binary : Binary → ℕ → ℕ → Option ℕ
 apply_binary Add a b = Some (add a b)
 apply_binary Sub a b = Some (sub a b)
@@ -41,6 +42,7 @@ unary_text Complement = codes "complement"
 unary_text IsZero = codes "is_zero"
 
 -- the name of an operator on two words
+-- ORDER Binary
 abbrev pub binary_text : Binary → List ℕ
 binary_text Add = codes "add"
 binary_text Sub = codes "sub"

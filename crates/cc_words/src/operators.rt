@@ -9,6 +9,7 @@ use super::{
     add, div_s, div_u, eq, le_s, le_u, lt_s, lt_u, mul, ne, rem_s, rem_u, shl, shr_s, shr_u, sub,
 };
 
+// ORDER Unary
 /// An operator on one word.
 #[derive(Clone, Copy)]
 pub enum Unary {
@@ -44,6 +45,7 @@ impl Unary {
     }
 }
 
+// ORDER Binary
 /// An operator on two words. `S` reads them as signed numbers, `U` as unsigned ones.
 #[derive(Clone, Copy)]
 pub enum Binary {
@@ -94,6 +96,7 @@ impl Binary {
     pub fn apply(self, left: u32, right: u32) -> Option<u32>
         ensures { result ≡ apply_binary self left right }
     {
+        // ORDER Binary
         match self {
             Binary::Add => Some(add(left, right)),
             Binary::Sub => Some(sub(left, right)),
@@ -121,6 +124,7 @@ impl Binary {
     pub fn name(self) -> &'static str
         ensures { result.now ≡ binary_text self }
     {
+        // ORDER Binary
         match self {
             Binary::Add => "add",
             Binary::Sub => "sub",

@@ -72,9 +72,11 @@ unfoldable pub slot_in : Reader ℕ
 slot_in bytes = half_in bytes >>= λ n. if nat_lt n.0 most_slots then Some n else None
 
 -- the operators, in the order of their numbers
+-- ORDER Unary
 abbrev pub unary_operators : List UnaryOperator
 unary_operators = Neg ∷ Complement ∷ IsZero ∷ []
 
+-- ORDER Binary
 abbrev pub binary_operators : List BinaryOperator
 binary_operators = Add ∷ Sub ∷ Mul ∷ DivS ∷ DivU ∷ RemS ∷ RemU ∷ Shl ∷ ShrS ∷ ShrU ∷ And ∷ Or ∷ Xor ∷ Eq ∷ Ne ∷ LtS ∷ LtU ∷ LeS ∷ LeU ∷ []
 

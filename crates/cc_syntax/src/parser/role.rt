@@ -73,6 +73,7 @@ fn of_keyword(keyword: Keyword) -> Role
 fn of_punctuator(punctuator: Punctuator) -> Role
     ensures { result ≡ punctuator_role punctuator }
 {
+    // ORDER BinaryOperator
     match punctuator {
         Punctuator::OpenParenthesis => Role::OpenParenthesis,
         Punctuator::CloseParenthesis => Role::CloseParenthesis,

@@ -47,6 +47,7 @@ run_length may before [] = 0
 run_length may before (b ∷ bs) = if may before b then suc (run_length may b bs) else 0
 
 -- the keywords that begin with a byte
+-- ORDER Keyword
 abbrev pub keywords_with : ℕ → List Keyword
 keywords_with b =
     if b == 95 then keyword.Bool ∷ keyword.Complex ∷ keyword.Imaginary ∷ []
@@ -68,6 +69,7 @@ keywords_with b =
     else [])))))))))))))))
 
 -- the punctuators that begin with a byte, the longest first
+-- ORDER Punctuator
 abbrev pub punctuators_with : ℕ → List Punctuator
 punctuators_with b =
     if b == 60 then punctuator.ShiftLeftAssign ∷ punctuator.ShiftLeft ∷ punctuator.LessOrEqual ∷ punctuator.Less ∷ []
