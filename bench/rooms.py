@@ -3,13 +3,15 @@
 
     bench/rooms.py                              of every crate: definitions directly in specs/ on which no public contract rests and
                                                 no type's model, definitions of specs/internal/ on which a contract or a public
-                                                type's model does, contracts that rest on what stands in proofs/, and clauses of more
-                                than 100 characters that stand word for word in more than three contracts of the product
+                                                type's model does, contracts that rest on what stands in proofs/, clauses of more
+                                                than 100 characters that stand word for word in more than three contracts of the
+                                                product, and names in the crates' READMEs and five documents that nothing has any more
     bench/rooms.py CRATE FUNCTION [CLAUSE..]    what that function's contract rests on, or these clauses of it: the pages in
                                                 reading order, with how many of their lines, and how many lines in all
 
 It reads the text alone: names in clauses, followed through the `use` lines of the pages. What a Rust type is (`declared`)
-counts as code, and std's words are taken as known. Its status is 1 where it finds something misplaced."""
+counts as code, and std's words are taken as known. Its status is 1 where it finds something misplaced or a name that nothing has."""
+import glob
 import os
 import re
 import sys
@@ -22,6 +24,9 @@ PUBLIC = re.compile(r"^\s*pub (?:const )?(?:unsafe )?fn (\w+)")
 CLAUSE = re.compile(r"^\s*(?:ensures|requires)\*?\s+(?:(\w+)\s)?")
 WHOLE_CLAUSE = re.compile(r"^\s*(?:ensures|requires)\*?\s+(?:\w+\s)?(\{.*)")
 LONGEST, MOST = 100, 3
+QUOTED = re.compile(r"`([^`]+)`")
+CITED = re.compile(r"((?:`[\w:]+`(?:, | and )?)+) \(((?:`\w+`(?:, )?)+)\)")
+PAGES = re.compile(r"`(cc_\w+)`: ((?:`[A-Z]\w*`(?:, )?)+)")
 PROOFS = re.compile(r"use Rattle\.(?!std\.)(\w+)\.proofs\.([\w.]+?)(?:\.\{([^}]*)\}| as (\w+))")
 
 
@@ -281,6 +286,69 @@ def check(repository):
     return 1 if wrong or repeated else 0
 
 
+def words_of_sources():
+    """Returns every word of the sources, and of the names of their files."""
+    found = set()
+    for at, folders, files in os.walk(TOP):
+        folders[:] = [it for it in folders if it not in (".git", "out", "target")]
+        for file in files:
+            found |= set(re.findall(r"\w+", f"{at} {file}"))
+            if file.endswith((".rt", ".antt", ".py", ".sh", ".c", ".txt")) or file == "cclib":
+                with open(f"{at}/{file}", encoding="utf-8") as it:
+                    found |= set(re.findall(r"\w+", it.read()))
+    return found
+
+
+def clauses_of(crate):
+    """Returns the clauses of a crate's functions, by the function's name."""
+    found = {}
+    for path in glob.glob(f"{TOP}/crates/{crate}/src/**/*.rt", recursive=True):
+        name = None
+        with open(path, encoding="utf-8") as file:
+            for line in file:
+                begins = re.match(r"\s*(?:pub(?:\([^)]*\))? )?(?:const )?(?:unsafe )?fn (\w+)", line)
+                name = begins[1] if begins else name
+                clause = re.match(r"\s*(?:ensures|requires|ghost)\*?\s+(\w+)", line)
+                if clause and name:
+                    found.setdefault(name, set()).add(clause[1])
+    return found
+
+
+def unknown_in(path, words, pages):
+    """Returns what a document names in backquotes that is not there: files, words, clauses of calls, pages of crates."""
+    with open(path, encoding="utf-8") as file:
+        text = re.sub(r"\s*\n\s*", " ", re.sub(r"^```.*?^```$", "", file.read(), flags=re.M | re.S))
+    crate = os.path.basename(os.path.dirname(path))
+    roots, unknown = [TOP, f"{TOP}/crates", f"{TOP}/crates/{crate}", f"{TOP}/crates/*"], []
+    for quoted in QUOTED.findall(text):
+        if quoted.startswith("rt "):
+            continue
+        for part in re.findall(r"[\w.*-]+(?:/[\w.*-]+)+", quoted):
+            if not any(glob.glob(f"{root}/{part}{end}") for root in roots for end in ("", ".antt")):
+                unknown.append(part)
+        unknown += [it for it in re.findall(r"(?<![\w*])[A-Za-z]\w*(?![\w*])", quoted) if it not in words and not it.endswith("_")]
+    for name, there in PAGES.findall(text):
+        unknown += [f"{name}: {it}" for it in re.findall(r"\w+", there) if it not in pages.get(name, ())]
+    clauses = clauses_of(crate)
+    for calls, cited in CITED.findall(text):
+        names = [it.rpartition(":")[2] for it in QUOTED.findall(calls)]
+        have = set().union(*(clauses.get(it, set()) for it in names))
+        if any(it in clauses for it in names):
+            unknown += [f"{', '.join(names)} ({it})" for it in QUOTED.findall(cited) if it not in have]
+    return unknown
+
+
+def check_documents(repository):
+    wrong, words = 0, words_of_sources()
+    pages = [f"{TOP}/docs/{it}.md" for it in ("ARCHITECTURE", "DECISIONS", "DEVELOPING", "PROOFS", "THREADS")]
+    for path in [*sorted(glob.glob(f"{TOP}/crates/*/README.md")), *pages]:
+        for it in unknown_in(path, words, repository.pages):
+            wrong += 1
+            print(f"{os.path.relpath(path, TOP)}: {it} is not there")
+    print(f"{wrong} names in documents that nothing has")
+    return 1 if wrong else 0
+
+
 if __name__ == "__main__":
     every = Repository()
-    sys.exit(show(every, *sys.argv[1:]) if len(sys.argv) > 2 else check(every))
+    sys.exit(show(every, *sys.argv[1:]) if len(sys.argv) > 2 else check(every) | check_documents(every))
