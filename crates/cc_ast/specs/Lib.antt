@@ -16,5 +16,5 @@ pub mod internal
 pub use Rattle.cc_tokens.specs.Place
 pub use Rattle.cc_tokens.specs.Tokens
 pub use Rattle.cc_tokens.specs.declared.fault
-pub use Rattle.cc_tokens.specs.declared.place
+pub use Rattle.cc_tokens.specs.declared.place as place_type
 pub use Rattle.cc_tokens.specs.declared.scalar

@@ -14,12 +14,12 @@ use Rattle.cc_history.specs.declared.standing.StandingFault.TheVariants as stand
 use Rattle.cc_history.specs.Closing.{AreOwn, IsClosed, IsNotWhole}
 use Rattle.cc_history.specs.History.{Holder}
 use Rattle.cc_service.specs.Book.{BookView}
-use Rattle.cc_service.specs.FaultOfRecorded.{book_fault_number, fault_of}
+use Rattle.cc_service.specs.BookFault.{book_fault_number, fault_of}
 use Rattle.cc_service.specs.Fault.{fault_number}
 use Rattle.cc_service.specs.Promise.{IsGivenUp, IsSound}
 use Rattle.cc_service.specs.Since.{IsPast}
 use Rattle.cc_service.specs.Serving.{IsNotEnded, IsNotOpened}
-use Rattle.cc_service.specs.fault.BookFault.{BookFault}
+use Rattle.cc_service.specs.book_fault.BookFault.{BookFault}
 use Rattle.cc_service.specs.declared.fault.ServiceFault.{ServiceFault}
 use Rattle.cc_service.specs.declared.fault.ServiceFault.TheVariants as service
 use Rattle.cc_session.specs.Session.{EndsSince, IsEnded, IsLeft, IsUnopened, ServiceEnds, told_after}

@@ -1,6 +1,6 @@
 -- The faults: their numbers and places, and the rule that each is for.
 use Rattle.std.specs.Prelude.{ℕ, Option, Some, None}
-use Rattle.cc_ast.specs.place.Place.{Place}
+use Rattle.cc_ast.specs.place_type.Place.{Place}
 use Rattle.cc_types.specs.declared.rule.Rule.{Rule}
 use Rattle.cc_types.specs.declared.rule.Rule.TheVariants as rule
 use Rattle.cc_types.specs.declared.fault.TypeFault.{TypeFault}
