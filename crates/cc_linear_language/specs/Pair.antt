@@ -30,8 +30,7 @@ tree_of p = (source p.unit).externals
 abbrev pub most_blocks : ℕ
 most_blocks = 4096
 
--- at some rate the run of the LTL keeps up with the function, for all lists of unknown words. That is what a pair of LTL keeps (`KeepsUp`
--- of `cc_validate`), said here again so that what stands on Linear need not wait for the validator
+-- so does the run of the LTL: `KeepsUp` of `cc_validate`, said here again so that what stands on Linear need not wait for the validator
 abbrev pub LtlKeepsUp : List External → (function : ℕ) → Ltl → Type 0
 LtlKeepsUp unit f ltl = (rate : ℕ) × ((meaning : Meaning) → IsMeaningOf unit meaning → TracksForAll meaning f rate (ltl_move meaning.arity ltl) ltl_output (ltl_start ltl))
 
