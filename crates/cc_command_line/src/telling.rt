@@ -7,6 +7,7 @@ use crate::command_line::{Invocation, read_invocation, refused_bytes};
 use clap::Error;
 use clap::error::ErrorKind;
 use std::alloc::Global;
+use std::convert::AsStr;
 
 /// Why there is no work.
 #[derive(Clone, Copy)]
