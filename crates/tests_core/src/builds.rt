@@ -2,12 +2,14 @@
 
 ghost use Rattle.tests_core.specs.Builds.{rules, keeps, is_right, planned, law, nothing, is_anything, nothing_planned, nothing_law};
 
-use crate::piece::Piece;
+use crate::piece::{Piece, compiled};
+use crate::script::Scripted;
 use cc_core::build::Build;
 use cc_core::fault::BuildRefusal;
 use cc_unit::StoredUnit;
 use std::alloc::Global;
 use std::sync::Arc;
+use std::test::Fail;
 
 /// The build in which a source that begins with `2` has two pieces, and each other one. A source that begins with `#` is
 /// refused with 11, its pieces with 25 where it begins with `!`. Its units have one code word, the length of the source, and
@@ -56,6 +58,12 @@ impl Build for FewPieces {
     ghost law = { law };
 }
 
+impl Scripted for FewPieces {
+    fn piece(alloc: Global, source: &str, part: u32) -> Result<Piece, Fail> {
+        compiled(alloc, source.as_bytes(), part)
+    }
+}
+
 /// The build that makes nothing: each source is refused with 11. Any unit is right by it, so it opens any library.
 #[derive(Drop)]
 pub struct Nothing {}
@@ -89,4 +97,10 @@ impl Build for Nothing {
     ghost planned = { nothing_planned };
 
     ghost law = { nothing_law };
+}
+
+impl Scripted for Nothing {
+    fn piece(alloc: Global, source: &str, part: u32) -> Result<Piece, Fail> {
+        compiled(alloc, source.as_bytes(), part)
+    }
 }

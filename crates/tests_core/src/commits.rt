@@ -1,39 +1,36 @@
 // What a commit answers, and what it leaves.
 
+use crate::played::{ONE, TWO, begins, goes_on};
+use crate::script::Line;
 use crate::script::Line::{
-    Ack, Add, Begin, Crash, Done, Recover, Refuse, Replace, RewriteAll, SyncAll, SyncArea,
-    SyncBody, SyncGate, Take, Withdraw, WriteArea, WriteBody, WriteGate,
+    Ack, Add, Begin, Commit, Crash, Done, Make, Recover, Refuse, Replace, Rewrite, SyncBody, Take,
+    Withdraw, Write,
 };
-use crate::script::{Line, ONE, TWO, begins, goes_on};
 use cc_core::fault::{BuildRefusal, CoreFault};
 use cc_core::sequence::Sequence;
 use std::test::Fail;
 
 // A source that the build refuses, one whose pieces it refuses, and one of two pieces.
-const BAD: [u8; 3] = [b'#', b'x', b'x'];
+const BAD: &str = "#xx";
 
-const UNLINKED: [u8; 3] = [b'!', b'x', b'x'];
+const UNLINKED: &str = "!xx";
 
-const LONG: [u8; 3] = [b'2', b'x', b'x'];
+const LONG: &str = "2xx";
 
 // The worked table's first line: two clients add `a`, with sources of their own.
-const TWO_CLIENTS: [Line; 7] = [
+const TWO_CLIENTS: [Line; 6] = [
     Add(1, b'a', ONE),
     Add(2, b'a', TWO),
     Take(1, 1, 0),
-    Take(2, 2, 0),
-    Done(2, TWO, 0),
+    Make(2, 2, TWO),
     Begin(2),
     Done(1, ONE, 0),
 ];
 
 // Its other lines, with the four device events before the reply.
-const ONE_OF_TWO: [(Line, u32); 8] = [
+const ONE_OF_TWO: [(Line, u32); 5] = [
     (Begin(1), 29),
-    (WriteBody, 0),
-    (SyncBody, 0),
-    (WriteGate, 0),
-    (SyncGate, 0),
+    (Write, 0),
     (Ack(2), 1),
     (Begin(1), 31),
     (Add(1, b'a', ONE), 0),
@@ -56,7 +53,7 @@ fn two_clients_add_one_name(rt: HostRuntime) -> Result<(), Fail> {
 
 // Begin's numbers: the source's, the piece's, the build's for the pieces, and then the map's. Then a unit comes, a new one in its
 // place, and then none.
-const CHANGED: [(Line, u32); 42] = [
+const CHANGED: [(Line, u32); 25] = [
     (Add(7, b'a', BAD), 0),
     (Begin(7), 11),
     (Add(7, b'a', ONE), 0),
@@ -64,41 +61,24 @@ const CHANGED: [(Line, u32); 42] = [
     (Refuse(3, 24), 0),
     (Begin(7), 24),
     (Add(7, b'a', UNLINKED), 0),
-    (Take(3, 7, 0), 0),
-    (Done(3, UNLINKED, 0), 0),
+    (Make(3, 7, UNLINKED), 0),
     (Begin(7), 25),
     (Withdraw(7, b'a'), 0),
     (Begin(7), 32),
     (Replace(7, b'a', ONE), 0),
-    (Take(3, 7, 0), 0),
-    (Done(3, ONE, 0), 0),
+    (Make(3, 7, ONE), 0),
     (Begin(7), 32),
     (Withdraw(7, b'a'), 0),
     (Add(1, b'a', ONE), 0),
-    (Take(3, 1, 0), 0),
-    (Done(3, ONE, 0), 0),
+    (Make(3, 1, ONE), 0),
     (Begin(1), 0),
     (Ack(1), 29),
-    (WriteBody, 0),
-    (SyncBody, 0),
-    (WriteGate, 0),
-    (SyncGate, 0),
+    (Write, 0),
     (Ack(1), 1),
     (Replace(1, b'a', TWO), 0),
-    (Take(3, 1, 0), 0),
-    (Done(3, TWO, 0), 0),
-    (Begin(1), 0),
-    (WriteBody, 0),
-    (SyncBody, 0),
-    (WriteGate, 0),
-    (SyncGate, 0),
-    (Ack(1), 1),
-    (Begin(7), 0),
-    (WriteBody, 0),
-    (SyncBody, 0),
-    (WriteGate, 0),
-    (SyncGate, 0),
-    (Ack(7), 1),
+    (Make(3, 1, TWO), 0),
+    (Commit(1), 1),
+    (Commit(7), 1),
 ];
 
 #[test]
@@ -137,7 +117,7 @@ fn not_now(rt: HostRuntime) -> Result<(), Fail> {
 }
 
 // Two pieces come out of order, and one of them is refused; then both are, and the number of the least comes; then both are made.
-const TWO_PIECES: [(Line, u32); 25] = [
+const TWO_PIECES: [(Line, u32); 20] = [
     (Add(1, b'a', LONG), 0),
     (Take(1, 1, 1), 0),
     (Take(2, 1, 0), 0),
@@ -157,12 +137,7 @@ const TWO_PIECES: [(Line, u32); 25] = [
     (Take(2, 1, 0), 0),
     (Done(1, LONG, 1), 0),
     (Done(2, LONG, 0), 0),
-    (Begin(1), 0),
-    (WriteBody, 0),
-    (SyncBody, 0),
-    (WriteGate, 0),
-    (SyncGate, 0),
-    (Ack(1), 1),
+    (Commit(1), 1),
 ];
 
 #[test]
@@ -173,28 +148,15 @@ fn two_pieces(rt: HostRuntime) -> Result<(), Fail> {
 
 // The record of a name of one byte and a source of three takes 28 bytes: gate, length, 4 bytes up to the name, 7 of the source,
 // 8 of the one code word, 4 of no globals. An area of 64 bytes has room for two and their closed gate, and not for three.
-const FULL: [(Line, u32); 22] = [
+const FULL: [(Line, u32); 9] = [
     (Add(1, b'a', ONE), 0),
-    (Take(3, 1, 0), 0),
-    (Done(3, ONE, 0), 0),
-    (Begin(1), 0),
-    (WriteBody, 0),
-    (SyncBody, 0),
-    (WriteGate, 0),
-    (SyncGate, 0),
-    (Ack(1), 1),
+    (Make(3, 1, ONE), 0),
+    (Commit(1), 1),
     (Add(2, b'b', TWO), 0),
-    (Take(3, 2, 0), 0),
-    (Done(3, TWO, 0), 0),
-    (Begin(2), 0),
-    (WriteBody, 0),
-    (SyncBody, 0),
-    (WriteGate, 0),
-    (SyncGate, 0),
-    (Ack(2), 1),
+    (Make(3, 2, TWO), 0),
+    (Commit(2), 1),
     (Add(7, b'c', ONE), 0),
-    (Take(3, 7, 0), 0),
-    (Done(3, ONE, 0), 0),
+    (Make(3, 7, ONE), 0),
     (Begin(7), 34),
 ];
 
@@ -206,28 +168,18 @@ fn full_area(rt: HostRuntime) -> Result<(), Fail> {
 
 // With a certificate a record takes its length, 4 bytes, and its bytes more: an area of 64 bytes has room for 31, and not for 32.
 // What has room is kept, by a rewrite and by a crash.
-const ROOM: [u8; 3] = [b'c', 31, b'x'];
+const ROOM: &str = "c\x1fx";
 
-const NO_ROOM: [u8; 3] = [b'c', 32, b'x'];
+const NO_ROOM: &str = "c\x20x";
 
-const CERTIFIED: [(Line, u32); 19] = [
+const CERTIFIED: [(Line, u32); 9] = [
     (Add(7, b'a', NO_ROOM), 0),
-    (Take(3, 7, 0), 0),
-    (Done(3, NO_ROOM, 0), 0),
+    (Make(3, 7, NO_ROOM), 0),
     (Begin(7), 34),
     (Add(1, b'a', ROOM), 0),
-    (Take(3, 1, 0), 0),
-    (Done(3, ROOM, 0), 0),
-    (Begin(1), 0),
-    (WriteBody, 0),
-    (SyncBody, 0),
-    (WriteGate, 0),
-    (SyncGate, 0),
-    (Ack(1), 1),
-    (RewriteAll, 0),
-    (SyncAll, 0),
-    (WriteArea, 0),
-    (SyncArea, 0),
+    (Make(3, 1, ROOM), 0),
+    (Commit(1), 1),
+    (Rewrite, 0),
     (Crash(0), 0),
     (Recover, 0),
 ];
@@ -243,8 +195,8 @@ fn a_certificate_that_has_no_room(rt: HostRuntime) -> Result<(), Fail> {
 fn lists_and_numbers(rt: HostRuntime) -> Result<(), Fail> {
     assert!(rt; CoreFault::OutOfMemory.number() == 40 && BuildRefusal::OutOfMemory.number() == 40);
     assert!(rt; BuildRefusal::Refused(22).number() == 22);
-    let list = Sequence::new(Vec::from_slice(rt.alloc(), &TWO)?);
+    let list = Sequence::new(Vec::from_slice(rt.alloc(), TWO.as_bytes())?);
     assert!(rt; list.get(1).copied() == Some(b'w') && list.get(3).is_none());
-    assert!(rt; list.into_vec().as_slice() == TWO.as_slice());
+    assert!(rt; list.into_vec().as_slice() == TWO.as_bytes());
     Ok(())
 }

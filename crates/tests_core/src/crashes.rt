@@ -1,10 +1,12 @@
 // Crashes at each event of a commit, and what is recovered.
 
 use crate::builds::FewPieces;
+use crate::played::{ONE, TWO, begins, goes_on};
+use crate::script::Line;
 use crate::script::Line::{
-    Ack, Add, Begin, Crash, Done, Fails, Recover, SyncBody, SyncGate, Take, WriteBody, WriteGate,
+    Ack, Add, Begin, Commit, Crash, Done, Fails, Make, Recover, SyncBody, SyncGate, Take,
+    WriteBody, WriteGate,
 };
-use crate::script::{Line, ONE, TWO, begins, goes_on};
 use cc_core::laws::{crash_law, survival_law, turn_law};
 use std::alloc::Global;
 use std::test::Fail;
@@ -73,7 +75,7 @@ fn a_crash_at_each_event(rt: HostRuntime) -> Result<(), Fail> {
 // From a crash until the recovery nothing else is possible; a failed step answers 35 and every later commit 36, until a
 // recovery; then commits are possible again, and two records are recovered after two crashes in a row. The first crash leaves
 // the first record's gate open.
-const FAILED: [(Line, u32); 32] = [
+const FAILED: [(Line, u32); 24] = [
     (Crash(0xa5), 0),
     (Add(4, b'b', TWO), 29),
     (Take(3, 7, 0), 29),
@@ -82,27 +84,19 @@ const FAILED: [(Line, u32); 32] = [
     (Recover, 0),
     (Recover, 29),
     (Add(2, b'b', TWO), 0),
-    (Take(3, 2, 0), 0),
-    (Done(3, TWO, 0), 0),
+    (Make(3, 2, TWO), 0),
     (Begin(2), 0),
     (Fails, 35),
     (WriteBody, 29),
     (Add(2, b'b', ONE), 0),
-    (Take(3, 2, 0), 0),
-    (Done(3, ONE, 0), 0),
+    (Make(3, 2, ONE), 0),
     (Begin(2), 36),
     (Crash(0xff), 0),
     (Crash(0x00), 0),
     (Recover, 0),
     (Add(2, b'b', ONE), 0),
-    (Take(3, 2, 0), 0),
-    (Done(3, ONE, 0), 0),
-    (Begin(2), 0),
-    (WriteBody, 0),
-    (SyncBody, 0),
-    (WriteGate, 0),
-    (SyncGate, 0),
-    (Ack(2), 1),
+    (Make(3, 2, ONE), 0),
+    (Commit(2), 1),
     (Crash(0xa5), 0),
     (Crash(0x00), 0),
     (Recover, 0),

@@ -9,10 +9,11 @@ ghost use Rattle.tests_core.specs.Builds.{is_right};
 
 use crate::builds::{FewPieces, Nothing};
 use crate::piece::compiled;
+use crate::played::{Held, ONE, TWO, leaves};
 use crate::script::Line::{
-    Ack, Add, Begin, Crash, Done, Recover, SyncBody, SyncGate, Take, Withdraw, WriteBody, WriteGate,
+    Add, Begin, Commit, Crash, Make, Recover, SyncBody, Withdraw, WriteBody, WriteGate,
 };
-use crate::script::{Held, Line, ONE, TWO, event, leaves, name_of, number_of};
+use crate::script::{Line, answers, name_of};
 use cc_core::laws::units_law;
 use cc_core::state::State;
 use cc_disk::{Disk, MemoryDisk};
@@ -27,7 +28,7 @@ fn with_unit(
     alloc: Global,
     mut library: Library<MemoryDisk>,
     letter: u8,
-    source: [u8; 3],
+    source: &str,
 ) -> Result<Library<MemoryDisk>, Fail>
     requires { EachUnit is_right library.units }
     ensures right { IfOk result (λ l. EachUnit is_right l.units) }
@@ -35,7 +36,7 @@ fn with_unit(
 {
     units_law::<FewPieces>();
     let name = name_of(letter)?;
-    let piece = compiled(alloc, &source, 0)?;
+    let piece = compiled(alloc, source.as_bytes(), 0)?;
     let unit = Arc::try_clone(piece.unit())?;
     match library.add(alloc, name, unit) {
         Ok(()) => Ok(library),
@@ -67,34 +68,20 @@ fn opened(alloc: Global) -> Result<State<FewPieces>, Fail> {
     }
 }
 
-// The disk's names are there, and both of its records count as acknowledged; a third unit is committed, and a crash comes after it.
-const ACKNOWLEDGED: [(Line, u32); 15] = [
+// The disk's names are there, and both of its records count as acknowledged; a third unit is made.
+const MADE: [(Line, u32); 5] = [
     (Add(1, b'a', TWO), 0),
-    (Take(1, 1, 0), 0),
-    (Done(1, TWO, 0), 0),
+    (Make(1, 1, TWO), 0),
     (Begin(1), 31),
     (Add(1, b'c', ONE), 0),
-    (Take(1, 1, 0), 0),
-    (Done(1, ONE, 0), 0),
-    (Begin(1), 0),
-    (WriteBody, 0),
-    (SyncBody, 0),
-    (WriteGate, 0),
-    (SyncGate, 0),
-    (Ack(1), 1),
-    (Crash(0x00), 0),
-    (Recover, 0),
+    (Make(1, 1, ONE), 0),
 ];
 
+// It is committed, and a crash comes after it.
+const ACKNOWLEDGED: [(Line, u32); 3] = [(Commit(1), 1), (Crash(0x00), 0), (Recover, 0)];
+
 // A crash within the write of the gate leaves it open, and then it is settled.
-const TORN: [(Line, u32); 16] = [
-    (Add(1, b'a', TWO), 0),
-    (Take(1, 1, 0), 0),
-    (Done(1, TWO, 0), 0),
-    (Begin(1), 31),
-    (Add(1, b'c', ONE), 0),
-    (Take(1, 1, 0), 0),
-    (Done(1, ONE, 0), 0),
+const TORN: [(Line, u32); 9] = [
     (Begin(1), 0),
     (WriteBody, 0),
     (SyncBody, 0),
@@ -107,14 +94,7 @@ const TORN: [(Line, u32); 16] = [
 ];
 
 // A crash leaves it closed.
-const LOST: [(Line, u32); 13] = [
-    (Add(1, b'a', TWO), 0),
-    (Take(1, 1, 0), 0),
-    (Done(1, TWO, 0), 0),
-    (Begin(1), 31),
-    (Add(1, b'c', ONE), 0),
-    (Take(1, 1, 0), 0),
-    (Done(1, ONE, 0), 0),
+const LOST: [(Line, u32); 6] = [
     (Begin(1), 0),
     (WriteBody, 0),
     (SyncBody, 0),
@@ -123,16 +103,18 @@ const LOST: [(Line, u32); 13] = [
     (Recover, 0),
 ];
 
-// Whether these events from that state on answer so, and leave these.
-fn goes_on(alloc: Global, lines: &[(Line, u32)], wanted: &Held) -> Result<bool, Fail> {
-    leaves(alloc, opened(alloc)?, lines, wanted)
+// Whether the unit is made on that state, these events answer so behind that, and leave these.
+fn goes_on(alloc: Global, last: &[(Line, u32)], wanted: &Held) -> Result<bool, Fail> {
+    let mut lines = Vec::from_slice(alloc, MADE.as_slice())?;
+    lines.extend_from_slice(last)?;
+    leaves(alloc, opened(alloc)?, &lines, wanted)
 }
 
 #[test]
 fn a_third_unit(rt: HostRuntime) -> Result<(), Fail> {
     let alloc = rt.alloc();
     let two: Held = (Some(ONE), Some(TWO), None, 2);
-    assert!(rt; goes_on(alloc, &[], &two)?);
+    assert!(rt; leaves(alloc, opened(alloc)?, &[], &two)?);
     assert!(rt; goes_on(alloc, &ACKNOWLEDGED, &(Some(ONE), Some(TWO), Some(ONE), 3))?);
     assert!(rt; goes_on(alloc, &TORN, &(Some(ONE), Some(TWO), Some(ONE), 2))?);
     assert!(rt; goes_on(alloc, &LOST, &two)?);
@@ -160,14 +142,9 @@ fn raw(alloc: Global, header: &[u8; 16], record: &[u8; 41]) -> Result<MemoryDisk
 }
 
 // The unit in the second area is withdrawn.
-const WITHDRAWN: [(Line, u32); 11] = [
+const WITHDRAWN: [(Line, u32); 6] = [
     (Withdraw(1, b'a'), 0),
-    (Begin(1), 0),
-    (WriteBody, 0),
-    (SyncBody, 0),
-    (WriteGate, 0),
-    (SyncGate, 0),
-    (Ack(1), 1),
+    (Commit(1), 1),
     (Crash(0xa5), 0),
     (Recover, 0),
     (Withdraw(1, b'a'), 0),
@@ -180,13 +157,8 @@ fn withdraws(alloc: Global, state: &mut State<Nothing>) -> Result<bool, Fail> {
     if state.library().get(&name).is_none() || state.acked().len() != 1 {
         return Ok(false);
     }
-    for (line, number) in &WITHDRAWN {
-        let event = event(alloc, *line)?;
-        if number_of(state.step(alloc, event)) != *number {
-            return Ok(false);
-        }
-    }
-    Ok(state.library().get(&name).is_none() && state.acked().len() == 2)
+    let right = answers(alloc, state, &WITHDRAWN)?;
+    Ok(right && state.library().get(&name).is_none() && state.acked().len() == 2)
 }
 
 // Whether all that is so of a disk with these bytes.

@@ -1,6 +1,6 @@
 // The pieces of the test builds: which part of which source each is, and the unit that it has.
 
-ghost use Rattle.std.specs.Prelude.{◌≡◌, ◌↔◌, ◌∷◌, [], ◌≤◌, ◌<◌, length, IfOk, IsTrue};
+ghost use Rattle.std.specs.Prelude.{◌≡◌, ◌↔◌, IfOk, IsTrue};
 ghost use Rattle.std.specs.Arc.{arc_value};
 ghost use Rattle.tests_core.specs.Builds.{keeps};
 
@@ -10,6 +10,7 @@ use cc_unit::{Certificate, Source, StoredUnit};
 use std::alloc::{AllocError, Global};
 use std::marker::Model;
 use std::sync::Arc;
+use std::test::Fail;
 
 /// A compiled part of a source: its unit, whose image has one code word, the length of the source, and which part it is.
 #[derive(Drop)]
@@ -63,10 +64,12 @@ fn certificate(alloc: Global, count: Option<usize>) -> Result<Option<Certificate
 }
 
 /// That part of a source of at most 65,536 bytes.
-pub fn compiled(alloc: Global, source: &[u8], part: u32) -> Result<Piece, AllocError>
-    requires { length source.now ≤ 65536 }
+pub fn compiled(alloc: Global, source: &[u8], part: u32) -> Result<Piece, Fail>
     ensures { IfOk result (λ piece. (piece.0.source ≡ source.now) × (piece.1 ≡ part)) }
 {
+    if source.len() > 65_536 {
+        return Err(Fail::from("a long source"));
+    }
     let code = Code::new(vec![in alloc; source.len() as u32; 1]?).unwrap();
     let globals = Globals::new(Vec::new(alloc)).unwrap();
     let kept = Source::new(Vec::from_slice(alloc, source)?).unwrap();

@@ -1,42 +1,30 @@
 // Rewrites: what their events answer, that they make room, and what a crash or a failure at each of them leaves.
 
+use crate::played::{ONE, TWO, begins, goes_on};
+use crate::script::Line;
 use crate::script::Line::{
-    Ack, Add, Begin, Crash, Done, Fails, Recover, Replace, RewriteAll, SyncAll, SyncArea, SyncBody,
-    SyncGate, Take, Withdraw, WriteArea, WriteBody, WriteGate,
+    Ack, Add, Begin, Commit, Crash, Done, Fails, Make, Recover, Replace, Rewrite, RewriteAll,
+    SyncAll, SyncArea, Take, Withdraw, Write, WriteArea, WriteBody,
 };
-use crate::script::{Line, ONE, TWO, begins, goes_on};
 use std::alloc::Global;
 use std::test::Fail;
 
 // Two records of one name.
-const TWICE: [Line; 18] = [
+const TWICE: [Line; 6] = [
     Add(1, b'a', ONE),
-    Take(3, 1, 0),
-    Done(3, ONE, 0),
-    Begin(1),
-    WriteBody,
-    SyncBody,
-    WriteGate,
-    SyncGate,
-    Ack(1),
+    Make(3, 1, ONE),
+    Commit(1),
     Replace(1, b'a', TWO),
-    Take(3, 1, 0),
-    Done(3, TWO, 0),
-    Begin(1),
-    WriteBody,
-    SyncBody,
-    WriteGate,
-    SyncGate,
-    Ack(1),
+    Make(3, 1, TWO),
+    Commit(1),
 ];
 
 // They fill an area of 64 bytes, so another name has no room; a rewrite leaves one of them, and then it has. In a rewrite jobs come
 // and workers answer, but nothing begins; each of its steps is possible in its turn alone. After it the other area is in use, and
 // after two more in a row that one again.
-const MAKES_ROOM: [(Line, u32); 46] = [
+const MAKES_ROOM: [(Line, u32); 36] = [
     (Add(7, b'b', ONE), 0),
-    (Take(3, 7, 0), 0),
-    (Done(3, ONE, 0), 0),
+    (Make(3, 7, ONE), 0),
     (Begin(7), 34),
     (SyncAll, 29),
     (WriteArea, 29),
@@ -61,19 +49,10 @@ const MAKES_ROOM: [(Line, u32); 46] = [
     (SyncArea, 29),
     (Begin(7), 0),
     (RewriteAll, 29),
-    (WriteBody, 0),
-    (SyncBody, 0),
-    (WriteGate, 0),
-    (SyncGate, 0),
+    (Write, 0),
     (Ack(7), 1),
-    (RewriteAll, 0),
-    (SyncAll, 0),
-    (WriteArea, 0),
-    (SyncArea, 0),
-    (RewriteAll, 0),
-    (SyncAll, 0),
-    (WriteArea, 0),
-    (SyncArea, 0),
+    (Rewrite, 0),
+    (Rewrite, 0),
     (Crash(0xa5), 0),
     (RewriteAll, 29),
     (Recover, 0),
@@ -85,7 +64,7 @@ const MAKES_ROOM: [(Line, u32); 46] = [
 // What the events of those two records answer.
 fn expected(line: Line) -> u32 {
     match line {
-        Ack(_) => 1,
+        Commit(_) => 1,
         _ => 0,
     }
 }
@@ -109,7 +88,7 @@ fn a_rewrite_makes_room(rt: HostRuntime) -> Result<(), Fail> {
 
 // A failure in a rewrite answers nothing, and closes the journal: no rewrite and no commit begins until the disk is opened
 // again. Then the name can be withdrawn, and a rewrite of an empty library leaves no record.
-const CLOSED: [(Line, u32); 26] = [
+const CLOSED: [(Line, u32); 18] = [
     (RewriteAll, 0),
     (SyncAll, 0),
     (Fails, 0),
@@ -126,16 +105,8 @@ const CLOSED: [(Line, u32); 26] = [
     (Crash(0x00), 0),
     (Recover, 0),
     (Withdraw(2, b'a'), 0),
-    (Begin(2), 0),
-    (WriteBody, 0),
-    (SyncBody, 0),
-    (WriteGate, 0),
-    (SyncGate, 0),
-    (Ack(2), 1),
-    (RewriteAll, 0),
-    (SyncAll, 0),
-    (WriteArea, 0),
-    (SyncArea, 0),
+    (Commit(2), 1),
+    (Rewrite, 0),
 ];
 
 #[test]
@@ -148,16 +119,10 @@ fn a_failure_closes(rt: HostRuntime) -> Result<(), Fail> {
 const STEPS: [Line; 4] = [RewriteAll, SyncAll, WriteArea, SyncArea];
 
 // One commit more, in whichever area is in use then, and a crash.
-const ANOTHER: [Line; 11] = [
+const ANOTHER: [Line; 5] = [
     Add(7, b'b', ONE),
-    Take(3, 7, 0),
-    Done(3, ONE, 0),
-    Begin(7),
-    WriteBody,
-    SyncBody,
-    WriteGate,
-    SyncGate,
-    Ack(7),
+    Make(3, 7, ONE),
+    Commit(7),
     Crash(0xa5),
     Recover,
 ];

@@ -1,28 +1,24 @@
-// Scripts: events by plain numbers, what they answer, and what they leave.
+// Scripts: events by plain numbers, played on a state over any build, and what they answer.
 
-ghost use Rattle.std.specs.Prelude.{◌≤◌, ◌^◌};
-
-use crate::builds::FewPieces;
-use crate::piece::{Piece, certified, compiled};
+use cc_core::build::Build;
 use cc_core::command::{Reply, Request};
 use cc_core::event::Event;
 use cc_core::fault::CoreFault;
 use cc_core::ids::{CallId, ClientId, PartIndex, WorkerId};
 use cc_core::sequence::Sequence;
-use cc_core::state::{State, run_events};
-use cc_library::{Name, UnitMap};
-use cc_unit::StoredUnit;
+use cc_core::state::State;
+use cc_library::Name;
 use std::alloc::{AllocError, Global};
 use std::test::Fail;
 
-/// What happens, by plain numbers: clients, workers and pieces by theirs, a name by its one letter, a source by its three bytes.
+/// What happens, by plain numbers: clients, workers and pieces by theirs, a name by its one letter, a source by its text.
 #[derive(Clone, Copy)]
 pub enum Line {
-    Add(u64, u8, [u8; 3]),
-    Replace(u64, u8, [u8; 3]),
+    Add(u64, u8, &'static str),
+    Replace(u64, u8, &'static str),
     Withdraw(u64, u8),
     Take(u64, u64, u32),
-    Done(u64, [u8; 3], u32),
+    Done(u64, &'static str, u32),
     Refuse(u64, u32),
     Begin(u64),
     WriteBody,
@@ -35,73 +31,113 @@ pub enum Line {
     SyncArea,
     Fails,
     Ack(u64),
-    /// A crash with this byte at the offsets 0 to 399, and 0 after them.
+    /// A crash with this byte at the offsets 0 to 3,999, and 0 after them.
     Crash(u8),
     Recover,
+    /// A worker takes the only piece of a client's source, and makes it.
+    Make(u64, u64, &'static str),
+    /// The four device events of a commit.
+    Write,
+    /// A client's commit begins, is written, and is acknowledged.
+    Commit(u64),
+    /// The four events of a rewrite.
+    Rewrite,
 }
 
-pub const ONE: [u8; 3] = [b'o', b'n', b'e'];
+use Line::{
+    Ack, Add, Begin, Commit, Crash, Done, Fails, Make, Recover, Refuse, Replace, Rewrite,
+    RewriteAll, SyncAll, SyncArea, SyncBody, SyncGate, Take, Withdraw, Write, WriteArea, WriteBody,
+    WriteGate,
+};
 
-pub const TWO: [u8; 3] = [b't', b'w', b'o'];
+/// A build of whose sources a script makes pieces.
+pub trait Scripted: Build {
+    /// That part of a source.
+    fn piece(alloc: Global, source: &str, part: u32) -> Result<Self::Piece, Fail>;
+}
 
 /// The name of one letter.
 pub fn name_of(letter: u8) -> Result<Name, Fail> {
     Ok(Name::new(&[letter])?)
 }
 
-fn text(alloc: Global, source: [u8; 3]) -> Result<Sequence<u8>, AllocError> {
-    Ok(Sequence::new(Vec::from_slice(alloc, &source)?))
+fn text(alloc: Global, source: &str) -> Result<Sequence<u8>, AllocError> {
+    Ok(Sequence::new(Vec::from_slice(alloc, source.as_bytes())?))
 }
 
 // The name of one letter, and a source.
-fn named_text(alloc: Global, name: u8, source: [u8; 3]) -> Result<(Name, Sequence<u8>), Fail> {
+fn named_text(alloc: Global, name: u8, source: &str) -> Result<(Name, Sequence<u8>), Fail> {
     let text = text(alloc, source)?;
     Ok((name_of(name)?, text))
 }
 
-fn submit(client: u64, request: Request) -> Event<Piece> {
-    Event::Submit(ClientId { number: client }, CallId { number: 1 }, request)
+fn client(number: u64) -> ClientId {
+    ClientId { number }
+}
+
+fn submit<P: Drop>(of: u64, request: Request) -> Event<P> {
+    Event::Submit(client(of), CallId { number: 1 }, request)
 }
 
 fn worker(number: u64) -> WorkerId {
     WorkerId { number }
 }
 
-/// The event of a line.
-pub fn event(alloc: Global, line: Line) -> Result<Event<Piece>, Fail> {
+// The lines of the events, one each, that a line stands for.
+fn lines_of(alloc: Global, line: Line) -> Result<Vec<Line>, AllocError> {
     match line {
-        Line::Add(client, name, source) => {
-            let (name, text) = named_text(alloc, name, source)?;
-            Ok(submit(client, Request::Add(name, text)))
-        }
-        Line::Replace(client, name, source) => {
-            let (name, text) = named_text(alloc, name, source)?;
-            Ok(submit(client, Request::Replace(name, text)))
-        }
-        Line::Withdraw(client, name) => Ok(submit(client, Request::Withdraw(name_of(name)?))),
-        Line::Take(number, client, index) => Ok(Event::Take(
-            worker(number),
-            ClientId { number: client },
-            PartIndex { index },
-        )),
-        Line::Done(number, source, part) => {
-            Ok(Event::Done(worker(number), compiled(alloc, &source, part)?))
-        }
-        Line::Refuse(number, refusal) => Ok(Event::Refuse(worker(number), refusal)),
-        Line::Begin(number) => Ok(Event::Begin(ClientId { number })),
-        Line::WriteBody => Ok(Event::WriteBody),
-        Line::SyncBody => Ok(Event::SyncBody),
-        Line::WriteGate => Ok(Event::WriteGate),
-        Line::SyncGate => Ok(Event::SyncGate),
-        Line::RewriteAll => Ok(Event::RewriteAll),
-        Line::SyncAll => Ok(Event::SyncAll),
-        Line::WriteArea => Ok(Event::WriteArea),
-        Line::SyncArea => Ok(Event::SyncArea),
-        Line::Fails => Ok(Event::Fail),
-        Line::Ack(number) => Ok(Event::Ack(ClientId { number })),
-        Line::Crash(byte) => Ok(Event::Crash(Sequence::new(vec![in alloc; byte; 400]?))),
-        Line::Recover => Ok(Event::Recover),
+        Make(by, of, source) => Vec::from_slice(alloc, &[Take(by, of, 0), Done(by, source, 0)]),
+        Write => Vec::from_slice(alloc, &[WriteBody, SyncBody, WriteGate, SyncGate]),
+        Commit(of) => Vec::from_slice(
+            alloc,
+            &[Begin(of), WriteBody, SyncBody, WriteGate, SyncGate, Ack(of)],
+        ),
+        Rewrite => Vec::from_slice(alloc, &[RewriteAll, SyncAll, WriteArea, SyncArea]),
+        _ => Vec::from_slice(alloc, &[line]),
     }
+}
+
+// The event of a line that stands for one.
+fn event<B: Scripted>(alloc: Global, line: Line) -> Result<Event<B::Piece>, Fail> {
+    match line {
+        Add(of, name, source) => {
+            let (name, text) = named_text(alloc, name, source)?;
+            Ok(submit(of, Request::Add(name, text)))
+        }
+        Replace(of, name, source) => {
+            let (name, text) = named_text(alloc, name, source)?;
+            Ok(submit(of, Request::Replace(name, text)))
+        }
+        Withdraw(of, name) => Ok(submit(of, Request::Withdraw(name_of(name)?))),
+        Take(by, of, index) => Ok(Event::Take(worker(by), client(of), PartIndex { index })),
+        Done(by, source, part) => Ok(Event::Done(worker(by), B::piece(alloc, source, part)?)),
+        Refuse(by, refusal) => Ok(Event::Refuse(worker(by), refusal)),
+        Begin(of) => Ok(Event::Begin(client(of))),
+        WriteBody => Ok(Event::WriteBody),
+        SyncBody => Ok(Event::SyncBody),
+        WriteGate => Ok(Event::WriteGate),
+        SyncGate => Ok(Event::SyncGate),
+        RewriteAll => Ok(Event::RewriteAll),
+        SyncAll => Ok(Event::SyncAll),
+        WriteArea => Ok(Event::WriteArea),
+        SyncArea => Ok(Event::SyncArea),
+        Fails => Ok(Event::Fail),
+        Ack(of) => Ok(Event::Ack(client(of))),
+        Crash(byte) => Ok(Event::Crash(Sequence::new(vec![in alloc; byte; 4000]?))),
+        Recover => Ok(Event::Recover),
+        Make(..) | Write | Commit(_) | Rewrite => Err(Fail::from("several events")),
+    }
+}
+
+/// The events of these lines.
+pub fn events<B: Scripted>(alloc: Global, lines: &[Line]) -> Result<Vec<Event<B::Piece>>, Fail> {
+    let mut events = Vec::new(alloc);
+    for line in lines {
+        for single in lines_of(alloc, *line)?.iter() {
+            events.push(event::<B>(alloc, *single)?)?;
+        }
+    }
+    Ok(events)
 }
 
 // The number of an answer: 0 for no reply, 1 for done, else the refusal's or the fault's number.
@@ -114,114 +150,50 @@ fn number_in(answer: &Result<Option<Reply>, CoreFault>) -> u32 {
     }
 }
 
-/// What an event answers, as a number: 0 for no reply, 1 for done, else the refusal's or the fault's number.
-pub fn number_of(answer: Result<Option<Reply>, CoreFault>) -> u32 {
-    let number = number_in(&answer);
-    drop(answer);
-    number
-}
-
-/// What a state is to have: the sources of `a`, `b` and `c`, and how many commands were acknowledged.
-pub type Held = (Option<[u8; 3]>, Option<[u8; 3]>, Option<[u8; 3]>, usize);
-
-// Whether the unit is the one of this source.
-fn is_of(unit: &StoredUnit, source: &[u8]) -> bool {
-    let certificate = match (&unit.certificate, certified(source)) {
-        (None, None) => true,
-        (Some(certificate), Some(count)) => certificate.bytes().len() == count,
-        _ => false,
-    };
-    certificate && unit.source.bytes() == source
-}
-
-// Whether the name has the unit of this source, or none.
-fn has(library: &UnitMap, letter: u8, wanted: Option<[u8; 3]>) -> Result<bool, Fail> {
-    let name = name_of(letter)?;
-    Ok(match (library.get(&name), wanted) {
-        (None, None) => true,
-        (Some(unit), Some(source)) => is_of(unit, &source),
-        _ => false,
-    })
-}
-
-// Whether the state has these.
-fn holds(state: &State<FewPieces>, wanted: &Held) -> Result<bool, Fail> {
-    let (a, b, c, acknowledged) = *wanted;
-    let library = state.library();
-    Ok(
-        has(library, b'a', a)?
-            && has(library, b'b', b)?
-            && has(library, b'c', c)?
-            && state.acked().len() == acknowledged,
-    )
-}
-
-// Whether these events, one after the other, answer so, and the state has these then.
-fn answers(
+// Whether a line that stands for one event answers so.
+fn answers_one<B: Scripted>(
     alloc: Global,
-    state: &mut State<FewPieces>,
-    lines: &[(Line, u32)],
-    wanted: &Held,
+    state: &mut State<B>,
+    line: Line,
+    number: u32,
 ) -> Result<bool, Fail> {
-    for (line, number) in lines {
-        let event = event(alloc, *line)?;
-        if number_of(state.step(alloc, event)) != *number {
+    let event = event::<B>(alloc, line)?;
+    let answer = state.step(alloc, event);
+    let right = number_in(&answer) == number;
+    drop(answer);
+    Ok(right)
+}
+
+// Whether the last event of a line answers so, and each before it nothing.
+fn answers_line<B: Scripted>(
+    alloc: Global,
+    state: &mut State<B>,
+    line: Line,
+    number: u32,
+) -> Result<bool, Fail> {
+    let lines = lines_of(alloc, line)?;
+    let mut left = lines.len();
+    for single in lines.iter() {
+        left = left.saturating_sub(1);
+        let wanted = if left == 0 { number } else { 0 };
+        if !answers_one(alloc, state, *single, wanted)? {
             return Ok(false);
         }
     }
-    holds(state, wanted)
+    Ok(true)
 }
 
-/// Whether these events from that state on, one after the other, answer so, and leave these.
-pub fn leaves(
+/// Whether these events, one after the other, answer so: 0 for no reply, 1 for done, else the refusal's or the fault's number. Of a
+/// line that stands for several events the last one answers that, and each before it nothing.
+pub fn answers<B: Scripted>(
     alloc: Global,
-    mut state: State<FewPieces>,
+    state: &mut State<B>,
     lines: &[(Line, u32)],
-    wanted: &Held,
 ) -> Result<bool, Fail> {
-    let answer = answers(alloc, &mut state, lines, wanted);
-    drop(state);
-    answer
-}
-
-/// Whether these events from a new state on, with areas of that many bytes, answer so, and leave these.
-pub fn begins(alloc: Global, area: u32, lines: &[(Line, u32)], wanted: &Held) -> Result<bool, Fail>
-    requires least { 64 ≤ area }
-    requires most { area ≤ 2 ^ 30 }
-{
-    leaves(alloc, fresh(alloc, area)?, lines, wanted)
-}
-
-/// Whether the events of the first lines, whatever they answer, leave a state from which the others answer so, and leave these.
-pub fn goes_on(
-    alloc: Global,
-    first: &[Line],
-    lines: &[(Line, u32)],
-    wanted: &Held,
-) -> Result<bool, Fail> {
-    leaves(alloc, run(alloc, first)?, lines, wanted)
-}
-
-// The events of these lines.
-fn events(alloc: Global, lines: &[Line]) -> Result<Vec<Event<Piece>>, Fail> {
-    let mut events = Vec::new(alloc);
-    for line in lines {
-        events.push(event(alloc, *line)?)?;
+    for (line, number) in lines {
+        if !answers_line(alloc, state, *line, *number)? {
+            return Ok(false);
+        }
     }
-    Ok(events)
-}
-
-// The state after a run of these events from a new one.
-fn run(alloc: Global, lines: &[Line]) -> Result<State<FewPieces>, Fail> {
-    let events = events(alloc, lines)?;
-    let state = fresh(alloc, 200)?;
-    Ok(run_events(alloc, state, events)?)
-}
-
-// A new state on a disk with areas of that many bytes.
-fn fresh(alloc: Global, area: u32) -> Result<State<FewPieces>, Fail>
-    requires least { 64 ≤ area }
-    requires most { area ≤ 2 ^ 30 }
-{
-    Ok(State::new(alloc, FewPieces {}, area)?)
+    Ok(true)
 }

@@ -2,7 +2,6 @@
 
 use super::orders::add_pieces;
 use super::padded::rtl_of;
-use super::rows::LONG;
 use cc_colour::spill_all;
 use cc_emit::{Piece, emit};
 use cc_linear::linearise;
@@ -15,6 +14,7 @@ use cc_validate::{Refused, validate};
 use std::alloc::Global;
 use std::sync::Arc;
 use std::test::Fail;
+use tests_texts::worked::LONG;
 
 /// What an audit says, as a word.
 fn said(answer: Audit) -> &'static str {

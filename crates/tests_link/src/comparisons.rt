@@ -1,11 +1,12 @@
 // Comparisons with a constant: how many instructions they take, as a value and in a branch, and what they give at the edges of what an
 // instruction can hold.
 
-use super::helpers::{Run, runs, text_of};
+use super::helpers::{Run, runs};
 use cc_link::compile;
 use cc_rv32::outcome::MachineOutcome;
 use std::alloc::Global;
 use std::test::Fail;
+use tests_texts::parts::text_of;
 
 /// The mask of the immediate, the function and the opcode of an instruction.
 const IMMEDIATE: u32 = 0xfff0_707f;

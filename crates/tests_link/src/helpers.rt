@@ -3,7 +3,7 @@
 use cc_link::{CompiledUnit, compile};
 use cc_rv32::machine::Machine;
 use cc_rv32::outcome::MachineOutcome;
-use std::alloc::{AllocError, Global};
+use std::alloc::Global;
 use std::test::Fail;
 
 /// What a run comes to: its input, how many instructions it may take, the words that it writes, and its outcome.
@@ -41,24 +41,4 @@ pub fn runs(alloc: Global, text: &[u8], run: Run<'_>) -> Result<bool, Fail> {
     let right = image_runs(alloc, &unit, run);
     drop(unit);
     Ok(right? && kept)
-}
-
-/// A part of a text, and how often it stands there.
-pub type Part<'a> = (&'a str, usize);
-
-/// Puts a part behind a text, this many times.
-pub fn append(text: &mut Vec<u8>, part: &str, times: usize) -> Result<(), AllocError> {
-    for _ in 0..times {
-        text.extend_from_slice(part.as_bytes())?;
-    }
-    Ok(())
-}
-
-/// The text of these parts.
-pub fn text_of(alloc: Global, parts: &[Part<'_>]) -> Result<Vec<u8>, AllocError> {
-    let mut text = Vec::new(alloc);
-    for (part, times) in parts {
-        append(&mut text, part, *times)?;
-    }
-    Ok(text)
 }

@@ -1,12 +1,10 @@
 //! Tests of the compiler from text to run: the worked rows, the pieces of a unit in every order, each refusal, the limits, comparisons with
-//! constants, and eight programs whose words are gcc's. `audits` has those of the audit, `build` those of the protocol core with the build that compiles,
-//! `stages` those of what is shown of each stage, `memory` what a refused growth leaves.
+//! constants, and eight programs whose words are gcc's. `audits` has those of the audit, `stages` those of what is shown of each stage,
+//! `memory` what a refused growth leaves.
 #![tactic(auto)]
 
 #[cfg(test)]
 mod audits;
-#[cfg(test)]
-mod build;
 #[cfg(test)]
 mod comparisons;
 #[cfg(test)]

@@ -1,15 +1,17 @@
 // What is at a limit, and past it.
 
-use super::helpers::{Part, Run, image_runs, runs, text_of};
+use super::helpers::{Run, image_runs, runs};
 use super::numbered::{deep, many};
 use super::padded::{blocks, padded};
-use super::rows::{LONG, WORDS};
+use super::rows::WORDS;
 use cc_link::{CompiledUnit, LinkFault, typed_unit};
 use cc_rv32::outcome::MachineOutcome;
 use cc_types::TypedUnit;
 use std::alloc::Global;
 use std::sync::Arc;
 use std::test::Fail;
+use tests_texts::parts::{Part, text_of};
+use tests_texts::worked::LONG;
 
 // A run without input that writes one word and ends with 0.
 fn writes_one(words: &[i32; 1], steps: u64) -> Run<'_> {

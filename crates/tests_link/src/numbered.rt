@@ -1,7 +1,7 @@
 // Texts with parts that are numbered.
 
-use super::helpers::append;
 use std::alloc::{AllocError, Global};
+use tests_texts::parts::append;
 
 /// Puts a part behind a text, with a number between its halves.
 fn append_number(

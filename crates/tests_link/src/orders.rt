@@ -1,7 +1,7 @@
 // The pieces of a unit, linked in every order and from wrong lists.
 
 use super::helpers::{Run, image_runs};
-use super::rows::{LONG, QUOTIENTS, WORDS};
+use super::rows::{QUOTIENTS, WORDS};
 use cc_emit::Piece;
 use cc_link::{CompiledUnit, LinkFault, compile_function, link, link_lent, typed_unit};
 use cc_rv32::outcome::MachineOutcome;
@@ -9,6 +9,7 @@ use cc_types::TypedUnit;
 use std::alloc::{AllocError, Global};
 use std::sync::Arc;
 use std::test::Fail;
+use tests_texts::worked::LONG;
 
 /// The piece of the function with this number.
 pub fn piece(alloc: Global, unit: &Arc<TypedUnit>, function: usize) -> Result<Piece, Fail> {

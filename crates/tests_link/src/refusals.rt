@@ -1,9 +1,9 @@
 // What `compile` refuses, and where; and that a text comes to one program or one fault.
 
-use super::helpers::{Part, text_of};
 use cc_link::{BuildFault, PieceFault, compile, verdicts_are_determined};
 use std::alloc::Global;
 use std::test::Fail;
+use tests_texts::parts::{Part, text_of};
 
 /// A text, the number of its fault, and its line and column.
 static TEXTS: [(&str, u32, usize, usize); 29] = [

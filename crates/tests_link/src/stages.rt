@@ -5,15 +5,15 @@
 #[cfg(test)]
 mod row;
 
-use super::helpers::{Part, text_of};
-use super::rows::LONG;
 use cc_link::{compile, typed_unit};
 use cc_rv32::listing::list;
 use cc_stages::{StagesFault, stages};
 use row::ROW;
 use std::alloc::{AllocError, Global};
 use std::test::Fail;
+use tests_texts::parts::{Part, text_of};
 use tests_texts::programs::{CRC, FIB, GCD, MATMUL, NEST, REGS, SIEVE, SORT};
+use tests_texts::worked::LONG;
 
 /// A function with each form of step.
 const FORMS: &str =
@@ -83,7 +83,9 @@ fn row_text(alloc: Global, function: &str) -> Result<Vec<u8>, AllocError> {
             add(&mut text, ": ")?;
             add(&mut text, stage)?;
             add(&mut text, "\n")?;
-            add(&mut text, lines)?;
+            for part in lines.iter() {
+                add(&mut text, part)?;
+            }
         }
     }
     Ok(text)

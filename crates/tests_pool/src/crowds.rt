@@ -3,7 +3,7 @@
 
 ghost use Rattle.std.specs.Prelude.{◌≡◌};
 
-use super::helpers::{Hold, LONG, are_of, repeat, unit};
+use super::helpers::{Hold, are_of, repeat, unit};
 use cc_pool::{FreshQueue, Pass, Pool, Queued};
 use cc_types::TypedUnit;
 use std::alloc::{AllocError, Global};
@@ -13,6 +13,7 @@ use std::sync::{Arc, Wait};
 use std::test::Fail;
 use std::thread;
 use std::thread::Threads;
+use tests_texts::worked::LONG;
 
 #[test]
 fn two_passes_at_once(rt: HostRuntime) -> Result<(), Fail> {

@@ -2,7 +2,7 @@
 
 ghost use Rattle.std.specs.Prelude.{◌≡◌};
 
-use super::helpers::{Hold, LONG, ONE, TWO, are_of, one, unit};
+use super::helpers::{Hold, ONE, TWO, are_of, one, unit};
 use cc_pool::{FreshQueue, Pool, Queued};
 use std::alloc::Global;
 use std::marker::Brand;
@@ -10,6 +10,7 @@ use std::sync::Wait;
 use std::sync::atomic::Ordering;
 use std::test::Fail;
 use std::thread::Threads;
+use tests_texts::worked::LONG;
 
 #[test]
 fn two_pieces_at_once(rt: HostRuntime) -> Result<(), Fail> {

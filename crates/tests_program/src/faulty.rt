@@ -2,42 +2,14 @@
 
 use cc_task::Task;
 use cc_tasks::{perform, perform_and_explain};
-use std::io::{self, ErrorKind, Read, Write};
-
-/// Gives `l` at its first read, and fails from then on.
-struct FailsSecond {
-    reads: u8,
-}
-
-impl Read for FailsSecond {
-    fn read(&mut self, buf: &mut [u8]) -> io::Result<usize> {
-        if self.reads == 0 && !buf.is_empty() {
-            self.reads = 1;
-            buf[0] = b'l';
-            return Ok(1);
-        }
-        Err(io::Error::from(ErrorKind::BrokenPipe))
-    }
-}
-
-/// Refuses every write.
-struct Refuses;
-
-impl Write for Refuses {
-    fn write(&mut self, _buf: &[u8]) -> io::Result<usize> {
-        Err(io::Error::from(ErrorKind::BrokenPipe))
-    }
-
-    fn flush(&mut self) -> io::Result<()> {
-        Ok(())
-    }
-}
+use tests_texts::streams::{FailsBehind, Refuses};
 
 fn says_that_a_read_failed<H: AllocGlobal>(rt: &H) -> bool {
-    let mut reader = FailsSecond { reads: 0 };
+    let mut reader = FailsBehind {
+        bytes: b"l".as_slice(),
+    };
     let mut written = Vec::new(rt.alloc());
     let status = perform(rt, Task::Check, &mut reader, &mut written);
-    let FailsSecond { reads: _ } = reader;
     status == 1 && written.as_slice() == b"fault 53 ReadFault\n".as_slice()
 }
 
@@ -52,7 +24,6 @@ fn a_write_that_fails(rt: HostRuntime) {
     let mut writer = Refuses;
     let task = Task::Interpret(1, Vec::new(rt.alloc()));
     let status = perform(&rt, task, &mut reader, &mut writer);
-    let Refuses = writer;
     assert!(rt; status == 1);
 }
 
@@ -62,7 +33,6 @@ fn says_that_a_write_failed<H: AllocGlobal>(rt: &H) -> bool {
     let mut writer = Refuses;
     let mut told = Vec::new(rt.alloc());
     let status = perform_and_explain(rt, Task::Check, &mut reader, &mut writer, &mut told);
-    let Refuses = writer;
     status == 1 && told.as_slice() == b"cclib: the answer could not be written\n".as_slice()
 }
 
@@ -77,7 +47,6 @@ fn is_done_without_explanation<H: AllocGlobal>(rt: &H) -> bool {
     let mut written = Vec::new(rt.alloc());
     let mut told = Refuses;
     let status = perform_and_explain(rt, Task::Check, &mut reader, &mut written, &mut told);
-    let Refuses = told;
     status == 1 && written.as_slice() == b"fault 5 Unexpected at 1:1\n".as_slice()
 }
 

@@ -2,7 +2,8 @@
 
 use cc_task::Task;
 use cc_tasks::perform;
-use std::alloc::{AllocError, Global};
+use std::alloc::Global;
+use tests_texts::parts::{Part, text_of};
 
 /// Whether a task writes these lines for a text, with this status.
 pub fn writes<H: AllocGlobal>(rt: &H, task: Task, text: &[u8], lines: &[u8], status: u8) -> bool {
@@ -45,25 +46,6 @@ pub fn checks<H: AllocGlobal>(rt: &H, text: &[u8], line: &str) -> bool {
         line.as_bytes(),
         u8::from(line != "ok\n"),
     )
-}
-
-/// A part of a text, and how often it stands there.
-pub type Part<'a> = (&'a str, usize);
-
-fn append(text: &mut Vec<u8>, part: &str, times: usize) -> Result<(), AllocError> {
-    for _ in 0..times {
-        text.extend_from_slice(part.as_bytes())?;
-    }
-    Ok(())
-}
-
-/// The text of these parts.
-pub fn text_of(alloc: Global, parts: &[Part<'_>]) -> Result<Vec<u8>, AllocError> {
-    let mut text = Vec::new(alloc);
-    for (part, times) in parts {
-        append(&mut text, part, *times)?;
-    }
-    Ok(text)
 }
 
 /// Whether `check` answers the text of these parts with this line.

@@ -1,7 +1,8 @@
 // Texts at the limits and past them, and texts that are no programs.
 
-use super::helpers::{checks, checks_parts, interprets, text_of};
+use super::helpers::{checks, checks_parts, interprets};
 use std::alloc::{AllocError, Global};
+use tests_texts::parts::text_of;
 
 /// A text's begin, what is repeated, its end, how often, and the line that `check` writes.
 static REPEATED: [(&str, &str, &str, usize, &str); 11] = [

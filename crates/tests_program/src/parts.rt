@@ -9,9 +9,9 @@ use cc_task::Part;
 use cc_tasks::take_out;
 use cc_unit::{Source, StoredUnit};
 use std::alloc::Global;
-use std::io::{self, ErrorKind, Write};
 use std::sync::Arc;
 use std::test::Fail;
+use tests_texts::streams::Refuses;
 
 /// A source that is no program, with a byte that is no letter and no newline at its end.
 static SOURCE: &[u8] = b"int\r\n\0\xff main";
@@ -185,27 +185,13 @@ fn disks_that_are_refused(rt: HostRuntime) -> Result<(), Fail> {
     Ok(())
 }
 
-/// Refuses every write.
-struct NoWriter;
-
-impl Write for NoWriter {
-    fn write(&mut self, _buf: &[u8]) -> io::Result<usize> {
-        Err(io::Error::from(ErrorKind::BrokenPipe))
-    }
-
-    fn flush(&mut self) -> io::Result<()> {
-        Ok(())
-    }
-}
-
 #[test]
 fn what_cannot_be_told(rt: HostRuntime) -> Result<(), Fail> {
     let alloc = rt.alloc();
     let disk = with_units(alloc, &[b"a"])?;
-    let mut told = NoWriter;
+    let mut told = Refuses;
     let (found, disk) = take_out(alloc, disk, b"b", Part::Image, &mut told);
     drop(disk);
-    let NoWriter = told;
     match found {
         Ok(bytes) => {
             drop(bytes);

@@ -1,8 +1,8 @@
 // What is shown of a text's functions, and what is refused. That the stages are those of the compiler is tested in `tests_link`.
 
-use crate::helpers::text_of;
 use cc_tasks::{perform_and_explain_stages, perform_stages};
-use std::io::{self, ErrorKind, Read, Write};
+use tests_texts::parts::text_of;
+use tests_texts::streams::{FailsBehind, Refuses};
 
 /// A program of two functions, and a name that is nearly one of them.
 const TWO: &str = "int f(int x){return x;}int main(void){return f(3);}";
@@ -178,34 +178,13 @@ fn a_function_that_is_too_large(rt: HostRuntime) {
     drop(found);
 }
 
-/// Fails at each read.
-struct Unread;
-
-impl Read for Unread {
-    fn read(&mut self, _buf: &mut [u8]) -> io::Result<usize> {
-        Err(io::Error::from(ErrorKind::BrokenPipe))
-    }
-}
-
-/// Refuses every write.
-struct Refuses;
-
-impl Write for Refuses {
-    fn write(&mut self, _buf: &[u8]) -> io::Result<usize> {
-        Err(io::Error::from(ErrorKind::BrokenPipe))
-    }
-
-    fn flush(&mut self) -> io::Result<()> {
-        Ok(())
-    }
-}
-
 #[test]
 fn a_read_that_fails(rt: HostRuntime) {
-    let mut reader = Unread;
+    let mut reader = FailsBehind {
+        bytes: b"".as_slice(),
+    };
     let mut written = Vec::new(rt.alloc());
     let status = perform_stages(&rt, None, &mut reader, &mut written);
-    let Unread = reader;
     assert!(rt; status == 1 && written.as_slice() == b"fault 53 ReadFault\n".as_slice());
 }
 
@@ -215,7 +194,6 @@ fn a_write_that_fails(rt: HostRuntime) {
     let mut writer = Refuses;
     let mut told = Vec::new(rt.alloc());
     let status = perform_and_explain_stages(&rt, None, &mut reader, &mut writer, &mut told);
-    let Refuses = writer;
     assert!(rt;
         status == 1 && told.as_slice() == b"cclib: the answer could not be written\n".as_slice()
     );

@@ -8,6 +8,7 @@ use cc_typing::check;
 use std::alloc::{AllocError, Global};
 use std::sync::Arc;
 use std::test::Fail;
+use tests_texts::stages::Stage;
 
 /// A text's typed unit.
 pub fn shared_unit(alloc: Global, text: &[u8]) -> Result<Arc<TypedUnit>, Fail> {
@@ -71,48 +72,44 @@ pub fn all_go_through(alloc: Global, text: &[u8], functions: usize) -> Result<bo
     Ok(right)
 }
 
+/// The RTL of one function of a text; nothing where it has none.
+pub fn pair_of(alloc: Global, text: &[u8], function: usize) -> Result<Option<RtlPair>, Fail> {
+    let unit = shared_unit(alloc, text)?;
+    let pair = rtl_of(alloc, &unit, function);
+    drop(unit);
+    match pair {
+        Ok(pair) => Ok(Some(pair)),
+        Err(_) => Ok(None),
+    }
+}
+
 /// The text of the RTL of one function.
 pub fn text_of_function(
     alloc: Global,
     text: &[u8],
     function: usize,
 ) -> Result<Option<String>, Fail> {
-    let unit = shared_unit(alloc, text)?;
-    let shown = match rtl_of(alloc, &unit, function) {
-        Ok(pair) => {
-            let shown = written(alloc, &pair);
-            drop(pair);
-            Some(shown)
-        }
-        Err(_) => None,
+    let Some(pair) = pair_of(alloc, text, function)? else {
+        return Ok(None);
     };
-    drop(unit);
-    match shown {
-        Some(Ok(text)) => Ok(Some(text)),
-        Some(Err(fault)) => Err(Fail::from(fault)),
-        None => Ok(None),
-    }
+    let shown = written(alloc, &pair);
+    drop(pair);
+    Ok(Some(shown?))
 }
 
 fn written(alloc: Global, pair: &RtlPair) -> Result<String, AllocError> {
     pair.code().to_string(alloc)
 }
 
-/// A part of a text, and how often it stands there.
-pub type Part<'a> = (&'a str, usize);
+/// The way to RTL.
+pub struct RtlStage;
 
-fn append(text: &mut Vec<u8>, part: &str, times: usize) -> Result<(), AllocError> {
-    for _ in 0..times {
-        text.extend_from_slice(part.as_bytes())?;
+impl Stage for RtlStage {
+    fn all_go_through(alloc: Global, text: &[u8], functions: usize) -> Result<bool, Fail> {
+        all_go_through(alloc, text, functions)
     }
-    Ok(())
-}
 
-/// The text of these parts.
-pub fn text_of(alloc: Global, parts: &[Part<'_>]) -> Result<Vec<u8>, AllocError> {
-    let mut text = Vec::new(alloc);
-    for (part, times) in parts {
-        append(&mut text, part, *times)?;
+    fn text_of(alloc: Global, text: &[u8], function: usize) -> Result<Option<String>, Fail> {
+        text_of_function(alloc, text, function)
     }
-    Ok(text)
 }

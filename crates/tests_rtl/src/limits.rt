@@ -1,8 +1,9 @@
 // How many nodes a function has, and which one has too many. Definitions of some 64 KiB end in a test's time, whatever their shape.
 
-use super::helpers::{Answer, Part, first_answer, text_of};
+use super::helpers::{Answer, first_answer};
 use std::alloc::Global;
 use std::test::Fail;
+use tests_texts::parts::{Part, text_of};
 
 // Whether the first function of the text of these parts comes out so.
 fn comes_out(alloc: Global, parts: &[Part<'_>], answer: Answer) -> Result<bool, Fail> {

@@ -1,6 +1,6 @@
 // Audits of all units: of those that the session itself compiled, and of those that were on the disk.
 
-use crate::helpers::{answers, answers_on, with_record};
+use crate::helpers::{answers_on, first_wrong, with_record};
 use cc_session::SessionEnd;
 use std::alloc::Global;
 use std::test::Fail;
@@ -30,17 +30,8 @@ static SCRIPTS: [(&str, &str); 5] = [
 
 #[test]
 fn audits_of_compiled_units(rt: HostRuntime) -> Result<(), Fail> {
-    for (script, lines) in SCRIPTS.iter() {
-        let right = answers(
-            &rt,
-            rt.alloc(),
-            script.as_bytes(),
-            4096,
-            lines,
-            SessionEnd::Finished,
-        )?;
-        assert!(rt; right, "for {script}");
-    }
+    let wrong = first_wrong(&rt, rt.alloc(), SCRIPTS.as_slice(), 4096)?;
+    assert_eq!(rt; wrong, None);
     Ok(())
 }
 

@@ -8,35 +8,7 @@ use std::io::{self, ErrorKind, Read, Write};
 use std::sync::Wait;
 use std::test::Fail;
 use std::thread::Threads;
-
-/// Gives these bytes, and fails from then on.
-#[derive(Drop)]
-struct FailsBehind {
-    bytes: &'static [u8],
-}
-
-impl Read for FailsBehind {
-    fn read(&mut self, buf: &mut [u8]) -> io::Result<usize> {
-        if self.bytes.is_empty() {
-            return Err(io::Error::from(ErrorKind::BrokenPipe));
-        }
-        self.bytes.read(buf)
-    }
-}
-
-/// Refuses every write.
-#[derive(Drop)]
-struct Refuses;
-
-impl Write for Refuses {
-    fn write(&mut self, _buf: &[u8]) -> io::Result<usize> {
-        Err(io::Error::from(ErrorKind::BrokenPipe))
-    }
-
-    fn flush(&mut self) -> io::Result<()> {
-        Ok(())
-    }
-}
+use tests_texts::streams::{FailsBehind, Refuses};
 
 // Within a line, and within a source: the script does not end there.
 #[test]

@@ -1,11 +1,9 @@
 // One service behind the other: each ends by its bounds, and the next goes on with the disk and the spools that it left.
 
-use crate::helpers::{answers_on, formatted};
-use crate::spools::{CLIENTS, Page, Paper, ROOM, is_right, page_of, script_of, spool_of};
+use crate::helpers::{formatted, written_on};
+use crate::spools::{CLIENTS, Page, Paper, ROOM, is_right, page_of, script_of, spools_of_all};
 use cc_disk::{Disk, FuseDisk, FuseMode, MemoryDisk};
-use cc_session::{
-    Bounds, Generation, GenerationEnd, Meter, Served, SessionEnd, Steward, serve_on, session,
-};
+use cc_session::{Bounds, Generation, GenerationEnd, Meter, Served, SessionEnd, Steward, serve_on};
 use cc_spool::MemorySpool;
 use std::alloc::{AllocError, Global};
 use std::io::Write;
@@ -307,10 +305,7 @@ fn generations_that_end_by_scripts(rt: HostRuntime) -> Result<(), Fail> {
 #[test]
 fn three_clients_over_four_generations(rt: HostRuntime) -> Result<(), Fail> {
     let alloc = rt.alloc();
-    let mut spools = Vec::new(alloc);
-    for (letter, count) in CLIENTS {
-        spools.push(spool_of(alloc, letter, count)?)?;
-    }
+    let spools = spools_of_all(alloc)?;
     let bounds = Bounds {
         ends: NEVER,
         most: NEVER,
@@ -334,31 +329,9 @@ fn three_clients_over_four_generations(rt: HostRuntime) -> Result<(), Fail> {
         scripts = scripts.saturating_add(generation.scripts);
     }
     assert!(rt; scripts == 40);
-    let right = answers_on(
-        &rt,
-        alloc,
-        b"list\n",
-        left.disk,
-        "unit a\nok 1\n",
-        SessionEnd::Finished,
-    )?;
-    assert!(rt; right);
+    let listed = written_on(&rt, alloc, b"list\n", left.disk)?;
+    assert!(rt; listed.as_slice() == b"unit a\nok 1\n".as_slice());
     Ok(())
-}
-
-// What a session lists on this disk.
-fn listed_on<H>(rt: &H, alloc: Global, disk: MemoryDisk) -> Result<Vec<u8>, Fail>
-where
-    H: Threads + Wait + Copy + Send + 'static,
-{
-    let mut reader = b"list\n".as_slice();
-    let mut written = Vec::new(alloc);
-    let (disk, end) = session(rt, alloc, &mut reader, &mut written, disk, 1);
-    drop(disk);
-    if end != SessionEnd::Finished {
-        return Err(Fail::from("not finished"));
-    }
-    Ok(written)
 }
 
 // Where the disk that one generation left can't be opened, serving ends by that fault; what was acknowledged is on it.
@@ -401,7 +374,7 @@ fn a_disk_that_fails_in_a_later_generation(rt: HostRuntime) -> Result<(), Fail> 
         if units == 1 {
             in_second = in_second.saturating_add(1);
         }
-        let listed = listed_on(&rt, alloc, disk.into_disk())?;
+        let listed = written_on(&rt, alloc, b"list\n", disk.into_disk())?;
         let names = [
             b"ok 1\n".as_slice(),
             b"unit a\nok 1\n".as_slice(),

@@ -78,3 +78,43 @@ where
     let disk = formatted(alloc, area)?;
     answers_on(rt, alloc, script, disk, lines, wanted)
 }
+
+/// The first of these scripts, each on a formatted disk with this area, that is not answered by its lines, or does not end well.
+pub fn first_wrong<H>(
+    rt: &H,
+    alloc: Global,
+    scripts: &[(&'static str, &'static str)],
+    area: u32,
+) -> Result<Option<&'static str>, Fail>
+where
+    H: Threads + Wait + Copy + Send + 'static,
+{
+    for (script, lines) in scripts {
+        let bytes = script.as_bytes();
+        if !answers(rt, alloc, bytes, area, lines, SessionEnd::Finished)? {
+            return Ok(Some(*script));
+        }
+    }
+    Ok(None)
+}
+
+/// What a script on this disk is answered, where the session ends well and gives the disk back.
+pub fn written_on<H>(
+    rt: &H,
+    alloc: Global,
+    script: &[u8],
+    disk: MemoryDisk,
+) -> Result<Vec<u8>, Fail>
+where
+    H: Threads + Wait + Copy + Send + 'static,
+{
+    let mut reader = script;
+    let mut written = Vec::new(alloc);
+    let (disk, end) = session(rt, alloc, &mut reader, &mut written, disk, 1);
+    let is_back = disk.is_some();
+    drop(disk);
+    if end != SessionEnd::Finished || !is_back {
+        return Err(Fail::from("not finished"));
+    }
+    Ok(written)
+}

@@ -1,6 +1,6 @@
 // Lines and sources that are refused, and scripts that end too soon or are too long.
 
-use crate::helpers::{answers, ends};
+use crate::helpers::{answers, ends, first_wrong};
 use cc_session::SessionEnd;
 use std::alloc::{AllocError, Global};
 use std::io::{self, Read};
@@ -55,17 +55,8 @@ static SCRIPTS: [(&str, &str); 13] = [
 
 #[test]
 fn refusals(rt: HostRuntime) -> Result<(), Fail> {
-    for (script, lines) in SCRIPTS.iter() {
-        let right = answers(
-            &rt,
-            rt.alloc(),
-            script.as_bytes(),
-            160,
-            lines,
-            SessionEnd::Finished,
-        )?;
-        assert!(rt; right, "for {script}");
-    }
+    let wrong = first_wrong(&rt, rt.alloc(), SCRIPTS.as_slice(), 160)?;
+    assert_eq!(rt; wrong, None);
     Ok(())
 }
 

@@ -1,7 +1,6 @@
 // Worked scripts, with what they are answered.
 
-use crate::helpers::answers;
-use cc_session::SessionEnd;
+use crate::helpers::first_wrong;
 use std::test::Fail;
 
 // Scripts, and the lines of their answers.
@@ -24,16 +23,7 @@ static SCRIPTS: [(&str, &str); 4] = [
 
 #[test]
 fn worked_scripts(rt: HostRuntime) -> Result<(), Fail> {
-    for (script, lines) in SCRIPTS.iter() {
-        let right = answers(
-            &rt,
-            rt.alloc(),
-            script.as_bytes(),
-            4096,
-            lines,
-            SessionEnd::Finished,
-        )?;
-        assert!(rt; right, "for {script}");
-    }
+    let wrong = first_wrong(&rt, rt.alloc(), SCRIPTS.as_slice(), 4096)?;
+    assert_eq!(rt; wrong, None);
     Ok(())
 }

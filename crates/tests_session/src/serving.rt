@@ -1,12 +1,12 @@
 // Many clients at once: the scripts of spools in memory are done as a session does them, whatever the other clients do.
 
-use crate::helpers::{answers_on, formatted};
+use crate::helpers::{formatted, written_on};
 use crate::spools::{
     CLIENTS, Page, Paper, ROOM, SCRIPTS, answers_of, is_right, of_client, page_of, script_of,
-    spool_of, without_numbers,
+    spool_of, spools_of_all, without_numbers,
 };
 use cc_disk::MemoryDisk;
-use cc_session::{BOUNDS, NoGate, NoSteward, Served, SessionEnd, serve, session};
+use cc_session::{BOUNDS, NoGate, NoSteward, Served, SessionEnd, serve};
 use cc_spool::MemorySpool;
 use std::alloc::{AllocError, Global};
 use std::io;
@@ -48,24 +48,13 @@ where
     for (script, _) in SCRIPTS.iter().take(count) {
         scripts.extend_from_slice(of_client(alloc, script, letter)?.as_slice())?;
     }
-    let mut reader = scripts.as_slice();
-    let mut written = Vec::new(alloc);
-    let disk = formatted(alloc, 65536)?;
-    let (disk, end) = session(rt, alloc, &mut reader, &mut written, disk, 1);
-    drop(disk);
-    if end != SessionEnd::Finished {
-        return Err(Fail::from("not finished"));
-    }
-    Ok(written)
+    written_on(rt, alloc, scripts.as_slice(), formatted(alloc, 65536)?)
 }
 
 #[test]
 fn three_clients_with_forty_scripts(rt: HostRuntime) -> Result<(), Fail> {
     let alloc = rt.alloc();
-    let mut spools = Vec::new(alloc);
-    for (letter, count) in CLIENTS {
-        spools.push(spool_of(alloc, letter, count)?)?;
-    }
+    let spools = spools_of_all(alloc)?;
     let mut written = Vec::new(alloc);
     let left = served(&rt, alloc, spools, formatted(alloc, 65536)?, &mut written);
     assert!(rt; left.end == SessionEnd::Finished && written.is_empty());
@@ -77,15 +66,8 @@ fn three_clients_with_forty_scripts(rt: HostRuntime) -> Result<(), Fail> {
         assert!(rt; without_numbers(alloc, alone.as_slice())?.as_slice() == all.as_slice());
     }
     // What is left of the forty: the last script of the first client.
-    let right = answers_on(
-        &rt,
-        alloc,
-        b"list\n",
-        left.disk,
-        "unit a\nok 1\n",
-        SessionEnd::Finished,
-    )?;
-    assert!(rt; right);
+    let listed = written_on(&rt, alloc, b"list\n", left.disk)?;
+    assert!(rt; listed.as_slice() == b"unit a\nok 1\n".as_slice());
     Ok(())
 }
 

@@ -133,6 +133,15 @@ pub fn spool_of(
     MemorySpool::new(alloc, scripts)
 }
 
+/// A spool of each client, with its scripts.
+pub fn spools_of_all(alloc: Global) -> Result<Vec<MemorySpool<Paper, Page>>, AllocError> {
+    let mut spools = Vec::new(alloc);
+    for (letter, count) in CLIENTS {
+        spools.push(spool_of(alloc, letter, count)?)?;
+    }
+    Ok(spools)
+}
+
 /// A script with these bytes.
 pub fn script_of(alloc: Global, script: &[u8], is_torn: bool) -> Result<Paper, AllocError> {
     let mut bytes = Vec::new(alloc);

@@ -2,7 +2,7 @@
 
 use super::changes::{Change, changed};
 use super::pairs::{pair_of, unit_of};
-use super::texts::{DIFFERENCE, EMPTY, LONG};
+use super::texts::{DIFFERENCE, EMPTY};
 use cc_colour::spill_all;
 use cc_ltl::{Ltl, Operation, read_ltl, write_ltl};
 use cc_rtl::RtlPair;
@@ -11,6 +11,7 @@ use cc_validate::validate;
 use std::alloc::Global;
 use std::sync::Arc;
 use std::test::Fail;
+use tests_texts::worked::LONG;
 
 // The operation with two operands, its operands exchanged, and its place.
 fn exchanged(ltl: &Ltl) -> Option<(usize, Operation)> {
@@ -38,7 +39,7 @@ fn exchanged(ltl: &Ltl) -> Option<(usize, Operation)> {
 
 // With the operands exchanged it is refused with 24, and the pair that comes back is right with the allocation as it was.
 fn difference_is_guarded(alloc: Global) -> Result<bool, Fail> {
-    let unit = unit_of(alloc, DIFFERENCE)?;
+    let unit = unit_of(alloc, DIFFERENCE.as_bytes())?;
     let pair = pair_of(alloc, &unit, 0)?;
     let ltl = spill_all(alloc, pair.code())?;
     let Some((place, other)) = exchanged(&ltl) else {
@@ -124,7 +125,7 @@ fn are_answered(
     first: usize,
     one_in: usize,
 ) -> Result<bool, Fail> {
-    let unit = unit_of(alloc, text)?;
+    let unit = unit_of(alloc, text.as_bytes())?;
     let pair = pair_of(alloc, &unit, function)?;
     let ltl = spill_all(alloc, pair.code())?;
     let mut bytes = write_ltl(alloc, &ltl)?;
@@ -142,7 +143,7 @@ fn are_answered(
 
 // Each prefix of a function's allocation that is shorter has 37.
 fn are_prefixes_refused(alloc: Global, text: &str, function: usize) -> Result<bool, Fail> {
-    let unit = unit_of(alloc, text)?;
+    let unit = unit_of(alloc, text.as_bytes())?;
     let ltl = spill_all(alloc, pair_of(alloc, &unit, function)?.code())?;
     let bytes = write_ltl(alloc, &ltl)?;
     for end in 0..bytes.len() {

@@ -54,7 +54,7 @@ fn in_register(alloc: Global, spilled: &Ltl, place: Register) -> Result<Ltl, Fai
 
 // What the validator says of the function with its parameter in a register all the time: a fault's number, or 0.
 fn answer(alloc: Global, text: &str, place: Register) -> Result<u32, Fail> {
-    let unit = unit_of(alloc, text)?;
+    let unit = unit_of(alloc, text.as_bytes())?;
     let pair = pair_of(alloc, &unit, 1)?;
     let spilled = spill_all(alloc, pair.code())?;
     let ltl = in_register(alloc, &spilled, place)?;

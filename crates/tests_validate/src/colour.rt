@@ -14,5 +14,3 @@ mod functions;
 mod generated;
 #[cfg(test)]
 mod strange;
-#[cfg(test)]
-mod texts;

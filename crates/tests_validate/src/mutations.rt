@@ -179,7 +179,7 @@ impl Subject {
 }
 
 fn subject_of(alloc: Global, text: &str, function: u32, words: u32) -> Result<Subject, Fail> {
-    let unit = unit_of(alloc, text)?;
+    let unit = unit_of(alloc, text.as_bytes())?;
     let program = program_of(alloc, &unit)?;
     Ok(Subject {
         unit,

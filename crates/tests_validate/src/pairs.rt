@@ -10,8 +10,8 @@ use std::sync::Arc;
 use std::test::Fail;
 
 /// A text's typed unit.
-pub fn unit_of(alloc: Global, text: &str) -> Result<Arc<TypedUnit>, Fail> {
-    let parsed = parse(alloc, text.as_bytes())?;
+pub fn unit_of(alloc: Global, text: &[u8]) -> Result<Arc<TypedUnit>, Fail> {
+    let parsed = parse(alloc, text)?;
     let unit = check(alloc, parsed)?;
     Ok(Arc::new(alloc, unit)?)
 }

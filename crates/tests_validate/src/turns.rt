@@ -73,7 +73,7 @@ fn entry_place(ltl: &Ltl) -> usize {
 
 // What the validator says where the parameters get to their slots so: a fault's number, or 0.
 fn answer(alloc: Global, shift: u16, turns: u32) -> Result<u32, Fail> {
-    let unit = unit_of(alloc, TEXT)?;
+    let unit = unit_of(alloc, TEXT.as_bytes())?;
     let pair = pair_of(alloc, &unit, 0)?;
     let spilled = spill_all(alloc, pair.code())?;
     let change = Change::Before(turned(alloc, shift, turns)?);

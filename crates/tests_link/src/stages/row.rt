@@ -1,70 +1,192 @@
 // The stages of the program with 24 locals that are alive over a call. Each stage was read by a script that knows the languages by
 // docs/INTERMEDIATE.md alone, and run by it on the words from 1 to 24: each writes 0 and 300.
 
-/// A function, a stage, and its lines.
-pub static ROW: [(&str, &str, &str); 14] = [
+/// `f` as RTL, which has no dead node.
+const F_RTL: &str = "parameters 1, entry 0
+0: nop -> 1
+1: return r0
+2: r1 = 0 -> 3
+3: return r1
+";
+
+/// `f` as Linear, whose steps are selected as they are.
+const F_LINEAR: &str = "f0 slots 0
+  return
+";
+
+/// The sum of the words in the RTL of `main`.
+const MAIN_SUM: &str = "77: r47 = add r0, r1 -> 78
+78: r46 = add r47, r2 -> 79
+79: r45 = add r46, r3 -> 80
+80: r44 = add r45, r4 -> 81
+81: r43 = add r44, r5 -> 82
+82: r42 = add r43, r6 -> 83
+83: r41 = add r42, r7 -> 84
+84: r40 = add r41, r8 -> 85
+85: r39 = add r40, r9 -> 86
+86: r38 = add r39, r10 -> 87
+87: r37 = add r38, r11 -> 88
+88: r36 = add r37, r12 -> 89
+89: r35 = add r36, r13 -> 90
+90: r34 = add r35, r14 -> 91
+91: r33 = add r34, r15 -> 92
+92: r32 = add r33, r16 -> 93
+93: r31 = add r32, r17 -> 94
+94: r30 = add r31, r18 -> 95
+95: r29 = add r30, r19 -> 96
+96: r28 = add r29, r20 -> 97
+97: r27 = add r28, r21 -> 98
+98: r26 = add r27, r22 -> 99
+99: r25 = add r26, r23 -> 100
+100: write r25 -> 101
+";
+
+/// `main` as Linear, whose steps are selected as they are.
+const MAIN_LINEAR: &str = "f1 slots 24
+  read
+  slot0 = x10
+  read
+  slot1 = x10
+  read
+  slot2 = x10
+  read
+  slot3 = x10
+  read
+  slot4 = x10
+  read
+  slot5 = x10
+  read
+  slot6 = x10
+  read
+  slot7 = x10
+  read
+  slot8 = x10
+  read
+  slot9 = x10
+  read
+  slot10 = x10
+  read
+  slot11 = x10
+  read
+  slot12 = x10
+  read
+  slot13 = x10
+  read
+  slot14 = x10
+  read
+  slot15 = x10
+  read
+  slot16 = x10
+  read
+  slot17 = x10
+  read
+  slot18 = x10
+  read
+  slot19 = x10
+  read
+  slot20 = x10
+  read
+  slot21 = x10
+  read
+  slot22 = x10
+  read
+  slot23 = x10
+  x10 = 0
+  call 0
+  write
+  x28 = slot0
+  x29 = slot1
+  x28 = add x28, x29
+  x29 = slot2
+  x28 = add x28, x29
+  x29 = slot3
+  x28 = add x28, x29
+  x29 = slot4
+  x28 = add x28, x29
+  x29 = slot5
+  x28 = add x28, x29
+  x29 = slot6
+  x28 = add x28, x29
+  x29 = slot7
+  x28 = add x28, x29
+  x29 = slot8
+  x28 = add x28, x29
+  x29 = slot9
+  x28 = add x28, x29
+  x29 = slot10
+  x28 = add x28, x29
+  x29 = slot11
+  x28 = add x28, x29
+  x29 = slot12
+  x28 = add x28, x29
+  x29 = slot13
+  x28 = add x28, x29
+  x29 = slot14
+  x28 = add x28, x29
+  x29 = slot15
+  x28 = add x28, x29
+  x29 = slot16
+  x28 = add x28, x29
+  x29 = slot17
+  x28 = add x28, x29
+  x29 = slot18
+  x28 = add x28, x29
+  x29 = slot19
+  x28 = add x28, x29
+  x29 = slot20
+  x28 = add x28, x29
+  x29 = slot21
+  x28 = add x28, x29
+  x29 = slot22
+  x28 = add x28, x29
+  x29 = slot23
+  x10 = add x28, x29
+  write
+  x10 = 0
+  return
+";
+
+/// A function, a stage, and its lines in parts.
+pub static ROW: [(&str, &str, &[&str]); 14] = [
     (
         "f",
         "Cminor",
-        "f0
+        &[
+            "f0
   return v0
 ",
+        ],
     ),
-    (
-        "f",
-        "RTL",
-        "parameters 1, entry 0
-0: nop -> 1
-1: return r0
-2: r1 = 0 -> 3
-3: return r1
-",
-    ),
-    (
-        "f",
-        "RTL without dead nodes",
-        "parameters 1, entry 0
-0: nop -> 1
-1: return r0
-2: r1 = 0 -> 3
-3: return r1
-",
-    ),
+    ("f", "RTL", &[F_RTL]),
+    ("f", "RTL without dead nodes", &[F_RTL]),
     (
         "f",
         "LTL",
-        "coloured
+        &[
+            "coloured
 slots 0, entry 0
 0: nop -> 1
 1: return
 2: x10 = 0 -> 3
 3: return
 ",
+        ],
     ),
-    (
-        "f",
-        "Linear",
-        "f0 slots 0
-  return
-",
-    ),
-    (
-        "f",
-        "Selected",
-        "f0 slots 0
-  return
-",
-    ),
+    ("f", "Linear", &[F_LINEAR]),
+    ("f", "Selected", &[F_LINEAR]),
     (
         "f",
         "code",
-        "0001000c 00008067 jalr x0, 0(x1)
+        &[
+            "0001000c 00008067 jalr x0, 0(x1)
 ",
+        ],
     ),
     (
         "main",
         "Cminor",
-        "f1
+        &[
+            "f1
   v0 = 0
   v1 = read
   v0 = v1
@@ -145,11 +267,13 @@ slots 0, entry 0
   v24 = 0
   skip
 ",
+        ],
     ),
     (
         "main",
         "RTL",
-        "parameters 0, entry 0
+        &[
+            "parameters 0, entry 0
 0: nop -> 1
 1: r0 = 0 -> 2
 2: r1 = read -> 3
@@ -227,39 +351,19 @@ slots 0, entry 0
 74: r24 = call 0 r25 -> 75
 75: write r24 -> 76
 76: r24 = 0 -> 77
-77: r47 = add r0, r1 -> 78
-78: r46 = add r47, r2 -> 79
-79: r45 = add r46, r3 -> 80
-80: r44 = add r45, r4 -> 81
-81: r43 = add r44, r5 -> 82
-82: r42 = add r43, r6 -> 83
-83: r41 = add r42, r7 -> 84
-84: r40 = add r41, r8 -> 85
-85: r39 = add r40, r9 -> 86
-86: r38 = add r39, r10 -> 87
-87: r37 = add r38, r11 -> 88
-88: r36 = add r37, r12 -> 89
-89: r35 = add r36, r13 -> 90
-90: r34 = add r35, r14 -> 91
-91: r33 = add r34, r15 -> 92
-92: r32 = add r33, r16 -> 93
-93: r31 = add r32, r17 -> 94
-94: r30 = add r31, r18 -> 95
-95: r29 = add r30, r19 -> 96
-96: r28 = add r29, r20 -> 97
-97: r27 = add r28, r21 -> 98
-98: r26 = add r27, r22 -> 99
-99: r25 = add r26, r23 -> 100
-100: write r25 -> 101
-101: r24 = 0 -> 102
+",
+            MAIN_SUM,
+            "101: r24 = 0 -> 102
 102: r25 = 0 -> 103
 103: return r25
 ",
+        ],
     ),
     (
         "main",
         "RTL without dead nodes",
-        "parameters 0, entry 0
+        &[
+            "parameters 0, entry 0
 0: nop -> 1
 1: nop -> 2
 2: r1 = read -> 3
@@ -337,39 +441,19 @@ slots 0, entry 0
 74: r24 = call 0 r25 -> 75
 75: write r24 -> 76
 76: nop -> 77
-77: r47 = add r0, r1 -> 78
-78: r46 = add r47, r2 -> 79
-79: r45 = add r46, r3 -> 80
-80: r44 = add r45, r4 -> 81
-81: r43 = add r44, r5 -> 82
-82: r42 = add r43, r6 -> 83
-83: r41 = add r42, r7 -> 84
-84: r40 = add r41, r8 -> 85
-85: r39 = add r40, r9 -> 86
-86: r38 = add r39, r10 -> 87
-87: r37 = add r38, r11 -> 88
-88: r36 = add r37, r12 -> 89
-89: r35 = add r36, r13 -> 90
-90: r34 = add r35, r14 -> 91
-91: r33 = add r34, r15 -> 92
-92: r32 = add r33, r16 -> 93
-93: r31 = add r32, r17 -> 94
-94: r30 = add r31, r18 -> 95
-95: r29 = add r30, r19 -> 96
-96: r28 = add r29, r20 -> 97
-97: r27 = add r28, r21 -> 98
-98: r26 = add r27, r22 -> 99
-99: r25 = add r26, r23 -> 100
-100: write r25 -> 101
-101: nop -> 102
+",
+            MAIN_SUM,
+            "101: nop -> 102
 102: r25 = 0 -> 103
 103: return r25
 ",
+        ],
     ),
     (
         "main",
         "LTL",
-        "coloured
+        &[
+            "coloured
 slots 24, entry 0
 0: nop -> 1
 1: nop -> 2
@@ -476,225 +560,15 @@ slots 24, entry 0
 102: x10 = 0 -> 103
 103: return
 ",
+        ],
     ),
-    (
-        "main",
-        "Linear",
-        "f1 slots 24
-  read
-  slot0 = x10
-  read
-  slot1 = x10
-  read
-  slot2 = x10
-  read
-  slot3 = x10
-  read
-  slot4 = x10
-  read
-  slot5 = x10
-  read
-  slot6 = x10
-  read
-  slot7 = x10
-  read
-  slot8 = x10
-  read
-  slot9 = x10
-  read
-  slot10 = x10
-  read
-  slot11 = x10
-  read
-  slot12 = x10
-  read
-  slot13 = x10
-  read
-  slot14 = x10
-  read
-  slot15 = x10
-  read
-  slot16 = x10
-  read
-  slot17 = x10
-  read
-  slot18 = x10
-  read
-  slot19 = x10
-  read
-  slot20 = x10
-  read
-  slot21 = x10
-  read
-  slot22 = x10
-  read
-  slot23 = x10
-  x10 = 0
-  call 0
-  write
-  x28 = slot0
-  x29 = slot1
-  x28 = add x28, x29
-  x29 = slot2
-  x28 = add x28, x29
-  x29 = slot3
-  x28 = add x28, x29
-  x29 = slot4
-  x28 = add x28, x29
-  x29 = slot5
-  x28 = add x28, x29
-  x29 = slot6
-  x28 = add x28, x29
-  x29 = slot7
-  x28 = add x28, x29
-  x29 = slot8
-  x28 = add x28, x29
-  x29 = slot9
-  x28 = add x28, x29
-  x29 = slot10
-  x28 = add x28, x29
-  x29 = slot11
-  x28 = add x28, x29
-  x29 = slot12
-  x28 = add x28, x29
-  x29 = slot13
-  x28 = add x28, x29
-  x29 = slot14
-  x28 = add x28, x29
-  x29 = slot15
-  x28 = add x28, x29
-  x29 = slot16
-  x28 = add x28, x29
-  x29 = slot17
-  x28 = add x28, x29
-  x29 = slot18
-  x28 = add x28, x29
-  x29 = slot19
-  x28 = add x28, x29
-  x29 = slot20
-  x28 = add x28, x29
-  x29 = slot21
-  x28 = add x28, x29
-  x29 = slot22
-  x28 = add x28, x29
-  x29 = slot23
-  x10 = add x28, x29
-  write
-  x10 = 0
-  return
-",
-    ),
-    (
-        "main",
-        "Selected",
-        "f1 slots 24
-  read
-  slot0 = x10
-  read
-  slot1 = x10
-  read
-  slot2 = x10
-  read
-  slot3 = x10
-  read
-  slot4 = x10
-  read
-  slot5 = x10
-  read
-  slot6 = x10
-  read
-  slot7 = x10
-  read
-  slot8 = x10
-  read
-  slot9 = x10
-  read
-  slot10 = x10
-  read
-  slot11 = x10
-  read
-  slot12 = x10
-  read
-  slot13 = x10
-  read
-  slot14 = x10
-  read
-  slot15 = x10
-  read
-  slot16 = x10
-  read
-  slot17 = x10
-  read
-  slot18 = x10
-  read
-  slot19 = x10
-  read
-  slot20 = x10
-  read
-  slot21 = x10
-  read
-  slot22 = x10
-  read
-  slot23 = x10
-  x10 = 0
-  call 0
-  write
-  x28 = slot0
-  x29 = slot1
-  x28 = add x28, x29
-  x29 = slot2
-  x28 = add x28, x29
-  x29 = slot3
-  x28 = add x28, x29
-  x29 = slot4
-  x28 = add x28, x29
-  x29 = slot5
-  x28 = add x28, x29
-  x29 = slot6
-  x28 = add x28, x29
-  x29 = slot7
-  x28 = add x28, x29
-  x29 = slot8
-  x28 = add x28, x29
-  x29 = slot9
-  x28 = add x28, x29
-  x29 = slot10
-  x28 = add x28, x29
-  x29 = slot11
-  x28 = add x28, x29
-  x29 = slot12
-  x28 = add x28, x29
-  x29 = slot13
-  x28 = add x28, x29
-  x29 = slot14
-  x28 = add x28, x29
-  x29 = slot15
-  x28 = add x28, x29
-  x29 = slot16
-  x28 = add x28, x29
-  x29 = slot17
-  x28 = add x28, x29
-  x29 = slot18
-  x28 = add x28, x29
-  x29 = slot19
-  x28 = add x28, x29
-  x29 = slot20
-  x28 = add x28, x29
-  x29 = slot21
-  x28 = add x28, x29
-  x29 = slot22
-  x28 = add x28, x29
-  x29 = slot23
-  x10 = add x28, x29
-  write
-  x10 = 0
-  return
-",
-    ),
+    ("main", "Linear", &[MAIN_LINEAR]),
+    ("main", "Selected", &[MAIN_LINEAR]),
     (
         "main",
         "code",
-        "00010010 f9c10113 addi x2, x2, -100
+        &[
+            "00010010 f9c10113 addi x2, x2, -100
 00010014 06112023 sw x1, 96(x2)
 00010018 00200893 addi x17, x0, 2
 0001001c 00000073 ecall
@@ -826,5 +700,6 @@ slots 24, entry 0
 00010214 06410113 addi x2, x2, 100
 00010218 00008067 jalr x0, 0(x1)
 ",
+        ],
     ),
 ];

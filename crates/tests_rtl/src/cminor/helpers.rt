@@ -6,6 +6,7 @@ use cc_types::TypedUnit;
 use std::alloc::{AllocError, Global};
 use std::sync::Arc;
 use std::test::Fail;
+use tests_texts::stages::Stage;
 
 // Whether the function with this number goes through, and the pair names it.
 fn goes_through(alloc: Global, unit: &Arc<TypedUnit>, function: usize) -> bool {
@@ -54,22 +55,15 @@ fn written(alloc: Global, pair: &CminorPair) -> Result<String, AllocError> {
     pair.to_string(alloc)
 }
 
-/// A part of a text, and how often it stands there.
-pub type Part<'a> = (&'a str, usize);
+/// The way to Cminor.
+pub struct CminorStage;
 
-/// Adds a part to a text, this many times.
-pub fn append(text: &mut Vec<u8>, part: &str, times: usize) -> Result<(), AllocError> {
-    for _ in 0..times {
-        text.extend_from_slice(part.as_bytes())?;
+impl Stage for CminorStage {
+    fn all_go_through(alloc: Global, text: &[u8], functions: usize) -> Result<bool, Fail> {
+        all_go_through(alloc, text, functions)
     }
-    Ok(())
-}
 
-/// The text of these parts.
-pub fn text_of(alloc: Global, parts: &[Part<'_>]) -> Result<Vec<u8>, AllocError> {
-    let mut text = Vec::new(alloc);
-    for (part, times) in parts {
-        append(&mut text, part, *times)?;
+    fn text_of(alloc: Global, text: &[u8], function: usize) -> Result<Option<String>, Fail> {
+        text_of_function(alloc, text, function)
     }
-    Ok(text)
 }

@@ -1,8 +1,9 @@
 // Definitions of some 64 KiB, each at one of the limits: they end in a test's time, whatever their shape.
 
-use super::helpers::{Part, all_go_through, append, text_of};
+use super::helpers::all_go_through;
 use std::alloc::{AllocError, Global};
 use std::test::Fail;
+use tests_texts::parts::{Part, append, text_of};
 
 // Whether a text has some 64 KiB, and its one function goes through.
 fn is_long_and_goes_through(alloc: Global, text: &[u8]) -> Result<bool, Fail> {

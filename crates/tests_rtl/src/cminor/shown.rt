@@ -1,8 +1,8 @@
 // The text of the Cminor of whole functions, worked by hand from the rules in `docs/INTERMEDIATE.md`.
 
-use super::helpers::text_of_function;
-use std::alloc::Global;
+use super::helpers::CminorStage;
 use std::test::Fail;
+use tests_texts::stages::first_unlike;
 
 /// A text, the number of a function, and the text of its Cminor.
 static SHOWN: [(&str, usize, &str); 12] = [
@@ -215,19 +215,11 @@ static SHOWN: [(&str, usize, &str); 12] = [
     ),
 ];
 
-// Whether the Cminor of a function of a text has these lines.
-fn shows(alloc: Global, text: &str, function: usize, lines: &str) -> Result<bool, Fail> {
-    match text_of_function(alloc, text.as_bytes(), function)? {
-        Some(shown) => Ok(shown.as_str() == lines),
-        None => Ok(false),
-    }
-}
-
 #[test]
 fn texts_of_functions(rt: HostRuntime) -> Result<(), Fail> {
-    for (text, function, lines) in SHOWN.iter() {
-        let right = shows(rt.alloc(), text, *function, lines)?;
-        assert!(rt; right, "{text} {function}");
-    }
+    assert_eq!(rt;
+        first_unlike::<CminorStage>(rt.alloc(), SHOWN.as_slice())?,
+        None
+    );
     Ok(())
 }

@@ -1,13 +1,10 @@
 // A text's functions as RTL, their live sets as a text, and what is left of them.
 
-use crate::helpers::shared_unit;
-use cc_cminor::to_cminor;
+use crate::helpers::pair_of;
 use cc_live::{Liveness, RegisterSet, drop_dead, drop_faint, liveness};
-use cc_rtl::{Node, RtlFault, RtlPair, to_rtl};
-use cc_types::TypedUnit;
+use cc_rtl::{Node, RtlPair};
 use std::alloc::{AllocError, Global};
 use std::fmt::Write;
-use std::sync::Arc;
 use std::test::Fail;
 
 /// What is asked of a function.
@@ -21,17 +18,6 @@ pub enum Asked {
     WithoutDead,
     /// Its text without faint nodes.
     WithoutFaint,
-}
-
-// The RTL of the function with this number, or why there is none: 40 where there is not even Cminor.
-fn rtl_of(alloc: Global, unit: &Arc<TypedUnit>, function: usize) -> Result<RtlPair, RtlFault> {
-    if function >= unit.functions() {
-        return Err(RtlFault::OutOfMemory);
-    }
-    match to_cminor(alloc, unit, function) {
-        Ok(pair) => to_rtl(alloc, pair),
-        Err(_) => Err(RtlFault::OutOfMemory),
-    }
 }
 
 // The registers of a set below 256, in order.
@@ -81,21 +67,12 @@ pub fn asked_of(
     function: usize,
     asked: Asked,
 ) -> Result<Option<String>, Fail> {
-    let unit = shared_unit(alloc, text)?;
-    let shown = match rtl_of(alloc, &unit, function) {
-        Ok(mut pair) => {
-            let shown = answer(alloc, &mut pair, asked);
-            drop(pair);
-            Some(shown)
-        }
-        Err(_) => None,
+    let Some(mut pair) = pair_of(alloc, text, function)? else {
+        return Ok(None);
     };
-    drop(unit);
-    match shown {
-        Some(Ok(text)) => Ok(Some(text)),
-        Some(Err(fault)) => Err(Fail::from(fault)),
-        None => Ok(None),
-    }
+    let shown = answer(alloc, &mut pair, asked);
+    drop(pair);
+    Ok(Some(shown?))
 }
 
 /// How many nodes of a function are no nops: of all, of those that are left without dead ones, and without faint ones.
@@ -133,19 +110,10 @@ fn count_left(alloc: Global, pair: &mut RtlPair) -> Result<Left, AllocError> {
 
 /// How many nodes of one function of a text are left; nothing where it has no RTL.
 pub fn left_of(alloc: Global, text: &[u8], function: usize) -> Result<Option<Left>, Fail> {
-    let unit = shared_unit(alloc, text)?;
-    let left = match rtl_of(alloc, &unit, function) {
-        Ok(mut pair) => {
-            let left = count_left(alloc, &mut pair);
-            drop(pair);
-            Some(left)
-        }
-        Err(_) => None,
+    let Some(mut pair) = pair_of(alloc, text, function)? else {
+        return Ok(None);
     };
-    drop(unit);
-    match left {
-        Some(Ok(left)) => Ok(Some(left)),
-        Some(Err(fault)) => Err(Fail::from(fault)),
-        None => Ok(None),
-    }
+    let left = count_left(alloc, &mut pair);
+    drop(pair);
+    Ok(Some(left?))
 }

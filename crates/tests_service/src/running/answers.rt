@@ -1,6 +1,6 @@
 // What one client is answered: each call on its happy path, and each refusal of names, texts and the map.
 
-ghost use Rattle.std.specs.Prelude.{◌≡◌, ℕ, List};
+ghost use Rattle.tests_service.specs.internal.Named.{IsNamed};
 
 use super::reading::{done_at, is_found, is_listed, number};
 use super::starting::{ALL, Begun, Fused, alone, ended, opened, prepared};
@@ -30,7 +30,7 @@ fn each_call<N, R>(rt: &R, alloc: Global, begun: Begun) -> Result<bool, Fail>
 where
     N: Named + Send + Sync + 'static,
     R: Threads + Wait + Copy + Send + 'static,
-    requires { (begun.fresh.ledger ≡ N.name) × (N.parts ≡ 1025) × (begun.fresh.queue ≡ N.queue) × (begun.base ≡ N.base) × (N.from ≡ 0) × ((image : List ℕ) → N.left image) }
+    requires { IsNamed begun.fresh begun.base N.name N.parts N.queue N.base N.from N.left }
 {
     let service = opened::<N, R, NoGate>(rt, alloc, begun, 2, NoGate)?;
     let mut client = service.client(rt, alloc)?;
@@ -116,16 +116,12 @@ fn is_refused_at(answer: Result<Receipt, ServiceFault>, number: u32, column: usi
 
 // Texts with an unclosed comment, another token than is expected, and an unknown name; one that is too long for a text, one with too many
 // nodes for a function, and one that is too long for the area.
-fn are_texts_refused<N, R>(
+fn are_texts_refused<N: Named + Send + Sync + 'static, R: Wait>(
     rt: &R,
     alloc: Global,
     service: &Fused<N>,
     client: &mut Client<N>,
-) -> Result<bool, Fail>
-where
-    N: Named + Send + Sync + 'static,
-    R: Wait,
-{
+) -> Result<bool, Fail> {
     let long = repeated(alloc, b"", b" ", 65537, b"")?;
     let nodes = repeated(alloc, b"int main(void){", b"write_word(0);", 4097, b"}")?;
     let full = repeated(alloc, b"", b" ", 5000, TEXTS[0])?;

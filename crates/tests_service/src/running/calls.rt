@@ -1,9 +1,9 @@
 // Calls of one client, and of two in threads.
 
-ghost use Rattle.std.specs.Prelude.{◌≡◌, ℕ, List};
+ghost use Rattle.tests_service.specs.internal.Named.{IsNamed};
 
 use super::reading::{absent_at, done_at, is_found, number};
-use super::starting::{ALL, Begun, Fused, SMALL, alone, both, ended, opened, prepared};
+use super::starting::{ALL, Begun, Fused, SMALL, adds, alone, both, ended, opened, prepared};
 use crate::helpers::opened as opened_library;
 use cc_pool::NoGate;
 use cc_service::{BookFault, Client, MOST_CLIENTS, Named, ServiceFault};
@@ -27,7 +27,7 @@ fn four_calls<N, R>(rt: &R, alloc: Global, begun: Begun) -> Result<bool, Fail>
 where
     N: Named + Send + Sync + 'static,
     R: Threads + Wait + Copy + Send + 'static,
-    requires { (begun.fresh.ledger ≡ N.name) × (N.parts ≡ 1025) × (begun.fresh.queue ≡ N.queue) × (begun.base ≡ N.base) × (N.from ≡ 0) × ((image : List ℕ) → N.left image) }
+    requires { IsNamed begun.fresh begun.base N.name N.parts N.queue N.base N.from N.left }
 {
     let service = opened::<N, R, NoGate>(rt, alloc, begun, 1, NoGate)?;
     let mut client = service.client(rt, alloc)?;
@@ -97,7 +97,7 @@ fn two_threads<N, R>(rt: &R, alloc: Global, begun: Begun) -> Result<(u32, u32), 
 where
     N: Named + Send + Sync + 'static,
     R: Threads + Wait + Copy + Send + Sync + 'static,
-    requires { (begun.fresh.ledger ≡ N.name) × (N.parts ≡ 1025) × (begun.fresh.queue ≡ N.queue) × (begun.base ≡ N.base) × (N.from ≡ 0) × ((image : List ℕ) → N.left image) }
+    requires { IsNamed begun.fresh begun.base N.name N.parts N.queue N.base N.from N.left }
 {
     let service = opened::<N, R, NoGate>(rt, alloc, begun, 2, NoGate)?;
     let one = service.client(rt, alloc)?;
@@ -105,8 +105,8 @@ where
     let shared = &service;
     let (a, b) = thread::join(
         rt,
-        move || adds(rt, alloc, shared, one),
-        move || adds(rt, alloc, shared, other),
+        move || adds(rt, alloc, shared, one, b"a"),
+        move || adds(rt, alloc, shared, other, b"a"),
     );
     let (one, first) = a;
     let (other, second) = b;
@@ -117,15 +117,6 @@ where
     } else {
         Err(Fail::from("another history"))
     }
-}
-
-fn adds<N, R>(rt: &R, alloc: Global, service: &Fused<N>, mut client: Client<N>) -> (Client<N>, u32)
-where
-    N: Named + Send + Sync + 'static,
-    R: Wait,
-{
-    let answer = service.add(rt, alloc, &mut client, b"a", SMALL);
-    (client, number(answer))
 }
 
 #[test]
@@ -140,7 +131,7 @@ fn many_clients<N, R>(rt: &R, alloc: Global, begun: Begun) -> Result<bool, Fail>
 where
     N: Named + Send + Sync + 'static,
     R: Threads + Wait + Copy + Send + 'static,
-    requires { (begun.fresh.ledger ≡ N.name) × (N.parts ≡ 1025) × (begun.fresh.queue ≡ N.queue) × (begun.base ≡ N.base) × (N.from ≡ 0) × ((image : List ℕ) → N.left image) }
+    requires { IsNamed begun.fresh begun.base N.name N.parts N.queue N.base N.from N.left }
 {
     let service = opened::<N, R, NoGate>(rt, alloc, begun, 1, NoGate)?;
     let mut clients = Vec::new(alloc);
@@ -171,7 +162,7 @@ fn gives_up<N, R>(rt: &R, alloc: Global, begun: Begun, is_lost: bool) -> Result<
 where
     N: Named + Send + Sync + 'static,
     R: Threads + Wait + Copy + Send + 'static,
-    requires { (begun.fresh.ledger ≡ N.name) × (N.parts ≡ 1025) × (begun.fresh.queue ≡ N.queue) × (begun.base ≡ N.base) × (N.from ≡ 0) × ((image : List ℕ) → N.left image) }
+    requires { IsNamed begun.fresh begun.base N.name N.parts N.queue N.base N.from N.left }
 {
     let service = opened::<N, R, NoGate>(rt, alloc, begun, 1, NoGate)?;
     let mut client = service.client(rt, alloc)?;

@@ -1,6 +1,6 @@
 // Sixteen clients in threads of their own, whose history is replayed against the model.
 
-ghost use Rattle.std.specs.Prelude.{◌≡◌, ℕ, List};
+ghost use Rattle.tests_service.specs.internal.Named.{IsNamed};
 
 use super::reading::number;
 use super::starting::{ALL, Begun, Fused, ended, opened, prepared};
@@ -32,7 +32,7 @@ fn are_replayed<N, R>(rt: &R, alloc: Global, begun: Begun) -> Result<bool, Fail>
 where
     N: Named + Send + Sync + 'static,
     R: Threads + Wait + Copy + Send + Sync + 'static,
-    requires { (begun.fresh.ledger ≡ N.name) × (N.parts ≡ 1025) × (begun.fresh.queue ≡ N.queue) × (begun.base ≡ N.base) × (N.from ≡ 0) × ((image : List ℕ) → N.left image) }
+    requires { IsNamed begun.fresh begun.base N.name N.parts N.queue N.base N.from N.left }
 {
     let service = opened::<N, R, NoGate>(rt, alloc, begun, 4, NoGate)?;
     let mut clients = Vec::new(alloc);

@@ -1,6 +1,6 @@
 // A device that fails once.
 
-ghost use Rattle.std.specs.Prelude.{◌≡◌, ℕ, List};
+ghost use Rattle.tests_service.specs.internal.Named.{IsNamed};
 
 use super::reading::{absent_at, is_listed, number};
 use super::starting::{
@@ -28,7 +28,7 @@ fn fails_at_first<N, R>(rt: &R, alloc: Global, begun: Begun) -> Result<bool, Fai
 where
     N: Named + Send + Sync + 'static,
     R: Threads + Wait + Copy + Send + 'static,
-    requires { (begun.fresh.ledger ≡ N.name) × (N.parts ≡ 1025) × (begun.fresh.queue ≡ N.queue) × (begun.base ≡ N.base) × (N.from ≡ 0) × ((image : List ℕ) → N.left image) }
+    requires { IsNamed begun.fresh begun.base N.name N.parts N.queue N.base N.from N.left }
 {
     let service = opened::<N, R, NoGate>(rt, alloc, begun, 1, NoGate)?;
     let mut client = service.client(rt, alloc)?;
@@ -104,7 +104,7 @@ fn five_calls<N, R>(rt: &R, alloc: Global, begun: Begun) -> Result<(usize, bool)
 where
     N: Named + Send + Sync + 'static,
     R: Threads + Wait + Copy + Send + 'static,
-    requires { (begun.fresh.ledger ≡ N.name) × (N.parts ≡ 1025) × (begun.fresh.queue ≡ N.queue) × (begun.base ≡ N.base) × (N.from ≡ 0) × ((image : List ℕ) → N.left image) }
+    requires { IsNamed begun.fresh begun.base N.name N.parts N.queue N.base N.from N.left }
 {
     let service = opened::<N, R, NoGate>(rt, alloc, begun, 1, NoGate)?;
     let mut client = service.client(rt, alloc)?;
@@ -140,7 +140,7 @@ fn not_opened<N, R>(rt: &R, alloc: Global, begun: Begun) -> Result<Device, Fail>
 where
     N: Named + Send + Sync + 'static,
     R: Threads + Wait + Copy + Send + 'static,
-    requires { (begun.fresh.ledger ≡ N.name) × (N.parts ≡ 1025) × (begun.fresh.queue ≡ N.queue) × (begun.base ≡ N.base) × (N.from ≡ 0) × ((image : List ℕ) → N.left image) }
+    requires { IsNamed begun.fresh begun.base N.name N.parts N.queue N.base N.from N.left }
 {
     let Begun {
         device,

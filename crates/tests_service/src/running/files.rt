@@ -1,6 +1,6 @@
 // A service on a file: one that is let go without an end, and what the next one finds.
 
-ghost use Rattle.std.specs.Prelude.{◌≡◌};
+ghost use Rattle.tests_service.specs.internal.Named.{AreNamed};
 
 use super::reading::{done_at, is_found};
 use super::starting::alone;
@@ -41,7 +41,7 @@ fn not_a_library<N, R>(
 where
     N: Named + Send + Sync + 'static,
     R: Threads + Wait + Copy + Send + 'static,
-    requires { (fresh.ledger ≡ N.name) × (N.parts ≡ 1025) × (fresh.queue ≡ N.queue) }
+    requires { AreNamed fresh N.name N.parts N.queue }
 {
     match Service::<N, FileDisk>::open(rt, alloc, fresh, disk, 1, NoGate) {
         Ok(service) => {
@@ -70,7 +70,7 @@ fn opened<N, R>(
 where
     N: Named + Send + Sync + 'static,
     R: Threads + Wait + Copy + Send + 'static,
-    requires { (fresh.ledger ≡ N.name) × (N.parts ≡ 1025) × (fresh.queue ≡ N.queue) }
+    requires { AreNamed fresh N.name N.parts N.queue }
 {
     match Service::open(rt, alloc, fresh, disk, 1, NoGate) {
         Ok(service) => Ok(service),
@@ -86,7 +86,7 @@ fn adds<N, R>(rt: &R, alloc: Global, fresh: Fresh, disk: FileDisk) -> Result<boo
 where
     N: Named + Send + Sync + 'static,
     R: Threads + Wait + Copy + Send + 'static,
-    requires { (fresh.ledger ≡ N.name) × (N.parts ≡ 1025) × (fresh.queue ≡ N.queue) }
+    requires { AreNamed fresh N.name N.parts N.queue }
 {
     let service = opened::<N, R>(rt, alloc, fresh, disk)?;
     let mut client = service.client(rt, alloc)?;
@@ -98,7 +98,7 @@ fn finds<N, R>(rt: &R, alloc: Global, fresh: Fresh, disk: FileDisk) -> Result<bo
 where
     N: Named + Send + Sync + 'static,
     R: Threads + Wait + Copy + Send + 'static,
-    requires { (fresh.ledger ≡ N.name) × (N.parts ≡ 1025) × (fresh.queue ≡ N.queue) }
+    requires { AreNamed fresh N.name N.parts N.queue }
 {
     let service = opened::<N, R>(rt, alloc, fresh, disk)?;
     let mut client = service.client(rt, alloc)?;

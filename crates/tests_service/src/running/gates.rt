@@ -1,11 +1,9 @@
 // A worker that a gate holds: the other one works, and other clients are answered.
 
-ghost use Rattle.std.specs.Prelude.{◌≡◌, ℕ, List};
+ghost use Rattle.tests_service.specs.internal.Named.{IsNamed};
 
 use super::reading::number;
-use super::starting::{
-    ALL, Begun, Fused, SMALL, TWO_FUNCTIONS, alone, both, ended, opened, prepared,
-};
+use super::starting::{ALL, Begun, Fused, adds, alone, both, ended, opened, prepared};
 use cc_pool::Gate;
 use cc_service::{Client, Named};
 use std::alloc::Global;
@@ -15,6 +13,7 @@ use std::sync::{Arc, Wait};
 use std::test::Fail;
 use std::thread;
 use std::thread::Threads;
+use tests_texts::worked::LONG;
 
 // How often a gate that holds lets others go on, at most.
 const TURNS: u64 = 20_000_000;
@@ -101,11 +100,11 @@ fn held_by_a_piece<N, R>(rt: &R, alloc: Global, begun: Begun, gate: Holds) -> Re
 where
     N: Named + Send + Sync + 'static,
     R: Threads + Wait + Copy + Send + 'static,
-    requires { (begun.fresh.ledger ≡ N.name) × (N.parts ≡ 1025) × (begun.fresh.queue ≡ N.queue) × (begun.base ≡ N.base) × (N.from ≡ 0) × ((image : List ℕ) → N.left image) }
+    requires { IsNamed begun.fresh begun.base N.name N.parts N.queue N.base N.from N.left }
 {
     let service = opened::<N, R, Holds>(rt, alloc, begun, 2, gate)?;
     let mut client = service.client(rt, alloc)?;
-    let answer = number(service.add(rt, alloc, &mut client, b"a", TWO_FUNCTIONS));
+    let answer = number(service.add(rt, alloc, &mut client, b"a", LONG.as_bytes()));
     drop(ended(rt, alloc, service, alone(alloc, client)?)?);
     Ok(answer)
 }
@@ -135,7 +134,7 @@ fn held_by_a_client<N, R>(
 where
     N: Named + Send + Sync + 'static,
     R: Threads + Wait + Copy + Send + Sync + 'static,
-    requires { (begun.fresh.ledger ≡ N.name) × (N.parts ≡ 1025) × (begun.fresh.queue ≡ N.queue) × (begun.base ≡ N.base) × (N.from ≡ 0) × ((image : List ℕ) → N.left image) }
+    requires { IsNamed begun.fresh begun.base N.name N.parts N.queue N.base N.from N.left }
 {
     let service = opened::<N, R, Holds>(rt, alloc, begun, 2, gate)?;
     let one = service.client(rt, alloc)?;
@@ -150,21 +149,6 @@ where
     let (other, second) = b;
     drop(ended(rt, alloc, service, both(alloc, one, other)?)?);
     Ok((first, second))
-}
-
-fn adds<N, R>(
-    rt: &R,
-    alloc: Global,
-    service: &Fused<N>,
-    mut client: Client<N>,
-    name: &[u8],
-) -> (Client<N>, u32)
-where
-    N: Named + Send + Sync + 'static,
-    R: Wait,
-{
-    let answer = number(service.add(rt, alloc, &mut client, name, SMALL));
-    (client, answer)
 }
 
 // Adds once the gate holds, and then gives the sign.

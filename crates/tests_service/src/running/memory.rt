@@ -1,16 +1,17 @@
 // An `add` of which a growth is refused. `bench/memory.sh service` refuses each allocation of this test in turn, so one in all.
 
-ghost use Rattle.std.specs.Prelude.{◌≡◌, ℕ, List};
+ghost use Rattle.tests_service.specs.internal.Named.{IsNamed};
 
 use super::reading::number;
-use super::starting::{ALL, Begun, Device, Fused, TWO_FUNCTIONS, alone, ended, opened, prepared};
+use super::starting::{ALL, Begun, Fused, alone, ended, opened, prepared};
 use cc_pool::NoGate;
-use cc_service::{Client, Closed, Named};
+use cc_service::{Client, Named};
 use std::alloc::Global;
 use std::marker::Brand;
 use std::sync::Wait;
 use std::test::Fail;
 use std::thread::Threads;
+use tests_texts::worked::LONG;
 
 #[test]
 fn every_growth_of_an_add(rt: HostRuntime) -> Result<(), Fail> {
@@ -36,11 +37,11 @@ where
     N: Named + Send + Sync + 'static,
     R: Wait,
 {
-    let first = number(service.add(rt, alloc, client, b"a", TWO_FUNCTIONS));
+    let first = number(service.add(rt, alloc, client, b"a", LONG.as_bytes()));
     if first != 0 && (!is_out(first) || client.receipts().len() != 0) {
         return None;
     }
-    let second = number(service.add(rt, alloc, client, b"a", TWO_FUNCTIONS));
+    let second = number(service.add(rt, alloc, client, b"a", LONG.as_bytes()));
     let entries = client.receipts().len();
     let right = if first != 0 {
         second == 0 && entries == 1
@@ -57,30 +58,16 @@ fn is_added<N, R>(rt: &R, alloc: Global, begun: Begun) -> Result<bool, Fail>
 where
     N: Named + Send + Sync + 'static,
     R: Threads + Wait + Copy + Send + 'static,
-    requires { (begun.fresh.ledger ≡ N.name) × (N.parts ≡ 1025) × (begun.fresh.queue ≡ N.queue) × (begun.base ≡ N.base) × (N.from ≡ 0) × ((image : List ℕ) → N.left image) }
+    requires { IsNamed begun.fresh begun.base N.name N.parts N.queue N.base N.from N.left }
 {
     let service = opened::<N, R, NoGate>(rt, alloc, begun, 1, NoGate)?;
     let mut client = service.client(rt, alloc)?;
     let Some(entries) = adds_twice(rt, alloc, &service, &mut client) else {
         return Ok(false);
     };
-    let closed = ended_at_last(rt, alloc, service, alone(alloc, client)?)?;
-    Ok(closed.history.len() == entries && closed.library.list(alloc)?.len() == 1)
-}
-
-// What is left of a service, whose end is asked for again where memory ran out at it.
-fn ended_at_last<N, R>(
-    rt: &R,
-    alloc: Global,
-    service: Fused<N>,
-    clients: Vec<Client<N>>,
-) -> Result<Closed<Device>, Fail>
-where
-    N: Named + Send + Sync + 'static,
-    R: Wait,
-{
-    match service.finish(rt, alloc, clients) {
-        Ok(closed) => Ok(closed),
+    let closed = match service.finish(rt, alloc, alone(alloc, client)?) {
+        Ok(closed) => closed,
+        // The end is asked for again where memory ran out at it.
         Err((fault, service, clients)) => {
             let number = fault.number();
             drop(fault);
@@ -89,7 +76,8 @@ where
                 drop(clients);
                 return Err(Fail::from("another fault"));
             }
-            ended(rt, alloc, service, clients)
+            ended(rt, alloc, service, clients)?
         }
-    }
+    };
+    Ok(closed.history.len() == entries && closed.library.list(alloc)?.len() == 1)
 }

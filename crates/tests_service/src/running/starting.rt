@@ -1,10 +1,12 @@
 // Services that begin on a device.
 
-ghost use Rattle.std.specs.Prelude.{◌≡◌, ◌≤◌, ℕ, List};
+ghost use Rattle.std.specs.Prelude.{◌≡◌, ◌≤◌};
 ghost use Rattle.cc_disk.specs.Model.{bytes_of};
 ghost use Rattle.cc_library.specs.Apply.{Units};
 ghost use Rattle.cc_library.specs.Recovered.{Recovers};
+ghost use Rattle.tests_service.specs.internal.Named.{IsNamed};
 
+use super::reading::number;
 use crate::helpers::{SIZE, formatted, found, opened as opened_library};
 use crate::model::{Model, shows};
 use cc_disk::{FuseDisk, FuseMode, MemoryDisk};
@@ -28,11 +30,8 @@ pub const ALL: u64 = 1 << 40;
 /// How many calls of its device an opening makes.
 pub const OPENING: u64 = 3;
 
-/// A text with one function, and one with two.
+/// A text with one function.
 pub const SMALL: &[u8] = b"int main(void){return 1;}";
-
-pub const TWO_FUNCTIONS: &[u8] =
-    b"int f(int x){return x;}int main(void){int v1=read_word();int v2=read_word();int v3=read_word();int v4=read_word();int v5=read_word();int v6=read_word();int v7=read_word();int v8=read_word();int v9=read_word();int v10=read_word();int v11=read_word();int v12=read_word();int v13=read_word();int v14=read_word();int v15=read_word();int v16=read_word();int v17=read_word();int v18=read_word();int v19=read_word();int v20=read_word();int v21=read_word();int v22=read_word();int v23=read_word();int v24=read_word();write_word(f(0));write_word(v1+v2+v3+v4+v5+v6+v7+v8+v9+v10+v11+v12+v13+v14+v15+v16+v17+v18+v19+v20+v21+v22+v23+v24);}";
 
 /// What a service begins with: a formatted device, its map, and what no type names yet.
 #[derive(Drop)]
@@ -67,7 +66,7 @@ where
     N: Named + Send + Sync + 'static,
     R: Threads + Wait + Copy + Send + 'static,
     G: Gate + Drop + Send + Sync + 'static,
-    requires names { (begun.fresh.ledger ≡ N.name) × (N.parts ≡ 1025) × (begun.fresh.queue ≡ N.queue) × (begun.base ≡ N.base) × (N.from ≡ 0) × ((image : List ℕ) → N.left image) }
+    requires names { IsNamed begun.fresh begun.base N.name N.parts N.queue N.base N.from N.left }
     requires some { 1 ≤ workers }
     requires few { workers ≤ 8 }
 {
@@ -90,6 +89,22 @@ where
             }))
         }
     }
+}
+
+/// The client once it has added the small text under a name, and the number of the answer.
+pub fn adds<N, R>(
+    rt: &R,
+    alloc: Global,
+    service: &Fused<N>,
+    mut client: Client<N>,
+    name: &[u8],
+) -> (Client<N>, u32)
+where
+    N: Named + Send + Sync + 'static,
+    R: Wait,
+{
+    let answer = number(service.add(rt, alloc, &mut client, name, SMALL));
+    (client, answer)
 }
 
 /// What is left of a service that ends with all its clients.

@@ -1,35 +1,11 @@
-// Disks that nobody formatted so.
+// Disks that nobody formatted so. The record of the worked row is a Withdraw of `a`.
 
-use crate::helpers::{bytes_of, disk_of};
+use crate::helpers::{SIZE, bytes_of, disk_of, row_disk};
 use crate::library::helpers::{Step, formatted, opened, recovers, refusal, steps_done};
 use cc_disk::{FuseDisk, FuseMode, MemoryDisk};
 use cc_library::Library;
 use std::alloc::Global;
 use std::test::Fail;
-
-const SIZE: usize = 144;
-
-// A header with areas of 64 bytes, one open record with the body of Withdraw of `a`, and the closed gate.
-const ROW: [u8; 26] = [
-    0x00, 0x43, 0x43, 0x4c, 0x49, 0x42, 0x30, 0x31, 0x40, 0x00, 0x00, 0x00, 0x00, 0x00, 0x00, 0x00,
-    0xa5, 0x04, 0x00, 0x00, 0x00, 0x01, 0x03, 0x01, 0x61, 0x00,
-];
-
-// That disk of 144 bytes, with some of its bytes changed.
-fn row_disk(alloc: Global, changes: &[(usize, u8)]) -> Result<MemoryDisk, Fail> {
-    let mut bytes = vec![in alloc; 0u8; SIZE]?;
-    for (i, byte) in ROW.iter().enumerate() {
-        if i < bytes.len() {
-            bytes[i] = *byte;
-        }
-    }
-    for (offset, byte) in changes {
-        if *offset < bytes.len() {
-            bytes[*offset] = *byte;
-        }
-    }
-    disk_of(alloc, &bytes)
-}
 
 #[test]
 fn each_change_of_the_row(rt: HostRuntime) -> Result<(), Fail> {

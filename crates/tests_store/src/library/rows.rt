@@ -162,13 +162,20 @@ fn a_torn_body_counts_for_nothing(rt: HostRuntime) -> Result<(), Fail> {
     Ok(())
 }
 
-// The row of `compact` over a fuse that passes two calls: the area byte is torn.
+// The library with `a`, closed by a `compact` over a fuse that passes two calls.
+fn cut_off(alloc: Global) -> Result<Library<FuseDisk<MemoryDisk>>, Fail> {
+    let mut library = with_a(alloc, OPENING.saturating_add(2))?;
+    if does(alloc, &mut library, Step::Compact)? != 35 {
+        return Err(Fail::from("the fuse was not met"));
+    }
+    Ok(library)
+}
+
+// The row of that `compact`: the area byte is torn.
 #[test]
 fn a_torn_area_byte_keeps_the_map(rt: HostRuntime) -> Result<(), Fail> {
     let alloc = rt.alloc();
-    let mut library = with_a(alloc, OPENING.saturating_add(2))?;
-    assert!(rt; does(alloc, &mut library, Step::Compact)? == 35);
-    let disk = library.into_disk().into_disk();
+    let disk = cut_off(alloc)?.into_disk().into_disk();
     for byte in 0..=255u8 {
         let crashed = disk.crash(alloc, &[byte])?;
         assert!(rt;
@@ -182,8 +189,7 @@ fn a_torn_area_byte_keeps_the_map(rt: HostRuntime) -> Result<(), Fail> {
 #[test]
 fn a_closed_library_still_answers_from_its_map(rt: HostRuntime) -> Result<(), Fail> {
     let alloc = rt.alloc();
-    let mut library = with_a(alloc, OPENING.saturating_add(2))?;
-    assert!(rt; does(alloc, &mut library, Step::Compact)? == 35);
+    let mut library = cut_off(alloc)?;
     for step in [
         Step::Compact,
         Step::Add(b'b', 2),

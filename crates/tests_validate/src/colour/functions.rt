@@ -1,32 +1,20 @@
 // From a text to a function's RTL without what nobody needs, and to its registers.
 
-use cc_cminor::to_cminor;
+use crate::pairs;
+use crate::pairs::unit_of;
 use cc_colour::colour;
 use cc_live::{drop_faint, liveness};
 use cc_ltl::Ltl;
-use cc_rtl::{RtlPair, to_rtl};
-use cc_syntax::parse;
+use cc_rtl::RtlPair;
 use cc_types::TypedUnit;
-use cc_typing::check;
 use cc_validate::{Refused, validate};
 use std::alloc::Global;
 use std::sync::Arc;
 use std::test::Fail;
 
-/// A text's typed unit.
-pub fn unit_of(alloc: Global, text: &[u8]) -> Result<Arc<TypedUnit>, Fail> {
-    let parsed = parse(alloc, text)?;
-    let unit = check(alloc, parsed)?;
-    Ok(Arc::new(alloc, unit)?)
-}
-
 /// The RTL of one function, without what nobody needs.
 pub fn pair_of(alloc: Global, unit: &Arc<TypedUnit>, function: usize) -> Result<RtlPair, Fail> {
-    if function >= unit.functions() {
-        return Err(Fail::from("no such function"));
-    }
-    let cminor = to_cminor(alloc, unit, function)?;
-    let mut pair = to_rtl(alloc, cminor)?;
+    let mut pair = pairs::pair_of(alloc, unit, function)?;
     drop_faint(alloc, &mut pair)?;
     Ok(pair)
 }

@@ -1,13 +1,14 @@
 // Live sets of other functions: there is an answer, which is accepted or refused with 24.
 
-use super::functions::{pair_of, unit_of};
-use super::texts::WORKED;
+use super::functions::pair_of;
+use crate::pairs::unit_of;
 use cc_colour::colour;
 use cc_live::{Liveness, liveness};
 use cc_ltl::{read_ltl, write_ltl};
 use cc_validate::validate;
 use std::alloc::Global;
 use std::test::Fail;
+use tests_texts::worked::PROGRAMS;
 
 fn live_of(alloc: Global, text: &str) -> Result<Liveness, Fail> {
     let unit = unit_of(alloc, text.as_bytes())?;
@@ -42,9 +43,9 @@ fn is_answered(alloc: Global, text: &str, live: &Liveness) -> Result<bool, Fail>
 
 #[test]
 fn any_live_sets_have_an_answer(rt: HostRuntime) -> Result<(), Fail> {
-    for other in WORKED {
+    for (other, _) in PROGRAMS.iter() {
         let live = live_of(rt.alloc(), other)?;
-        for text in WORKED {
+        for (text, _) in PROGRAMS.iter() {
             assert!(rt; is_answered(rt.alloc(), text, &live)?, "{text}");
         }
     }

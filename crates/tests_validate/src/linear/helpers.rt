@@ -1,24 +1,15 @@
 // A text's functions, as Linear. Their LTL is the allocation that keeps each register in a slot of its own.
 
-use cc_cminor::to_cminor;
+use crate::pairs::{pair_of, unit_of};
 use cc_colour::spill_all;
 use cc_linear::linearise;
 use cc_linear_language::LinearPair;
-use cc_rtl::to_rtl;
-use cc_syntax::parse;
 use cc_types::TypedUnit;
-use cc_typing::check;
 use cc_validate::validate;
-use std::alloc::{AllocError, Global};
+use std::alloc::Global;
 use std::sync::Arc;
 use std::test::Fail;
-
-/// A text's typed unit.
-pub fn shared_unit(alloc: Global, text: &[u8]) -> Result<Arc<TypedUnit>, Fail> {
-    let unit = parse(alloc, text)?;
-    let typed = check(alloc, unit)?;
-    Ok(Arc::new(alloc, typed)?)
-}
+use tests_texts::stages::Stage;
 
 /// The Linear of the function with this number.
 pub fn linear_of(
@@ -26,11 +17,7 @@ pub fn linear_of(
     unit: &Arc<TypedUnit>,
     function: usize,
 ) -> Result<LinearPair, Fail> {
-    if function >= unit.functions() {
-        return Err(Fail::from("no such function"));
-    }
-    let cminor = to_cminor(alloc, unit, function)?;
-    let rtl = to_rtl(alloc, cminor)?;
+    let rtl = pair_of(alloc, unit, function)?;
     let ltl = spill_all(alloc, rtl.code())?;
     match validate(alloc, rtl, ltl) {
         Ok(pair) => Ok(linearise(alloc, pair)?),
@@ -43,7 +30,7 @@ pub fn linear_of(
 
 /// Whether each function of a text goes through, names itself and its unit, and there are this many.
 pub fn all_go_through(alloc: Global, text: &[u8], functions: usize) -> Result<bool, Fail> {
-    let unit = shared_unit(alloc, text)?;
+    let unit = unit_of(alloc, text)?;
     let mut right = unit.functions() == functions;
     for function in 0..functions {
         let pair = linear_of(alloc, &unit, function)?;
@@ -59,8 +46,8 @@ pub fn all_go_through(alloc: Global, text: &[u8], functions: usize) -> Result<bo
 }
 
 /// The text of the Linear of one function.
-pub fn text_of_function(alloc: Global, text: &str, function: usize) -> Result<String, Fail> {
-    let unit = shared_unit(alloc, text.as_bytes())?;
+pub fn text_of_function(alloc: Global, text: &[u8], function: usize) -> Result<String, Fail> {
+    let unit = unit_of(alloc, text)?;
     let pair = linear_of(alloc, &unit, function)?;
     let shown = pair.to_string(alloc)?;
     drop(pair);
@@ -68,21 +55,15 @@ pub fn text_of_function(alloc: Global, text: &str, function: usize) -> Result<St
     Ok(shown)
 }
 
-/// A part of a text, and how often it stands there.
-pub type Part<'a> = (&'a str, usize);
+/// The way to Linear.
+pub struct LinearStage;
 
-fn append(text: &mut Vec<u8>, part: &str, times: usize) -> Result<(), AllocError> {
-    for _ in 0..times {
-        text.extend_from_slice(part.as_bytes())?;
+impl Stage for LinearStage {
+    fn all_go_through(alloc: Global, text: &[u8], functions: usize) -> Result<bool, Fail> {
+        all_go_through(alloc, text, functions)
     }
-    Ok(())
-}
 
-/// The text of these parts.
-pub fn text_of(alloc: Global, parts: &[Part<'_>]) -> Result<Vec<u8>, AllocError> {
-    let mut text = Vec::new(alloc);
-    for (part, times) in parts {
-        append(&mut text, part, *times)?;
+    fn text_of(alloc: Global, text: &[u8], function: usize) -> Result<Option<String>, Fail> {
+        Ok(Some(text_of_function(alloc, text, function)?))
     }
-    Ok(text)
 }

@@ -1,7 +1,8 @@
 // The largest functions go through.
 
-use super::helpers::{Part, all_go_through, text_of};
+use super::helpers::all_go_through;
 use std::test::Fail;
+use tests_texts::parts::{Part, text_of};
 
 /// The parts of functions of some 4,000 nodes, and how many functions the text has. What stands in a `main`: 1,364 writes and a read are
 /// 4,096 nodes, the most that a function may have.

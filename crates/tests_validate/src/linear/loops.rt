@@ -1,6 +1,7 @@
 // What the turns of loops execute: the items from a label to a branch back to it hold the loop's own test, and those of what stands within.
 
-use super::helpers::{linear_of, shared_unit};
+use super::helpers::linear_of;
+use crate::pairs::unit_of;
 use cc_linear_language::LinearItem;
 use std::alloc::Global;
 use std::test::Fail;
@@ -51,7 +52,7 @@ fn are_turns(items: &[LinearItem], turns: &[Turn]) -> bool {
 
 // Whether the last function of a text has these turns.
 fn has_turns(alloc: Global, text: &str, turns: &[Turn]) -> Result<bool, Fail> {
-    let unit = shared_unit(alloc, text.as_bytes())?;
+    let unit = unit_of(alloc, text.as_bytes())?;
     let pair = linear_of(alloc, &unit, unit.functions().saturating_sub(1))?;
     let right = are_turns(pair.code(), turns);
     drop(pair);

@@ -1,9 +1,9 @@
 // The text of the Linear of whole functions, worked by hand from the rules in `docs/INTERMEDIATE.md`: the nodes of RTL, the blocks that
 // stand for them with each register in its slot, and the order of blocks.
 
-use super::helpers::text_of_function;
-use std::alloc::Global;
+use super::helpers::LinearStage;
 use std::test::Fail;
+use tests_texts::stages::first_unlike;
 
 /// A text, the number of a function, and the text of its Linear.
 static SHOWN: [(&str, usize, &str); 4] = [
@@ -94,19 +94,11 @@ static SHOWN: [(&str, usize, &str); 4] = [
     ),
 ];
 
-// Whether the Linear of a function of a text has these lines.
-fn shows(alloc: Global, text: &str, function: usize, lines: &str) -> Result<bool, Fail> {
-    let shown = text_of_function(alloc, text, function)?;
-    let same = shown.as_str() == lines;
-    drop(shown);
-    Ok(same)
-}
-
 #[test]
 fn texts_of_functions(rt: HostRuntime) -> Result<(), Fail> {
-    for (text, function, lines) in SHOWN.iter() {
-        let right = shows(rt.alloc(), text, *function, lines)?;
-        assert!(rt; right, "{text} {function}");
-    }
+    assert_eq!(rt;
+        first_unlike::<LinearStage>(rt.alloc(), SHOWN.as_slice())?,
+        None
+    );
     Ok(())
 }

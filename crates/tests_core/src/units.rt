@@ -1,10 +1,11 @@
 // Commits of compiled units, what refuses them, and crashes.
 
-use super::script::Line::{
-    Ack, Add, Begin, Crash, Done, Recover, Refuse, Replace, SyncBody, SyncGate, Take, Withdraw,
-    WriteBody, WriteGate,
+use crate::compiled::leaves;
+use crate::script::Line::{
+    Ack, Add, Begin, Commit, Crash, Done, Make, Recover, Refuse, Replace, SyncBody, SyncGate, Take,
+    Withdraw, WriteBody, WriteGate,
 };
-use super::script::{Line, events, leaves};
+use crate::script::{Line, events};
 use cc_core::state::State;
 use cc_headline::{CcBuild, run};
 use std::alloc::Global;
@@ -50,19 +51,18 @@ const TWO_CLIENTS: [(Line, u32); 20] = [
 fn two_clients_add_one_name(rt: HostRuntime) -> Result<(), Fail> {
     let alloc = rt.alloc();
     let state = State::new(alloc, CcBuild {}, 4000)?;
-    assert!(rt; leaves(alloc, state, &TWO_CLIENTS, b'a', Some((FACTORIAL, 720)))?);
+    assert!(rt; leaves(alloc, state, &TWO_CLIENTS, Some((FACTORIAL, 720)))?);
     Ok(())
 }
 
 // A source's own fault, a function's, and the map's; then one unit in another's place, and none.
-const REFUSED: [(Line, u32); 27] = [
+const REFUSED: [(Line, u32); 19] = [
     (Add(1, b'a', BROKEN), 0),
     (Begin(1), 5),
     (Add(1, b'a', UNKNOWN), 0),
     (Begin(1), 11),
     (Replace(1, b'a', SEVEN), 0),
-    (Take(1, 1, 0), 0),
-    (Done(1, SEVEN, 0), 0),
+    (Make(1, 1, SEVEN), 0),
     (Begin(1), 32),
     (Add(1, b'a', FACTORIAL), 0),
     (Take(1, 1, 1), 0),
@@ -71,17 +71,10 @@ const REFUSED: [(Line, u32); 27] = [
     (Refuse(2, 22), 0),
     (Begin(1), 22),
     (Add(1, b'a', SEVEN), 0),
-    (Take(1, 1, 0), 0),
-    (Done(1, SEVEN, 0), 0),
-    (Begin(1), 0),
-    (WriteBody, 0),
-    (SyncBody, 0),
-    (WriteGate, 0),
-    (SyncGate, 0),
-    (Ack(1), 1),
+    (Make(1, 1, SEVEN), 0),
+    (Commit(1), 1),
     (Add(2, b'a', SEVEN), 0),
-    (Take(1, 2, 0), 0),
-    (Done(1, SEVEN, 0), 0),
+    (Make(1, 2, SEVEN), 0),
     (Begin(2), 31),
 ];
 
@@ -89,21 +82,15 @@ const REFUSED: [(Line, u32); 27] = [
 fn refused(rt: HostRuntime) -> Result<(), Fail> {
     let alloc = rt.alloc();
     let state = State::new(alloc, CcBuild {}, 4000)?;
-    assert!(rt; leaves(alloc, state, &REFUSED, b'a', Some((SEVEN, 42)))?);
+    assert!(rt; leaves(alloc, state, &REFUSED, Some((SEVEN, 42)))?);
     Ok(())
 }
 
 // The unit is acknowledged; then another is to take its place.
-const REPLACED: [Line; 16] = [
+const REPLACED: [Line; 10] = [
     Add(1, b'a', SEVEN),
-    Take(1, 1, 0),
-    Done(1, SEVEN, 0),
-    Begin(1),
-    WriteBody,
-    SyncBody,
-    WriteGate,
-    SyncGate,
-    Ack(1),
+    Make(1, 1, SEVEN),
+    Commit(1),
     Replace(1, b'a', FACTORIAL),
     Take(1, 1, 0),
     Take(2, 1, 1),
@@ -115,7 +102,7 @@ const REPLACED: [Line; 16] = [
 
 // The state after the first of these events.
 fn played(alloc: Global, lines: &[Line]) -> Result<State<CcBuild>, Fail> {
-    let events = events(alloc, lines)?;
+    let events = events::<CcBuild>(alloc, lines)?;
     let state = State::new(alloc, CcBuild {}, 4000)?;
     Ok(run(alloc, state, events)?)
 }
@@ -127,7 +114,7 @@ fn crash_before_the_gate(rt: HostRuntime) -> Result<(), Fail> {
     for byte in [0x00, 0x5a, 0xa5, 0xff] {
         let state = played(alloc, &REPLACED)?;
         let last = [(Crash(byte), 0), (Recover, 0)];
-        assert!(rt; leaves(alloc, state, &last, b'a', Some((SEVEN, 42)))?);
+        assert!(rt; leaves(alloc, state, &last, Some((SEVEN, 42)))?);
     }
     Ok(())
 }
@@ -144,7 +131,7 @@ fn crash_in_the_gate(rt: HostRuntime) -> Result<(), Fail> {
             (Crash(byte), 0),
             (Recover, 0),
         ];
-        assert!(rt; leaves(alloc, state, &last, b'a', Some(wanted))?);
+        assert!(rt; leaves(alloc, state, &last, Some(wanted))?);
     }
     Ok(())
 }
@@ -153,18 +140,13 @@ fn crash_in_the_gate(rt: HostRuntime) -> Result<(), Fail> {
 #[test]
 fn withdrawn(rt: HostRuntime) -> Result<(), Fail> {
     let alloc = rt.alloc();
-    let state = played(alloc, &REPLACED[..9])?;
+    let state = played(alloc, &REPLACED[..3])?;
     let last = [
         (Withdraw(1, b'a'), 0),
-        (Begin(1), 0),
-        (WriteBody, 0),
-        (SyncBody, 0),
-        (WriteGate, 0),
-        (SyncGate, 0),
-        (Ack(1), 1),
+        (Commit(1), 1),
         (Crash(0xa5), 0),
         (Recover, 0),
     ];
-    assert!(rt; leaves(alloc, state, &last, b'a', None)?);
+    assert!(rt; leaves(alloc, state, &last, None)?);
     Ok(())
 }

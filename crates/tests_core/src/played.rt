@@ -1,0 +1,96 @@
+// Scripts over the build of few pieces, and what they leave.
+
+ghost use Rattle.std.specs.Prelude.{◌≤◌, ◌^◌};
+
+use crate::builds::FewPieces;
+use crate::piece::certified;
+use crate::script::{Line, answers, events, name_of};
+use cc_core::state::{State, run_events};
+use cc_library::UnitMap;
+use cc_unit::StoredUnit;
+use std::alloc::Global;
+use std::test::Fail;
+
+pub const ONE: &str = "one";
+
+pub const TWO: &str = "two";
+
+/// What a state is to have: the sources of `a`, `b` and `c`, and how many commands were acknowledged.
+pub type Held = (
+    Option<&'static str>,
+    Option<&'static str>,
+    Option<&'static str>,
+    usize,
+);
+
+// Whether the unit is the one of this source.
+fn is_of(unit: &StoredUnit, source: &[u8]) -> bool {
+    let certificate = match (&unit.certificate, certified(source)) {
+        (None, None) => true,
+        (Some(certificate), Some(count)) => certificate.bytes().len() == count,
+        _ => false,
+    };
+    certificate && unit.source.bytes() == source
+}
+
+// Whether the name has the unit of this source, or none.
+fn has(library: &UnitMap, letter: u8, wanted: Option<&str>) -> Result<bool, Fail> {
+    let name = name_of(letter)?;
+    Ok(match (library.get(&name), wanted) {
+        (None, None) => true,
+        (Some(unit), Some(source)) => is_of(unit, source.as_bytes()),
+        _ => false,
+    })
+}
+
+// Whether the state has these.
+fn holds(state: &State<FewPieces>, wanted: &Held) -> Result<bool, Fail> {
+    let (a, b, c, acknowledged) = *wanted;
+    let library = state.library();
+    Ok(
+        has(library, b'a', a)?
+            && has(library, b'b', b)?
+            && has(library, b'c', c)?
+            && state.acked().len() == acknowledged,
+    )
+}
+
+/// Whether these events from that state on, one after the other, answer so, and leave these.
+pub fn leaves(
+    alloc: Global,
+    mut state: State<FewPieces>,
+    lines: &[(Line, u32)],
+    wanted: &Held,
+) -> Result<bool, Fail> {
+    let right = answers(alloc, &mut state, lines)? && holds(&state, wanted)?;
+    drop(state);
+    Ok(right)
+}
+
+/// Whether these events from a new state on, with areas of that many bytes, answer so, and leave these.
+pub fn begins(alloc: Global, area: u32, lines: &[(Line, u32)], wanted: &Held) -> Result<bool, Fail>
+    requires least { 64 ≤ area }
+    requires most { area ≤ 2 ^ 30 }
+{
+    leaves(alloc, fresh(alloc, area)?, lines, wanted)
+}
+
+/// Whether the events of the first lines, whatever they answer, leave a state from which the others answer so, and leave these.
+pub fn goes_on(
+    alloc: Global,
+    first: &[Line],
+    lines: &[(Line, u32)],
+    wanted: &Held,
+) -> Result<bool, Fail> {
+    let events = events::<FewPieces>(alloc, first)?;
+    let state = run_events(alloc, fresh(alloc, 200)?, events)?;
+    leaves(alloc, state, lines, wanted)
+}
+
+// A new state on a disk with areas of that many bytes.
+fn fresh(alloc: Global, area: u32) -> Result<State<FewPieces>, Fail>
+    requires least { 64 ≤ area }
+    requires most { area ≤ 2 ^ 30 }
+{
+    Ok(State::new(alloc, FewPieces {}, area)?)
+}

@@ -1,0 +1,14 @@
+-- What the parameter of a test's service names.
+use Rattle.std.specs.Prelude.{ℕ, ◌≡◌, List}
+use Rattle.cc_library.specs.Apply.{Units}
+use Rattle.cc_pool.specs.Queue.{QueueName}
+use Rattle.cc_service.specs.Named.{Names}
+
+-- this ledger, in a part for each of 1,024 clients and one more, and this queue
+abbrev pub AreNamed : (fresh : Names) (name parts : ℕ) (queue : QueueName) → Type 0
+AreNamed fresh name parts queue = (fresh.ledger ≡ name) × (parts ≡ 1025) × (fresh.queue ≡ queue)
+
+-- these, the map that was found, and the disk's first moment, of which nothing is said
+abbrev pub IsNamed : (fresh : Names) (found : Units) (name parts : ℕ) (queue : QueueName) (base : Units) (from : ℕ) (left : List ℕ → Type 0) → Type 0
+IsNamed fresh found name parts queue base from left =
+    AreNamed fresh name parts queue × (found ≡ base) × (from ≡ 0) × ((image : List ℕ) → left image)

@@ -1,0 +1,48 @@
+// What the tests of a stage of the compiler ask of it.
+
+use crate::worked::PROGRAMS;
+use std::alloc::Global;
+use std::test::Fail;
+
+/// A stage that makes functions of its language of a text.
+pub trait Stage {
+    /// Whether each function of a text goes through, and there are this many.
+    fn all_go_through(alloc: Global, text: &[u8], functions: usize) -> Result<bool, Fail>;
+
+    /// The text of what one function comes to; nothing where it does not go through.
+    fn text_of(alloc: Global, text: &[u8], function: usize) -> Result<Option<String>, Fail>;
+}
+
+/// The first of the worked programs of which a function does not go through.
+pub fn first_stopped<S: Stage>(alloc: Global) -> Result<Option<&'static str>, Fail> {
+    for (text, functions) in PROGRAMS.iter() {
+        if !S::all_go_through(alloc, text.as_bytes(), *functions)? {
+            return Ok(Some(*text));
+        }
+    }
+    Ok(None)
+}
+
+// Whether a function of a text comes to these lines.
+fn shows<S: Stage>(alloc: Global, text: &str, function: usize, lines: &str) -> Result<bool, Fail> {
+    match S::text_of(alloc, text.as_bytes(), function)? {
+        Some(shown) => Ok(shown.as_str() == lines),
+        None => Ok(false),
+    }
+}
+
+/// A text, the number of a function, and the lines that it comes to.
+pub type Shown = (&'static str, usize, &'static str);
+
+/// The first of these that comes to other lines: its text and the function.
+pub fn first_unlike<S: Stage>(
+    alloc: Global,
+    wanted: &[Shown],
+) -> Result<Option<(&'static str, usize)>, Fail> {
+    for (text, function, lines) in wanted {
+        if !shows::<S>(alloc, text, *function, lines)? {
+            return Ok(Some((*text, *function)));
+        }
+    }
+    Ok(None)
+}
