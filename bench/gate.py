@@ -135,7 +135,7 @@ def tell_chain():
         for line in file:
             cells = [it.strip() for it in line.strip("| \n").split("|")]
             if len(cells) == 10 and cells[1].isdigit():
-                found[cells[0]] = [float(it) for it in cells[1:]]
+                found[cells[0]] = [float(it or 0) for it in cells[1:]]
     unknown = sorted(set(names) - set(found))
     proof = lambda it: found[it][1] if it in found else 0
     seconds, crates = longest(names, proof, lambda it: found[it][7] - found[it][1] if it in found else 0)
@@ -170,7 +170,7 @@ class Row:
 
     def text(self):
         numbers = f"{self.lines:6} | {self.proof:4.0f} | {self.tests:5.0f} | {self.count:5} | {self.first:5.0f} | {self.each:4.1f} | {self.again:4.1f} | {self.whole:5.0f} | {self.wall:5.0f}"
-        return f"| {self.name:15} | {numbers} |"
+        return re.sub(r"(?<=\|) +0(?:\.0)? (?=\|)", lambda it: " " * len(it[0]), f"| {self.name:15} | {numbers} |")
 
 
 def main(folder):
