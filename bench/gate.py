@@ -16,7 +16,6 @@ repository that the script stands in), whose text above stays:
     e       each further edit, on average
     n       a check that changes nothing, which the gate makes after the edits
     sum     all of these
-    proof   the wall clock's seconds that the proof took, beside others
 
 and after them the sum of all, the wall clock's time, and the longest chain: the proofs of crates that wait for one another,
 and the tests and edits of the last of them. The gate takes no less than its longest chain, nor than the sum by the number of
@@ -38,8 +37,7 @@ HEAD = "## The table\n"
 WORDS = """
 Written by `bench/gate.py` on {day}: one whole run of the gate in a fresh clone, from scratch. Seconds of
 processor: P a whole proof from scratch, `tests` the proof of the crate's tests, `first` the first must-fail edit, e
-each further one on average, n a check that changes nothing, `sum` all of these; `proof` is the wall clock's seconds of
-the proof beside others.
+each further one on average, n a check that changes nothing, `sum` all of these. A blank: none.
 
 """
 
@@ -134,7 +132,7 @@ def tell_chain():
     with open(f"{TOP}/docs/GATE.md", encoding="utf-8") as file:
         for line in file:
             cells = [it.strip() for it in line.strip("| \n").split("|")]
-            if len(cells) == 10 and cells[1].isdigit():
+            if len(cells) == 9 and cells[1].isdigit():
                 found[cells[0]] = [float(it or 0) for it in cells[1:]]
     unknown = sorted(set(names) - set(found))
     proof = lambda it: found[it][1] if it in found else 0
@@ -169,8 +167,8 @@ class Row:
         self.wall, self.edits_wall = span(proof), span([it for it in own if it.is_edit])
 
     def text(self):
-        numbers = f"{self.lines:6} | {self.proof:4.0f} | {self.tests:5.0f} | {self.count:5} | {self.first:5.0f} | {self.each:4.1f} | {self.again:4.1f} | {self.whole:5.0f} | {self.wall:5.0f}"
-        return re.sub(r"(?<=\|) +0(?:\.0)? (?=\|)", lambda it: " " * len(it[0]), f"| {self.name:15} | {numbers} |")
+        numbers = f"{self.lines:6} | {self.proof:4.0f} | {self.tests:5.0f} | {self.count:5} | {self.first:5.0f} | {self.each:4.1f} | {self.again:4.1f} | {self.whole:5.0f}"
+        return re.sub(r"(?<=\|) +0(?:\.0)? (?=\|)", lambda it: " " * len(it[0]), f"| {self.name:20} | {numbers} |")
 
 
 def main(folder):
@@ -182,7 +180,7 @@ def main(folder):
     passed, wall, processes = watch(folder)
     names = below(folder)
     rows = {name: Row(folder, name, processes) for name in names}
-    said = ["| crate           |  lines |    P | tests | edits | first |    e |    n |   sum | proof |", "|---|---|---|---|---|---|---|---|---|---|"]
+    said = ["| crate                |  lines |    P | tests | edits | first |    e |    n |   sum |", "|---|---|---|---|---|---|---|---|---|"]
     said += [row.text() for row in rows.values()]
     seconds, chain = longest(names, lambda it: rows[it].wall, lambda it: rows[it].edits_wall)
     said += [
