@@ -2,6 +2,7 @@
 use Rattle.std.proofs.Common.{◌≡◌, ℕ, zero, suc, ◌+◌, ◌<◌, Bool, true, false, List, [], ◌∷◌, ◌++◌, length, map, Option, Some, refl, sym, ap, ◌∙◌, subst, arith}
 use Rattle.std.specs.Prelude.{slice_get}
 use Rattle.std.specs.FinMap.{empty}
+use Rattle.cc_disk.specs.declared.disk.Disk.{Ghosts}
 use Rattle.cc_disk.specs.Images.{LeavesAlone}
 use Rattle.cc_disk.specs.Model.{bytes_of, IsImage, settled}
 use Rattle.cc_journal.specs.Format.{HoldsRecords, records}
@@ -62,14 +63,18 @@ settled_alone [] (x ∷ image) here = absurd here
 settled_alone (b ∷ l) [] here = absurd here
 settled_alone (b ∷ l) (x ∷ image) here = (λ i. here.0 refl i ∷ settled_alone l image here.1 i)
 
-module _ {D P : Type 0} (seen : D → List ℕ) (may_leave : D → List ℕ → Type 0) where
+-- the same kind of disk, taken as honest
+abbrev pub honest_kind : {Disk : Type 0} → Ghosts Disk → Ghosts Disk
+honest_kind D = record D { honest = true }
+
+module _ {Disk P : Type 0} (D : Ghosts Disk) where
   -- on an honest disk it is a beginning of the core, where the units found are right
-  pub begins : (book : BookView D) → book.history ≡ [] → book.failed ≡ [] → book.library.closed ≡ false → book.base ≡ book.library.units → StandFor book.library.bodies book.library.units
-      → HoldsRecords (seen book.library.disk) book.library.area book.library.bodies → LeavesAlone (seen book.library.disk) (may_leave book.library.disk)
-      → (s : Contents P) × Shows true seen may_leave book s × IsOpened s
+  pub begins : (book : BookView Disk) → book.history ≡ [] → book.failed ≡ [] → book.library.closed ≡ false → book.base ≡ book.library.units → StandFor book.library.bodies book.library.units
+      → HoldsRecords (D.seen book.library.disk) book.library.area book.library.bodies → LeavesAlone (D.seen book.library.disk) (D.may_leave book.library.disk)
+      → (s : Contents P) × Shows (honest_kind D) book s × IsOpened s
   begins book none none_failed idle same stand holds alone =
       let view = book.library in
-      let bytes = seen view.disk in
+      let bytes = D.seen view.disk in
       let order = numbered_from 0 stand.commands in
       let store : StoreState = record { cells = map settled bytes; area_byte = holds.area_byte; area = view.area; used = length (records view.bodies) } in
       let s : Contents P = record {
@@ -123,31 +128,31 @@ module _ {D P : Type 0} (seen : D → List ℕ) (may_leave : D → List ℕ → 
 
 -- ---- what goes on beside commits
 
-pub same_core : {D P : Type 0} (honest : Bool) (seen : D → List ℕ) (may_leave : D → List ℕ → Type 0) (book : BookView D) (old new : Contents P) → new.core ≡ old.core → Shows honest seen may_leave book old → Shows honest seen may_leave book new
-same_core honest seen may_leave book old new same shows = record {
+pub same_core : {Disk P : Type 0} (D : Ghosts Disk) (book : BookView Disk) (old new : Contents P) → new.core ≡ old.core → Shows D book old → Shows D book new
+same_core D book old new same shows = record {
   library = ap (λ (c : Core). c.library) same ∙ shows.library;
   order = subst (λ (c : Core). ShowsOrder book c.order c.acknowledged) (sym same) shows.order;
   phase = subst (λ (c : Core). IsPhase book.library.closed book.failed c.phase) (sym same) shows.phase;
-  disk = subst (λ (c : Core). ShowsDisk honest seen may_leave book.library c.store) (sym same) shows.disk;
+  disk = subst (λ (c : Core). ShowsDisk D book.library c.store) (sym same) shows.disk;
 }
 
 -- handing in a job, taking a piece and its result leave the core, and so what a book shows
-pub beside : {D P : Type 0} (rules : Rules P) (honest : Bool) (seen : D → List ℕ) (may_leave : D → List ℕ → Type 0) (book : BookView D) (old new : Contents P) (event : Event P) (reply : Option Reply)
-    → IsBeside event → Step rules old event reply new → Shows honest seen may_leave book old → Shows honest seen may_leave book new
-beside rules honest seen may_leave book old new (events.Submit client call request) reply is step shows = same_core honest seen may_leave book old new (ap (λ (s : Contents _). s.core) step.new_is) shows
-beside rules honest seen may_leave book old new (events.Take worker client part) reply is step shows = same_core honest seen may_leave book old new (ap (λ (s : Contents _). s.core) step.new_is) shows
-beside rules honest seen may_leave book old new (events.Done worker piece) reply is step shows = same_core honest seen may_leave book old new (ap (λ (s : Contents _). s.core) step.new_is) shows
-beside rules honest seen may_leave book old new (events.Refuse worker number) reply is step shows = same_core honest seen may_leave book old new (ap (λ (s : Contents _). s.core) step.new_is) shows
-beside rules honest seen may_leave book old new (events.Begin client) reply is step shows = absurd is
-beside rules honest seen may_leave book old new events.WriteBody reply is step shows = absurd is
-beside rules honest seen may_leave book old new events.SyncBody reply is step shows = absurd is
-beside rules honest seen may_leave book old new events.WriteGate reply is step shows = absurd is
-beside rules honest seen may_leave book old new events.SyncGate reply is step shows = absurd is
-beside rules honest seen may_leave book old new events.RewriteAll reply is step shows = absurd is
-beside rules honest seen may_leave book old new events.SyncAll reply is step shows = absurd is
-beside rules honest seen may_leave book old new events.WriteArea reply is step shows = absurd is
-beside rules honest seen may_leave book old new events.SyncArea reply is step shows = absurd is
-beside rules honest seen may_leave book old new events.Fail reply is step shows = absurd is
-beside rules honest seen may_leave book old new (events.Ack client) reply is step shows = absurd is
-beside rules honest seen may_leave book old new (events.Crash choice) reply is step shows = absurd is
-beside rules honest seen may_leave book old new events.Recover reply is step shows = absurd is
+pub beside : {Disk P : Type 0} (rules : Rules P) (D : Ghosts Disk) (book : BookView Disk) (old new : Contents P) (event : Event P) (reply : Option Reply)
+    → IsBeside event → Step rules old event reply new → Shows D book old → Shows D book new
+beside rules D book old new (events.Submit client call request) reply is step shows = same_core D book old new (ap (λ (s : Contents _). s.core) step.new_is) shows
+beside rules D book old new (events.Take worker client part) reply is step shows = same_core D book old new (ap (λ (s : Contents _). s.core) step.new_is) shows
+beside rules D book old new (events.Done worker piece) reply is step shows = same_core D book old new (ap (λ (s : Contents _). s.core) step.new_is) shows
+beside rules D book old new (events.Refuse worker number) reply is step shows = same_core D book old new (ap (λ (s : Contents _). s.core) step.new_is) shows
+beside rules D book old new (events.Begin client) reply is step shows = absurd is
+beside rules D book old new events.WriteBody reply is step shows = absurd is
+beside rules D book old new events.SyncBody reply is step shows = absurd is
+beside rules D book old new events.WriteGate reply is step shows = absurd is
+beside rules D book old new events.SyncGate reply is step shows = absurd is
+beside rules D book old new events.RewriteAll reply is step shows = absurd is
+beside rules D book old new events.SyncAll reply is step shows = absurd is
+beside rules D book old new events.WriteArea reply is step shows = absurd is
+beside rules D book old new events.SyncArea reply is step shows = absurd is
+beside rules D book old new events.Fail reply is step shows = absurd is
+beside rules D book old new (events.Ack client) reply is step shows = absurd is
+beside rules D book old new (events.Crash choice) reply is step shows = absurd is
+beside rules D book old new events.Recover reply is step shows = absurd is

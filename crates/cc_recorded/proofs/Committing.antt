@@ -33,13 +33,13 @@ pub agreed-push : (history : List Entry) (entry : Entry) → HaveAgreed history 
 agreed-push history entry old new k found at =
     elim (snoc_cases history entry found k at) [ inl a ↦ old k found a.1 | inr b ↦ subst (λ (e : Entry). HasAgreedUnit e.asked) (sym b.1) new ]
 
-module _ {D : Type 0} where
+module _ {Disk : Type 0} where
   -- the book with one entry more, over this library
-  abbrev pub entered : BookView D → View D → Receipt → BookView D
+  abbrev pub entered : BookView Disk → View Disk → Receipt → BookView Disk
   entered before library receipt = record before { library = library; history = before.history ++ receipt.entry ∷ [] }
 
   -- the entry of a call is put behind the history: with the library's new map, all is as the call leaves it
-  pub enters : RecordsKeep → (before : BookView D) (library : View D) (old : Holder) (asked : Asked) (answer : Reply) (receipt : Receipt)
+  pub enters : RecordsKeep → (before : BookView Disk) (library : View Disk) (old : Holder) (asked : Asked) (answer : Reply) (receipt : Receipt)
       → Replays (chronicle_of before) → IsOwn old → LastStands before.history old.receipts → answer ≡ reply_of before.library.units asked
       → receipt.number ≡ length before.history + 1 → receipt.entry ≡ entry_of old asked answer → library.units ≡ after_all before.library.units (changes_of asked answer)
       → IsRecorded (chronicle_of before) old asked answer (chronicle_of (entered before library receipt)) (holder_of old receipt) receipt
@@ -51,11 +51,11 @@ module _ {D : Type 0} where
       subst (λ (c : Chronicle). IsRecorded (chronicle_of before) old asked answer c (holder_of old receipt) receipt × Replays c × IsOwn (holder_of old receipt)) next made
 
   -- the book's type keeps what it keeps
-  pub keeps_entered : (honest : Bool) (may_leave : D → List ℕ → Type 0) (named : Units) (total total' : ℕ) (before : BookView D) (library : View D) (receipt : Receipt)
-      → IsRecordedLibrary honest may_leave named total before → Replays (chronicle_of (entered before library receipt)) → HasAgreedUnit receipt.entry.asked → total' ≡ total + 1
-      → library.closed ≡ before.library.closed → (IsTrue honest → (image : List ℕ) → may_leave library.disk image → RecoversTo library.units before.failed image)
-      → IsRecordedLibrary honest may_leave named total' (entered before library receipt)
-  keeps_entered honest may_leave named total total' before library receipt book replays agreed counted phase images = record {
+  pub keeps_entered : (D : Ghosts Disk) (named : Units) (total total' : ℕ) (before : BookView Disk) (library : View Disk) (receipt : Receipt)
+      → IsRecordedLibrary D named total before → Replays (chronicle_of (entered before library receipt)) → HasAgreedUnit receipt.entry.asked → total' ≡ total + 1
+      → library.closed ≡ before.library.closed → (IsTrue D.honest → (image : List ℕ) → D.may_leave library.disk image → RecoversTo library.units before.failed image)
+      → IsRecordedLibrary D named total' (entered before library receipt)
+  keeps_entered D named total total' before library receipt book replays agreed counted phase images = record {
     replays = replays;
     agreed = agreed-push before.history receipt.entry book.agreed agreed;
     agreed_failed = book.agreed_failed;
@@ -77,25 +77,25 @@ keeps_client old receipt parts amount parts' amount' client part counted own = r
 -- ---- no device call
 
 -- while nothing is done, a crash leaves the map
-pub still : {D : Type 0} (moment : D → ℕ) (may_leave : D → List ℕ → Type 0) (left_since : D → ℕ → List ℕ → Type 0) (disk : D) (units units' : Units)
-    → ((image : List ℕ) → left_since disk (moment disk) image → may_leave disk image) → ((image : List ℕ) → may_leave disk image → RecoversAlone image units)
-    → LeavesOnly moment left_since disk disk (RecoversOneOf units units')
-still moment may_leave left_since disk units units' only_now alone = record {
+pub still : {Disk : Type 0} (D : Ghosts Disk) (disk : Disk) (units units' : Units)
+    → ((image : List ℕ) → D.left_since disk (D.moment disk) image → D.may_leave disk image) → ((image : List ℕ) → D.may_leave disk image → RecoversAlone image units)
+    → LeavesOnly D.moment D.left_since disk disk (RecoversOneOf units units')
+still D disk units units' only_now alone = record {
   later = omega arith;
   each = λ image left. inl (alone image (only_now image left));
   before = λ t image le left. inl left;
 }
 
 -- while idle every image recovers to the map
-pub alone_of : {D : Type 0} (honest : Bool) (may_leave : D → List ℕ → Type 0) (named : Units) (total : ℕ) (book : BookView D)
-    → IsRecordedLibrary honest may_leave named total book → book.library.closed ≡ false → IsTrue honest → (image : List ℕ) → may_leave book.library.disk image → RecoversAlone image book.library.units
-alone_of honest may_leave named total book kept idle h image left =
+pub alone_of : {Disk : Type 0} (D : Ghosts Disk) (named : Units) (total : ℕ) (book : BookView Disk)
+    → IsRecordedLibrary D named total book → book.library.closed ≡ false → IsTrue D.honest → (image : List ℕ) → D.may_leave book.library.disk image → RecoversAlone image book.library.units
+alone_of D named total book kept idle h image left =
     subst (λ (failed : List made.LibraryCommand). RecoversTo book.library.units failed image) (kept.idle idle) (kept.images h image left)
 
 -- ---- what the library answered
 
 -- a refusal without a device call leaves the library
-pub untouched : {D : Type 0} (change : made.LibraryCommand) (old new : View D) (f : LibraryFault) → f ≢ fault.DiskFault → answers.ChangeLeaves {T = Unit {0}} change old new (Err f) → new ≡ old
+pub untouched : {Disk : Type 0} (change : made.LibraryCommand) (old new : View Disk) (f : LibraryFault) → f ≢ fault.DiskFault → answers.ChangeLeaves {T = Unit {0}} change old new (Err f) → new ≡ old
 untouched change old new fault.DiskFault away leaves = absurd (away refl)
 untouched change old new fault.Closed away leaves = leaves
 untouched change old new fault.Exists away leaves = leaves
@@ -118,21 +118,21 @@ done_is_ok (Err number) is = absurd (not_done (number == 31) is)
 
 -- The book and the client after a call whose entry was put, over this library: their types keep what they keep, and the call is
 -- recorded.
-pub entering : RecordsKeep → {D : Type 0} (honest : Bool) (may_leave : D → List ℕ → Type 0) (named : Units) (total total' : ℕ) (before : BookView D) (new_library : View D) (old : Holder) (parts amount parts' amount' : ℕ)
+pub entering : RecordsKeep → {Disk : Type 0} (D : Ghosts Disk) (named : Units) (total total' : ℕ) (before : BookView Disk) (new_library : View Disk) (old : Holder) (parts amount parts' amount' : ℕ)
     (asked : Asked) (answer : Reply) (history : List Entry) (receipts : List Receipt) (receipt : Receipt)
-    → IsRecordedLibrary honest may_leave named total before → IsClient old parts amount → LastStands before.history old.receipts → answer ≡ reply_of before.library.units asked → HasAgreedUnit asked
+    → IsRecordedLibrary D named total before → IsClient old parts amount → LastStands before.history old.receipts → answer ≡ reply_of before.library.units asked → HasAgreedUnit asked
     → receipt.number ≡ length before.history + 1 → receipt.entry ≡ entry_of old asked answer → history ≡ before.history ++ receipt.entry ∷ [] → receipts ≡ old.receipts ++ receipt ∷ []
     → total' ≡ total + 1 → parts' ≡ parts → amount' ≡ amount + 1
     → new_library.units ≡ after_all before.library.units (changes_of asked answer) → new_library.closed ≡ before.library.closed
-    → (IsTrue honest → (image : List ℕ) → may_leave new_library.disk image → RecoversTo new_library.units before.failed image)
-    → IsRecordedLibrary honest may_leave named total' (record before { library = new_library; history = history }) × IsClient (record old { receipts = receipts }) parts' amount'
+    → (IsTrue D.honest → (image : List ℕ) → D.may_leave new_library.disk image → RecoversTo new_library.units before.failed image)
+    → IsRecordedLibrary D named total' (record before { library = new_library; history = history }) × IsClient (record old { receipts = receipts }) parts' amount'
     × IsRecorded (chronicle_of before) old asked answer (record { base = before.base; units = new_library.units; history = history }) (record old { receipts = receipts }) receipt
-entering keep {D} honest may_leave named total total' before new_library old parts amount parts' amount' asked answer history receipts receipt book client stood replied agreed number entry history_is receipts_is counted part more units phase images =
+entering keep D named total total' before new_library old parts amount parts' amount' asked answer history receipts receipt book client stood replied agreed number entry history_is receipts_is counted part more units phase images =
     let made = enters keep before new_library old asked answer receipt book.replays client.own stood replied number entry units in
     let agreed_entry : HasAgreedUnit receipt.entry.asked = subst (λ (e : Entry). HasAgreedUnit e.asked) (sym entry) agreed in
-    let kept = keeps_entered honest may_leave named total total' before new_library receipt book made.1 agreed_entry counted phase images in
+    let kept = keeps_entered D named total total' before new_library receipt book made.1 agreed_entry counted phase images in
     let kept_client = keeps_client old receipt parts amount parts' amount' client part more made.2 in (
-      subst (λ (h : List Entry). IsRecordedLibrary honest may_leave named total' (record before { library = new_library; history = h })) (sym history_is) kept,
+      subst (λ (h : List Entry). IsRecordedLibrary D named total' (record before { library = new_library; history = h })) (sym history_is) kept,
       subst (λ (r : List Receipt). IsClient (record old { receipts = r }) parts' amount') (sym receipts_is) kept_client,
       subst (λ (h : List Entry). IsRecorded (chronicle_of before) old asked answer (record { base = before.base; units = new_library.units; history = h }) (record old { receipts = receipts }) receipt) (sym history_is)
           (subst (λ (r : List Receipt). IsRecorded (chronicle_of before) old asked answer (chronicle_of (entered before new_library receipt)) (record old { receipts = r }) receipt) (sym receipts_is) made.0),
@@ -154,12 +154,12 @@ only_agreed c agrees zero d at = let same : c ≡ d = cc in subst AgreedChange s
 only_agreed c agrees (suc k) d at = absurd (cc)
 
 -- the type keeps what it keeps
-pub keeps_failed : {D : Type 0} (honest : Bool) (may_leave : D → List ℕ → Type 0) (named : Units) (total : ℕ) (before : BookView D) (new_library : View D) (history : List Entry) (failed : List made.LibraryCommand) (command : Command) (change : made.LibraryCommand)
-    → IsRecordedLibrary honest may_leave named total before → HasAgreed command → history ≡ before.history → failed ≡ before.failed ++ change ∷ [] → before.library.closed ≡ false
+pub keeps_failed : {Disk : Type 0} (D : Ghosts Disk) (named : Units) (total : ℕ) (before : BookView Disk) (new_library : View Disk) (history : List Entry) (failed : List made.LibraryCommand) (command : Command) (change : made.LibraryCommand)
+    → IsRecordedLibrary D named total before → HasAgreed command → history ≡ before.history → failed ≡ before.failed ++ change ∷ [] → before.library.closed ≡ false
     → new_library ≡ record before.library { disk = new_library.disk; closed = true } → change ≡ change_of command
-    → (IsTrue honest → (image : List ℕ) → may_leave new_library.disk image → RecoversOneOf before.library.units (after before.library.units change) image)
-    → (failed ≡ change_of command ∷ []) × IsRecordedLibrary honest may_leave named total (record before { library = new_library; history = history; failed = failed })
-keeps_failed honest may_leave named total before new_library history failed command change book agrees history_is failed_is idle library_is change_is images =
+    → (IsTrue D.honest → (image : List ℕ) → D.may_leave new_library.disk image → RecoversOneOf before.library.units (after before.library.units change) image)
+    → (failed ≡ change_of command ∷ []) × IsRecordedLibrary D named total (record before { library = new_library; history = history; failed = failed })
+keeps_failed D named total before new_library history failed command change book agrees history_is failed_is idle library_is change_is images =
     let none = book.idle idle in
     let one : failed ≡ change ∷ [] = failed_is ∙ ap (λ (l : List made.LibraryCommand). l ++ change ∷ []) none in
     let units : new_library.units ≡ before.library.units = ap (λ (v : View _). v.units) library_is in

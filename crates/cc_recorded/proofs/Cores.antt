@@ -5,6 +5,7 @@ use Rattle.std.specs.Prelude.{IsOk, if◌then◌else◌}
 use Rattle.std.specs.FinMap.{contains_key, insert, remove}
 use Rattle.std.proofs.lemmas.Bool.{le-leb, lt-leb}
 use Rattle.std.proofs.lemmas.List.{map-append, length-map, length-take-le}
+use Rattle.cc_disk.specs.declared.disk.Disk.{Ghosts}
 use Rattle.cc_disk.specs.Model.{Cell, bytes_of, IsImage, unsettled, written}
 use Rattle.cc_disk.specs.Images.{DiffersWithin, IsWritten, LeavesAlone}
 use Rattle.std.specs.Int.{w32, to_le_bytes}
@@ -98,9 +99,9 @@ pub nothing_behind : {A : Type 0} (xs : List A) → xs ++ [] ≡ xs
 nothing_behind [] = refl
 nothing_behind (x ∷ xs) = ap (λ l. x ∷ l) (nothing_behind xs)
 
-module _ {D : Type 0} where
+module _ {Disk : Type 0} where
   -- an entry that changes nothing
-  pub order_same : (before after : BookView D) (order acknowledged : List Numbered) → ShowsOrder before order acknowledged → after.base ≡ before.base → changes after.history ≡ changes before.history → after.failed ≡ before.failed → ShowsOrder after order acknowledged
+  pub order_same : (before after : BookView Disk) (order acknowledged : List Numbered) → ShowsOrder before order acknowledged → after.base ≡ before.base → changes after.history ≡ changes before.history → after.failed ≡ before.failed → ShowsOrder after order acknowledged
   order_same before after order acknowledged shows base same failed = record {
     earlier = shows.earlier;
     base = shows.base ∙ sym base;
@@ -112,12 +113,12 @@ module _ {D : Type 0} where
   }
 
   -- where none failed, all of the order is acknowledged
-  all_acked : (before : BookView D) (order acknowledged : List Numbered) → ShowsOrder before order acknowledged → before.failed ≡ [] → order ≡ acknowledged
+  all_acked : (before : BookView Disk) (order acknowledged : List Numbered) → ShowsOrder before order acknowledged → before.failed ≡ [] → order ≡ acknowledged
   all_acked before order acknowledged shows none =
       shows.in_order ∙ ap (λ (l : List Numbered). acknowledged ++ l) (no_commands shows.failing (shows.failed ∙ none)) ∙ nothing_behind acknowledged
 
   -- a command more that is acknowledged
-  order_done : (before after : BookView D) (order acknowledged : List Numbered) (one : Numbered) → ShowsOrder before order acknowledged → before.failed ≡ [] → after.base ≡ before.base
+  order_done : (before after : BookView Disk) (order acknowledged : List Numbered) (one : Numbered) → ShowsOrder before order acknowledged → before.failed ≡ [] → after.base ≡ before.base
       → changes after.history ≡ changes before.history ++ one.command ∷ [] → after.failed ≡ [] → ShowsOrder after (order ++ one ∷ []) (acknowledged ++ one ∷ [])
   order_done before after order acknowledged one shows none base more still = record {
     earlier = shows.earlier;
@@ -134,7 +135,7 @@ module _ {D : Type 0} where
   }
 
   -- one in which the device failed
-  order_failed : (before after : BookView D) (order acknowledged : List Numbered) (one : Numbered) → ShowsOrder before order acknowledged → before.failed ≡ [] → after.base ≡ before.base
+  order_failed : (before after : BookView Disk) (order acknowledged : List Numbered) (one : Numbered) → ShowsOrder before order acknowledged → before.failed ≡ [] → after.base ≡ before.base
       → changes after.history ≡ changes before.history → after.failed ≡ one.command ∷ [] → ShowsOrder after (order ++ one ∷ []) acknowledged
   order_failed before after order acknowledged one shows none base same failed = record {
     earlier = shows.earlier;
@@ -163,13 +164,13 @@ pub length-written : (cells : List Cell) (offset : ℕ) (bytes : List ℕ) → o
 length-written cells offset bytes fits =
     omega (arith, length-append (take offset cells) (map unsettled bytes ++ drop (offset + length bytes) cells), length-append (map unsettled bytes) (drop (offset + length bytes) cells), length-map bytes unsettled, length-take-le offset cells (omega arith), length-drop (offset + length bytes) cells)
 
-module _ {D : Type 0} (seen : D → List ℕ) (may_leave : D → List ℕ → Type 0) where
+module _ {Disk : Type 0} (D : Ghosts Disk) where
   -- the commit of a change is that of the store
-  same_commit : (view : View D) (store : StoreState) (c : LibraryCommand) → store.area ≡ view.area → store.used ≡ length (records view.bodies) → commit_of store.area_byte view c ≡ append_of store c
+  same_commit : (view : View Disk) (store : StoreState) (c : LibraryCommand) → store.area ≡ view.area → store.used ≡ length (records view.bodies) → commit_of store.area_byte view c ≡ append_of store c
   same_commit view store c area used = λ i. append_commit (area_begin store.area_byte (sym area i) + sym used i) (body_of c)
 
-  pub has_byte : (view : View D) (store : StoreState) (h : HoldsRecords (seen view.disk) view.area view.bodies) → h.area_byte ≡ store.area_byte → HasAreaByte (seen view.disk) store.area_byte view.area
-  has_byte view store h same = subst (λ (b : ℕ). HasAreaByte (seen view.disk) b view.area) same (_, h.bytes)
+  pub has_byte : (view : View Disk) (store : StoreState) (h : HoldsRecords (D.seen view.disk) view.area view.bodies) → h.area_byte ≡ store.area_byte → HasAreaByte (D.seen view.disk) store.area_byte view.area
+  has_byte view store h same = subst (λ (b : ℕ). HasAreaByte (D.seen view.disk) b view.area) same (_, h.bytes)
 
   -- the store after the first two steps of a commit, and after all four
   abbrev staged_store : LibraryCommand → StoreState → StoreState
@@ -178,21 +179,21 @@ module _ {D : Type 0} (seen : D → List ℕ) (may_leave : D → List ℕ → Ty
   abbrev stored : LibraryCommand → StoreState → StoreState
   stored c store = stepped due.SyncGate c (stepped due.WriteGate c (staged_store c store))
 
-  abbrev done_view : View D → LibraryCommand → D → Units → View D
+  abbrev done_view : View Disk → LibraryCommand → Disk → Units → View Disk
   done_view view c disk units = record { disk = disk; area = view.area; bodies = view.bodies ++ body_of c ∷ []; units = units; closed = false }
 
-  abbrev failed_view : View D → D → View D
+  abbrev failed_view : View Disk → Disk → View Disk
   failed_view view disk = record view { disk = disk; closed = true }
 
   -- a change that was done
-  disk_done : (honest : Bool) (view : View D) (store : StoreState) (c : LibraryCommand) (disk : D) (units : Units) → ShowsDisk honest seen may_leave view store → view.closed ≡ false
-      → (IsTrue honest → HoldsRecords (seen disk) view.area (view.bodies ++ body_of c ∷ [])
-      × ((area_byte : ℕ) → HasAreaByte (seen view.disk) area_byte view.area → IsCommitted (commit_of area_byte view c) (seen view.disk) (seen disk) × LeavesAlone (seen disk) (may_leave disk)))
-      → ShowsDisk honest seen may_leave (done_view view c disk units) (stored c store)
-  disk_done honest view store c disk units shows idle facts =
-      let settled : (h : IsTrue honest) → IsCommitted (append_of store c) (seen view.disk) (seen disk) × LeavesAlone (seen disk) (may_leave disk) =
-      λ h. let holds = shows.holds h idle in subst (λ (k : Commit). IsCommitted k (seen view.disk) (seen disk) × LeavesAlone (seen disk) (may_leave disk)) (same_commit view store c shows.area (shows.used idle)) ((facts h).1 store.area_byte (has_byte view store holds.0 holds.1)) in
-      let bytes : IsTrue honest → bytes_of (stored c store).cells ≡ seen disk = λ h. committed_same (append_of store c) store.cells (seen view.disk) (seen disk) (shows.bytes h idle) (settled h).0 in
+  disk_done : (view : View Disk) (store : StoreState) (c : LibraryCommand) (disk : Disk) (units : Units) → ShowsDisk D view store → view.closed ≡ false
+      → (IsTrue D.honest → HoldsRecords (D.seen disk) view.area (view.bodies ++ body_of c ∷ [])
+      × ((area_byte : ℕ) → HasAreaByte (D.seen view.disk) area_byte view.area → IsCommitted (commit_of area_byte view c) (D.seen view.disk) (D.seen disk) × LeavesAlone (D.seen disk) (D.may_leave disk)))
+      → ShowsDisk D (done_view view c disk units) (stored c store)
+  disk_done view store c disk units shows idle facts =
+      let settled : (h : IsTrue D.honest) → IsCommitted (append_of store c) (D.seen view.disk) (D.seen disk) × LeavesAlone (D.seen disk) (D.may_leave disk) =
+      λ h. let holds = shows.holds h idle in subst (λ (k : Commit). IsCommitted k (D.seen view.disk) (D.seen disk) × LeavesAlone (D.seen disk) (D.may_leave disk)) (same_commit view store c shows.area (shows.used idle)) ((facts h).1 store.area_byte (has_byte view store holds.0 holds.1)) in
+      let bytes : IsTrue D.honest → bytes_of (stored c store).cells ≡ D.seen disk = λ h. committed_same (append_of store c) store.cells (D.seen view.disk) (D.seen disk) (shows.bytes h idle) (settled h).0 in
       record {
         area = shows.area;
         used = λ _. omega (arith, shows.used idle, length-records_push view.bodies (body_of c));
@@ -201,39 +202,39 @@ module _ {D : Type 0} (seen : D → List ℕ) (may_leave : D → List ℕ → Ty
         holds = λ h _.
             let old = shows.holds h idle in
             let new = (facts h).0 in
-            let kept = first_byte_kept (append_of store c) (seen view.disk) (seen disk) (omega (arith, begin_least store.area_byte store.area)) (omega (arith, begin_least store.area_byte store.area)) (omega (arith, old.0.is_area.room)) (settled h).0 in
-            let was : get_or (seen view.disk) 0 0 ≡ old.0.area_byte = ap (λ (l : List ℕ). get_or l 0 0) old.0.bytes in
-            let is : get_or (seen disk) 0 0 ≡ new.area_byte = ap (λ (l : List ℕ). get_or l 0 0) new.bytes in
+            let kept = first_byte_kept (append_of store c) (D.seen view.disk) (D.seen disk) (omega (arith, begin_least store.area_byte store.area)) (omega (arith, begin_least store.area_byte store.area)) (omega (arith, old.0.is_area.room)) (settled h).0 in
+            let was : get_or (D.seen view.disk) 0 0 ≡ old.0.area_byte = ap (λ (l : List ℕ). get_or l 0 0) old.0.bytes in
+            let is : get_or (D.seen disk) 0 0 ≡ new.area_byte = ap (λ (l : List ℕ). get_or l 0 0) new.bytes in
             (new, sym is ∙ kept ∙ was ∙ old.1);
       }
 
   -- a commit fits the disk
-  fits_disk : (view : View D) (store : StoreState) (c : LibraryCommand) (h : HoldsRecords (seen view.disk) view.area view.bodies) → store.area ≡ view.area → store.used ≡ length (records view.bodies) → bytes_of store.cells ≡ seen view.disk
+  fits_disk : (view : View Disk) (store : StoreState) (c : LibraryCommand) (h : HoldsRecords (D.seen view.disk) view.area view.bodies) → store.area ≡ view.area → store.used ≡ length (records view.bodies) → bytes_of store.cells ≡ D.seen view.disk
       → room_with view c ≤ view.area → ((append_of store c).offset + length (append_of store c).bytes ≤ length store.cells) × ((append_of store c).deciding_offset + 1 ≤ length store.cells)
   fits_disk view store c h area used bytes room =
       let most = begin_most store.area_byte store.area in
-      let size : length (seen view.disk) ≡ length store.cells = sym (ap length bytes) ∙ length-cells store.cells in
+      let size : length (D.seen view.disk) ≡ length store.cells = sym (ap length bytes) ∙ length-cells store.cells in
       let long = length-behind (body_of c) (gate_of store) in
       let more = length-records_push view.bodies (body_of c) in
       let space = h.is_area.room in
       (omega (arith, most, size, long, more, space, room, area, used), omega (arith, most, size, more, space, room, area, used))
 
   -- a change in which the device failed, in the core's first write, or in its second
-  abbrev FailsFirst : Bool → View D → StoreState → LibraryCommand → D → Type 0
-  FailsFirst honest view store c disk = (new : StoreState) × FailsTo due.WriteBody c store new × ShowsDisk honest seen may_leave (failed_view view disk) new
+  abbrev FailsFirst : View Disk → StoreState → LibraryCommand → Disk → Type 0
+  FailsFirst view store c disk = (new : StoreState) × FailsTo due.WriteBody c store new × ShowsDisk D (failed_view view disk) new
 
-  abbrev FailsLast : Bool → View D → StoreState → LibraryCommand → D → Type 0
-  FailsLast honest view store c disk = (new : StoreState) × FailsTo due.WriteGate c (staged_store c store) new × ShowsDisk honest seen may_leave (failed_view view disk) new
+  abbrev FailsLast : View Disk → StoreState → LibraryCommand → Disk → Type 0
+  FailsLast view store c disk = (new : StoreState) × FailsTo due.WriteGate c (staged_store c store) new × ShowsDisk D (failed_view view disk) new
 
-  failed_first_disk : (view : View D) (store : StoreState) (c : LibraryCommand) (disk : D) → ShowsDisk true seen may_leave view store → view.closed ≡ false → room_with view c ≤ view.area
-      → ((image : List ℕ) → may_leave disk image → DiffersWithin (append_of store c).offset (length (append_of store c).bytes) (seen view.disk) image) → may_leave disk (seen disk) → FailsFirst true view store c disk
-  failed_first_disk view store c disk shows idle room failed now =
+  failed_first_disk : IsTrue D.honest → (view : View Disk) (store : StoreState) (c : LibraryCommand) (disk : Disk) → ShowsDisk D view store → view.closed ≡ false → room_with view c ≤ view.area
+      → ((image : List ℕ) → D.may_leave disk image → DiffersWithin (append_of store c).offset (length (append_of store c).bytes) (D.seen view.disk) image) → D.may_leave disk (D.seen disk) → FailsFirst view store c disk
+  failed_first_disk is view store c disk shows idle room failed now =
       let k = append_of store c in
-      let old = seen view.disk in
-      let same : bytes_of store.cells ≡ old = shows.bytes refl idle in
-      let fits = (fits_disk view store c (shows.holds refl idle).0 shows.area (shows.used idle) same room).0 in
+      let old = D.seen view.disk in
+      let same : bytes_of store.cells ≡ old = shows.bytes is idle in
+      let fits = (fits_disk view store c (shows.holds is idle).0 shows.area (shows.used idle) same room).0 in
       let size : length old ≡ length store.cells = sym (ap length same) ∙ length-cells store.cells in
-      let w = within_is_written old (seen disk) k.offset (length k.bytes) (omega (arith, fits, size)) (failed (seen disk) now) in (
+      let w = within_is_written old (D.seen disk) k.offset (length k.bytes) (omega (arith, fits, size)) (failed (D.seen disk) now) in (
         with_cells store (written store.cells k.offset w.0),
         (w.0, w.1, refl),
         record {
@@ -247,19 +248,19 @@ module _ {D : Type 0} (seen : D → List ℕ) (may_leave : D → List ℕ → Ty
         },
       )
 
-  failed_last_disk : (view : View D) (store : StoreState) (c : LibraryCommand) (disk : D) → ShowsDisk true seen may_leave view store → view.closed ≡ false → room_with view c ≤ view.area
-      → (was : List ℕ) → IsWritten (seen view.disk) (append_of store c).offset (append_of store c).bytes was → ((image : List ℕ) → may_leave disk image → DiffersWithin (append_of store c).deciding_offset 1 was image) → may_leave disk (seen disk)
-      → FailsLast true view store c disk
-  failed_last_disk view store c disk shows idle room was first failed now =
+  failed_last_disk : IsTrue D.honest → (view : View Disk) (store : StoreState) (c : LibraryCommand) (disk : Disk) → ShowsDisk D view store → view.closed ≡ false → room_with view c ≤ view.area
+      → (was : List ℕ) → IsWritten (D.seen view.disk) (append_of store c).offset (append_of store c).bytes was → ((image : List ℕ) → D.may_leave disk image → DiffersWithin (append_of store c).deciding_offset 1 was image) → D.may_leave disk (D.seen disk)
+      → FailsLast view store c disk
+  failed_last_disk is view store c disk shows idle room was first failed now =
       let k = append_of store c in
-      let old = seen view.disk in
-      let same : bytes_of store.cells ≡ old = shows.bytes refl idle in
-      let fits = fits_disk view store c (shows.holds refl idle).0 shows.area (shows.used idle) same room in
+      let old = D.seen view.disk in
+      let same : bytes_of store.cells ≡ old = shows.bytes is idle in
+      let fits = fits_disk view store c (shows.holds is idle).0 shows.area (shows.used idle) same room in
       let mid = staged_store c store in
       let staged : bytes_of mid.cells ≡ was = bytes_of-synced (written store.cells k.offset k.bytes) ∙ written_same store.cells old was k.offset k.bytes same first in
       let long : length mid.cells ≡ length store.cells = length-map (written store.cells k.offset k.bytes) (λ (x : Cell). record { byte = x.byte; settled = true }) ∙ length-written store.cells k.offset k.bytes fits.0 in
       let size : length was ≡ length mid.cells = sym (ap length staged) ∙ length-cells mid.cells in
-      let w = within_is_written was (seen disk) k.deciding_offset 1 (omega (arith, fits.1, long, size)) (failed (seen disk) now) in
+      let w = within_is_written was (D.seen disk) k.deciding_offset 1 (omega (arith, fits.1, long, size)) (failed (D.seen disk) now) in
       let one = single w.0 w.1 in (
         with_cells mid (written mid.cells k.deciding_offset (one.0 ∷ [])),
         (one.0, refl),
@@ -274,31 +275,32 @@ module _ {D : Type 0} (seen : D → List ℕ) (may_leave : D → List ℕ → Ty
         },
       )
 
-  disk_failed : (honest : Bool) (view : View D) (store : StoreState) (c : LibraryCommand) (disk : D) → ShowsDisk honest seen may_leave view store → view.closed ≡ false → room_with view c ≤ view.area
-      → (IsTrue honest → (area_byte : ℕ) → HasAreaByte (seen view.disk) area_byte view.area → FailsIn (commit_of area_byte view c) (seen view.disk) (may_leave disk)) → (IsTrue honest → may_leave disk (seen disk))
-      → FailsFirst honest view store c disk ⊎ FailsLast honest view store c disk
-  disk_failed true view store c disk shows idle room fails now =
-      let holds = shows.holds refl idle in
-      let how = subst (λ (k : Commit). FailsIn k (seen view.disk) (may_leave disk)) (same_commit view store c shows.area (shows.used idle)) (fails refl store.area_byte (has_byte view store holds.0 holds.1)) in
-      elim how [ inl first ↦ inl (failed_first_disk view store c disk shows idle room first (now refl)) | inr last ↦ inr (failed_last_disk view store c disk shows idle room last.0 last.1 last.2 (now refl)) ]
-  disk_failed false view store c disk shows idle room fails now = inl (failed_anyhow view store c disk shows)
+  disk_failed : (view : View Disk) (store : StoreState) (c : LibraryCommand) (disk : Disk) → ShowsDisk D view store → view.closed ≡ false → room_with view c ≤ view.area
+      → (IsTrue D.honest → (area_byte : ℕ) → HasAreaByte (D.seen view.disk) area_byte view.area → FailsIn (commit_of area_byte view c) (D.seen view.disk) (D.may_leave disk)) → (IsTrue D.honest → D.may_leave disk (D.seen disk))
+      → FailsFirst view store c disk ⊎ FailsLast view store c disk
+  disk_failed view store c disk shows idle room fails now = by D.honest refl
     where
-      failed_anyhow : (view : View D) (store : StoreState) (c : LibraryCommand) (disk : D) → ShowsDisk false seen may_leave view store → FailsFirst false view store c disk
-      failed_anyhow view store c disk shows = (
-        with_cells store (written store.cells (append_of store c).offset (append_of store c).bytes),
-        ((append_of store c).bytes, refl, refl),
-        record {
-          area = shows.area;
-          used = λ never. absurd (cc never);
-          bytes = λ never. absurd (cc never);
-          images = λ never. absurd (cc never);
-          holds = λ never. absurd (cc never);
-        },
-      )
+      by : (b : Bool) → D.honest ≡ b → FailsFirst view store c disk ⊎ FailsLast view store c disk
+      by true is =
+          let holds = shows.holds is idle in
+          let how = subst (λ (k : Commit). FailsIn k (D.seen view.disk) (D.may_leave disk)) (same_commit view store c shows.area (shows.used idle)) (fails is store.area_byte (has_byte view store holds.0 holds.1)) in
+          elim how [ inl first ↦ inl (failed_first_disk is view store c disk shows idle room first (now is)) | inr last ↦ inr (failed_last_disk is view store c disk shows idle room last.0 last.1 last.2 (now is)) ]
+      by false is =
+          inl (
+            with_cells store (written store.cells (append_of store c).offset (append_of store c).bytes),
+            ((append_of store c).bytes, refl, refl),
+            record {
+              area = shows.area;
+              used = λ never. absurd (cc never);
+              bytes = λ h. absurd (cc (h, is));
+              images = λ h. absurd (cc (h, is));
+              holds = λ h. absurd (cc (h, is));
+            },
+          )
 
 -- ---- the steps
 
-module _ {D P : Type 0} (rules : Rules P) (honest : Bool) (seen : D → List ℕ) (may_leave : D → List ℕ → Type 0) where
+module _ {Disk P : Type 0} (rules : Rules P) (D : Ghosts Disk) where
   verdict_is : (s : Contents P) (client : ClientId) (c : LibraryCommand) (has : Has rules s client c) (why : Option Refusal) → job.command_refusal s.core.phase s.core.library s.core.store c ≡ why
       → job.verdict rules s.core.phase s.core.library s.core.store has.its ≡ job.unless why (Ok c)
   verdict_is s client c has why is = ap (job.accepted s.core.phase s.core.library s.core.store) has.gives ∙ ap (λ (w : Option Refusal). job.unless w (Ok c)) is
@@ -399,28 +401,28 @@ module _ {D P : Type 0} (rules : Rules P) (honest : Bool) (seen : D → List ℕ
 
   -- ---- why the core refuses
 
-  abbrev Shown : BookView D → Contents P → Type 0
-  Shown book s = Shows honest seen may_leave book s
+  abbrev Shown : BookView Disk → Contents P → Type 0
+  Shown book s = Shows D book s
 
-  open_here : (book : BookView D) (s : Contents P) → Shown book s → book.library.closed ≡ false → (book.failed ≡ []) × (job.closed s.core.phase ≡ None) × IsFree s.core.phase
+  open_here : (book : BookView Disk) (s : Contents P) → Shown book s → book.library.closed ≡ false → (book.failed ≡ []) × (job.closed s.core.phase ≡ None) × IsFree s.core.phase
   open_here book s shows idle =
       let phase = phase_at book.library.closed book.failed s.core.phase false idle shows.phase in
       let free = open_phase book.failed s.core.phase phase in
       (phase.0, free.0, free.1)
 
-  map_answers : (book : BookView D) (s : Contents P) (c : LibraryCommand) (answer : history.Reply) → Shown book s → answer ≡ reply_of_change (apply book.library.units c) → job.map_refusal s.core.library c ≡ refusal_of answer
+  map_answers : (book : BookView Disk) (s : Contents P) (c : LibraryCommand) (answer : history.Reply) → Shown book s → answer ≡ reply_of_change (apply book.library.units c) → job.map_refusal s.core.library c ≡ refusal_of answer
   map_answers book s c answer shows is = ap (λ (u : Units). job.map_refusal u c) shows.library ∙ map_refuses book.library.units c ∙ ap refusal_of (sym is)
 
-  room_same : (book : BookView D) (s : Contents P) (c : LibraryCommand) → Shown book s → book.library.closed ≡ false → s.core.store.used + (length (body_of c) + 6) ≡ room_with book.library c
+  room_same : (book : BookView Disk) (s : Contents P) (c : LibraryCommand) → Shown book s → book.library.closed ≡ false → s.core.store.used + (length (body_of c) + 6) ≡ room_with book.library c
   room_same book s c shows idle = omega (arith, shows.disk.used idle, length-records_push book.library.bodies (body_of c))
 
-  fits_is : (book : BookView D) (s : Contents P) (c : LibraryCommand) → Shown book s → book.library.closed ≡ false → room_with book.library c ≤ book.library.area → job.full s.core.store c ≡ None
+  fits_is : (book : BookView Disk) (s : Contents P) (c : LibraryCommand) → Shown book s → book.library.closed ≡ false → room_with book.library c ≤ book.library.area → job.full s.core.store c ≡ None
   fits_is book s c shows idle fits =
       let same = room_same book s c shows idle in
       let area = shows.disk.area in
       ap (λ (b : Bool). if b then None else Some refusal.Full) (le-leb (s.core.store.used + (length (body_of c) + 6)) s.core.store.area (omega (arith, same, area, fits)))
 
-  over_is : (book : BookView D) (s : Contents P) (c : LibraryCommand) → Shown book s → book.library.closed ≡ false → book.library.area < room_with book.library c → job.full s.core.store c ≡ Some refusal.Full
+  over_is : (book : BookView Disk) (s : Contents P) (c : LibraryCommand) → Shown book s → book.library.closed ≡ false → book.library.area < room_with book.library c → job.full s.core.store c ≡ Some refusal.Full
   over_is book s c shows idle over =
       let same = room_same book s c shows idle in
       let area = shows.disk.area in
@@ -436,45 +438,45 @@ module _ {D P : Type 0} (rules : Rules P) (honest : Bool) (seen : D → List ℕ
   why_map : (s : Contents P) (c : LibraryCommand) (why : Refusal) → job.closed s.core.phase ≡ None → job.map_refusal s.core.library c ≡ Some why → job.command_refusal s.core.phase s.core.library s.core.store c ≡ Some why
   why_map s c why idle is = λ i. job.first_of_two (idle i) (job.first_of_two (is i) (job.full s.core.store c))
 
-  accepted_here : (book : BookView D) (s : Contents P) (c : LibraryCommand) → Shown book s → IsOk (apply book.library.units c) → job.map_refusal s.core.library c ≡ None
+  accepted_here : (book : BookView Disk) (s : Contents P) (c : LibraryCommand) → Shown book s → IsOk (apply book.library.units c) → job.map_refusal s.core.library c ≡ None
   accepted_here book s c shows ok = ap (λ (u : Units). job.map_refusal u c) shows.library ∙ map_refuses book.library.units c ∙ ok_is_done (apply book.library.units c) ok
 
   -- a refused call changes nothing but the history, in which it changes nothing
-  refused_shown : (before after : BookView D) (s : Contents P) (client : ClientId) → Shown before s → after.library ≡ before.library → after.failed ≡ before.failed → after.base ≡ before.base → changes after.history ≡ changes before.history
+  refused_shown : (before after : BookView Disk) (s : Contents P) (client : ClientId) → Shown before s → after.library ≡ before.library → after.failed ≡ before.failed → after.base ≡ before.base → changes after.history ≡ changes before.history
       → Shown after (refused_state s client)
   refused_shown before after s client shows library failed base same = record {
-    library = shows.library ∙ ap (λ (v : View D). v.units) (sym library);
+    library = shows.library ∙ ap (λ (v : View Disk). v.units) (sym library);
     order = order_same before after s.core.order s.core.acknowledged shows.order base same failed;
-    phase = subst (λ (l : List LibraryCommand). IsPhase after.library.closed l s.core.phase) (sym failed) (subst (λ (v : View D). IsPhase v.closed before.failed s.core.phase) (sym library) shows.phase);
-    disk = subst (λ (v : View D). ShowsDisk honest seen may_leave v s.core.store) (sym library) shows.disk;
+    phase = subst (λ (l : List LibraryCommand). IsPhase after.library.closed l s.core.phase) (sym failed) (subst (λ (v : View Disk). IsPhase v.closed before.failed s.core.phase) (sym library) shows.phase);
+    disk = subst (λ (v : View Disk). ShowsDisk D v s.core.store) (sym library) shows.disk;
   }
 
   -- one that is done
-  done_shown : (before after_it : BookView D) (old new : Holder) (command : Command) (receipt : Receipt) (s : Contents P) (client : ClientId) → Shown before s → IsDone before old command after_it new receipt
-      → (IsTrue honest → HoldsRecords (seen after_it.library.disk) after_it.library.area after_it.library.bodies
-      × ((area_byte : ℕ) → HasAreaByte (seen before.library.disk) area_byte before.library.area → IsCommitted (commit_of area_byte before.library (change_of command)) (seen before.library.disk) (seen after_it.library.disk) × LeavesAlone (seen after_it.library.disk) (may_leave after_it.library.disk)))
+  done_shown : (before after_it : BookView Disk) (old new : Holder) (command : Command) (receipt : Receipt) (s : Contents P) (client : ClientId) → Shown before s → IsDone before old command after_it new receipt
+      → (IsTrue D.honest → HoldsRecords (D.seen after_it.library.disk) after_it.library.area after_it.library.bodies
+      × ((area_byte : ℕ) → HasAreaByte (D.seen before.library.disk) area_byte before.library.area → IsCommitted (commit_of area_byte before.library (change_of command)) (D.seen before.library.disk) (D.seen after_it.library.disk) × LeavesAlone (D.seen after_it.library.disk) (D.may_leave after_it.library.disk)))
       → Shown after_it (done_state s client (change_of command) (stepped due.SyncGate (change_of command) (stepped due.WriteGate (change_of command) (stepped due.SyncBody (change_of command) (stepped due.WriteBody (change_of command) s.core.store)))))
   done_shown before after_it old new command receipt s client shows done disk =
       let c = change_of command in
       let idle = done.asked.idle in
       let none = (open_here before s shows idle).0 in
-      let shut : after_it.library.closed ≡ false = ap (λ (v : View D). v.closed) done.library in
+      let shut : after_it.library.closed ≡ false = ap (λ (v : View Disk). v.closed) done.library in
       let recorded = done.recorded in
       let more : changes after_it.history ≡ changes before.history ++ c ∷ [] =
       ap changes recorded.history ∙ changes-push before.history receipt.entry
       ∙ ap (λ (e : Entry). changes before.history ++ changes_of e.asked e.reply) recorded.answered.entry in
       record {
-        library = ap (λ (u : Units). after u c) shows.library ∙ sym (ap (λ (v : View D). v.units) done.library);
+        library = ap (λ (u : Units). after u c) shows.library ∙ sym (ap (λ (v : View Disk). v.units) done.library);
         order = order_done before after_it s.core.order s.core.acknowledged (numbered_now s.core c) shows.order none recorded.base more (done.failed ∙ none);
         phase = subst (λ (b : Bool). IsPhase b after_it.failed Idle) (sym shut) (done.failed ∙ none, refl);
-        disk = subst (λ (v : View D). ShowsDisk honest seen may_leave v (stored seen may_leave c s.core.store)) (sym done.library)
-            (disk_done seen may_leave honest before.library s.core.store c after_it.library.disk (after before.library.units c) shows.disk idle
-            (λ h. (subst (λ (v : View D). HoldsRecords (seen after_it.library.disk) v.area v.bodies) done.library (disk h).0, (disk h).1)));
+        disk = subst (λ (v : View Disk). ShowsDisk D v (stored D c s.core.store)) (sym done.library)
+            (disk_done D before.library s.core.store c after_it.library.disk (after before.library.units c) shows.disk idle
+            (λ h. (subst (λ (v : View Disk). HoldsRecords (D.seen after_it.library.disk) v.area v.bodies) done.library (disk h).0, (disk h).1)));
       }
 
   -- one in which the device failed
-  failed_shown : (before : BookView D) (command : Command) (disk : D) (s : Contents P) (client : ClientId) (store : StoreState) → Shown before s → before.library.closed ≡ false
-      → ShowsDisk honest seen may_leave (failed_view seen may_leave before.library disk) store → Shown (failed_in before command disk) (failed_state s client (change_of command) store)
+  failed_shown : (before : BookView Disk) (command : Command) (disk : Disk) (s : Contents P) (client : ClientId) (store : StoreState) → Shown before s → before.library.closed ≡ false
+      → ShowsDisk D (failed_view D before.library disk) store → Shown (failed_in before command disk) (failed_state s client (change_of command) store)
   failed_shown before command disk s client store shows idle here =
       let c = change_of command in
       let none = (open_here before s shows idle).0 in
@@ -486,53 +488,53 @@ module _ {D P : Type 0} (rules : Rules P) (honest : Bool) (seen : D → List ℕ
       }
 
   -- a refused call changes nothing in the history's changes
-  refused_changes : (before after_it : BookView D) (old new : Holder) (command : Command) (answer : history.Reply) (receipt : Receipt) → done_by command answer ≡ [] → IsRefused before old command answer after_it new receipt → changes after_it.history ≡ changes before.history
+  refused_changes : (before after_it : BookView Disk) (old new : Holder) (command : Command) (answer : history.Reply) (receipt : Receipt) → done_by command answer ≡ [] → IsRefused before old command answer after_it new receipt → changes after_it.history ≡ changes before.history
   refused_changes before after_it old new command answer receipt nothing refused =
       ap changes refused.recorded.history ∙ changes-push before.history receipt.entry
       ∙ ap (λ (e : Entry). changes before.history ++ changes_of e.asked e.reply) refused.recorded.answered.entry
       ∙ ap (λ (l : List LibraryCommand). changes before.history ++ l) nothing ∙ nothing_behind (changes before.history)
 
-  ticked_shown : (book : BookView D) (s : Contents P) (client : ClientId) → Shown book s → Shown book (refused_state s client)
+  ticked_shown : (book : BookView Disk) (s : Contents P) (client : ClientId) → Shown book s → Shown book (refused_state s client)
   ticked_shown book s client shows = refused_shown book book s client shows refl refl refl refl
 
   -- ---- the whole
 
-  pub commits : (now : (disk : D) → IsTrue honest → may_leave disk (seen disk)) (failures : D → ℕ) (before after_it : BookView D) (old new : Holder) (command : Command) (result : Result Receipt BookFault) (s : Contents P) (client : ClientId)
-      → CommitAnswers failures before old command after_it new result → (IsTrue honest → ChangesDisk seen may_leave (change_of command) before.library after_it.library result)
+  pub commits : (now : (disk : Disk) → IsTrue D.honest → D.may_leave disk (D.seen disk)) (before after_it : BookView Disk) (old new : Holder) (command : Command) (result : Result Receipt BookFault) (s : Contents P) (client : ClientId)
+      → CommitAnswers D.failures before old command after_it new result → (IsTrue D.honest → ChangesDisk D (change_of command) before.library after_it.library result)
       → Shown before s → Has rules s client (change_of command) → IsCommitOf rules (Shown after_it) s client result
-  commits now failures before after_it old new command (Ok receipt) s client answers disk shows has =
+  commits now before after_it old new command (Ok receipt) s client answers disk shows has =
       let done = answers.0 in
       let c = change_of command in
       let here = open_here before s shows done.asked.idle in
       let why = why_is s c None None None here.1 (accepted_here before s c shows done.asked.accepted) (fits_is before s c shows done.asked.idle done.fits) in
-      (done_state s client c (stored seen may_leave c s.core.store), does s client c has here.2 why, done_shown before after_it old new command receipt s client shows done disk)
-  commits now failures before after_it old new command (Err (Exists receipt)) s client refused disk shows has =
+      (done_state s client c (stored D c s.core.store), does s client c has here.2 why, done_shown before after_it old new command receipt s client shows done disk)
+  commits now before after_it old new command (Err (Exists receipt)) s client refused disk shows has =
       let c = change_of command in
       let here = open_here before s shows refused.idle in
       let why = why_map s c refusal.Exists here.1 (map_answers before s c reply.Exists shows refused.recorded.replied) in
       (refused_state s client, refuses s client c has refusal.Exists here.2 why, refused_shown before after_it s client shows refused.library refused.failed refused.recorded.base (refused_changes before after_it old new command reply.Exists receipt refl refused))
-  commits now failures before after_it old new command (Err (Absent receipt)) s client refused disk shows has =
+  commits now before after_it old new command (Err (Absent receipt)) s client refused disk shows has =
       let c = change_of command in
       let here = open_here before s shows refused.idle in
       let why = why_map s c refusal.Absent here.1 (map_answers before s c reply.Absent shows refused.recorded.replied) in
       (refused_state s client, refuses s client c has refusal.Absent here.2 why, refused_shown before after_it s client shows refused.library refused.failed refused.recorded.base (refused_changes before after_it old new command reply.Absent receipt refl refused))
-  commits now failures before after_it old new command (Err Closed) s client (shut, same, _) disk shows has =
+  commits now before after_it old new command (Err Closed) s client (shut, same, _) disk shows has =
       let c = change_of command in
       let phase = closed_phase before.failed s.core.phase (phase_at before.library.closed before.failed s.core.phase true shut shows.phase) in
-      (refused_state s client, refuses s client c has refusal.Closed phase.1 (why_closed s c phase.0), subst (λ (b : BookView D). Shown b (refused_state s client)) (sym same) (ticked_shown before s client shows))
-  commits now failures before after_it old new command (Err Full) s client (asked, over, same, _) disk shows has =
+      (refused_state s client, refuses s client c has refusal.Closed phase.1 (why_closed s c phase.0), subst (λ (b : BookView Disk). Shown b (refused_state s client)) (sym same) (ticked_shown before s client shows))
+  commits now before after_it old new command (Err Full) s client (asked, over, same, _) disk shows has =
       let c = change_of command in
       let here = open_here before s shows asked.idle in
       let why = why_is s c None None (Some refusal.Full) here.1 (accepted_here before s c shows asked.accepted) (over_is before s c shows asked.idle over) in
-      (refused_state s client, refuses s client c has refusal.Full here.2 why, subst (λ (b : BookView D). Shown b (refused_state s client)) (sym same) (ticked_shown before s client shows))
-  commits now failures before after_it old new command (Err DiskFault) s client (asked, fits, _, same, _) disk shows has =
+      (refused_state s client, refuses s client c has refusal.Full here.2 why, subst (λ (b : BookView Disk). Shown b (refused_state s client)) (sym same) (ticked_shown before s client shows))
+  commits now before after_it old new command (Err DiskFault) s client (asked, fits, _, same, _) disk shows has =
       let c = change_of command in
       let here = open_here before s shows asked.idle in
       let why = why_is s c None None None here.1 (accepted_here before s c shows asked.accepted) (fits_is before s c shows asked.idle fits) in
-      let back = λ (t : Contents P) (it : Shown (failed_in before command after_it.library.disk) t). subst (λ (b : BookView D). Shown b t) (sym same) it in
-      elim (disk_failed seen may_leave honest before.library s.core.store c after_it.library.disk shows.disk asked.idle fits disk (now after_it.library.disk)) [
+      let back = λ (t : Contents P) (it : Shown (failed_in before command after_it.library.disk) t). subst (λ (b : BookView Disk). Shown b t) (sym same) it in
+      elim (disk_failed D before.library s.core.store c after_it.library.disk shows.disk asked.idle fits disk (now after_it.library.disk)) [
         | inl first ↦ (failed_state s client c first.0, inl (fails_first s client c has first.0 here.2 why first.1), back (failed_state s client c first.0) (failed_shown before command after_it.library.disk s client first.0 shows asked.idle first.2))
         | inr last ↦ (failed_state s client c last.0, inr (fails_last s client c has last.0 here.2 why last.1), back (failed_state s client c last.0) (failed_shown before command after_it.library.disk s client last.0 shows asked.idle last.2))
       ]
-  commits now failures before after_it old new command (Err (Estranged number found)) s client (_, _, same, _) disk shows has = subst (λ (b : BookView D). Shown b s) (sym same) shows
-  commits now failures before after_it old new command (Err OutOfMemory) s client (_, same, _) disk shows has = subst (λ (b : BookView D). Shown b s) (sym same) shows
+  commits now before after_it old new command (Err (Estranged number found)) s client (_, _, same, _) disk shows has = subst (λ (b : BookView Disk). Shown b s) (sym same) shows
+  commits now before after_it old new command (Err OutOfMemory) s client (_, same, _) disk shows has = subst (λ (b : BookView Disk). Shown b s) (sym same) shows

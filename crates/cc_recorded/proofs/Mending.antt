@@ -1,5 +1,6 @@
 -- A commit behind a compaction: what was between is what the compaction left, so 34 does not come.
 use Rattle.std.proofs.Common.{◌≡◌, ◌≢◌, inl, inr, ℕ, ◌<◌, ◌≤◌, Bool, IsTrue, List, [], ◌∷◌, ◌++◌, Result, Ok, Err, refl, sym, ap, ◌∙◌, subst, arith, append_assoc}
+use Rattle.cc_disk.specs.declared.disk.Disk.{Ghosts}
 use Rattle.cc_library.specs.declared.command.LibraryCommand.{LibraryCommand}
 use Rattle.cc_library.specs.Answers.{IsMended, room_with}
 use Rattle.cc_library.specs.Compact.{room_compacted}
@@ -17,36 +18,36 @@ use Rattle.cc_recorded.specs.declared.fault.BookFault.TheVariants.{Full}
 not_within : (n m : ℕ) → (n ≤ m → ⊥) → m < n
 not_within n m not = omega (arith, not)
 
-module _ {D : Type 0} (honest : Bool) (failures : D → ℕ) (seen : D → List ℕ) (may_leave : D → List ℕ → Type 0) where
+module _ {Disk : Type 0} (D : Ghosts Disk) where
   -- ---- without a compaction
 
   -- 34 comes only where a compaction makes no room
-  no_room : (before after_it : BookView D) (old new : Holder) (command : Command) → (IsMended before.library (change_of command) → ⊥) → CommitAnswers failures before old command after_it new (Err Full) → before.library.area < room_compacted before.library.units (change_of command)
+  no_room : (before after_it : BookView Disk) (old new : Holder) (command : Command) → (IsMended before.library (change_of command) → ⊥) → CommitAnswers D.failures before old command after_it new (Err Full) → before.library.area < room_compacted before.library.units (change_of command)
   no_room before after_it old new command not answers =
       not_within (room_compacted before.library.units (change_of command)) before.library.area (λ fits. not ((answers.0.idle, answers.0.accepted), answers.1, fits))
 
-  pub commits_at_once : (before after_it : BookView D) (old new : Holder) (command : Command) (result : Result Receipt BookFault) → (IsMended before.library (change_of command) → ⊥)
-      → CommitAnswers failures before old command after_it new result → (IsTrue honest → ChangesDisk seen may_leave (change_of command) before.library after_it.library result)
-      → CompactingAnswers honest failures seen may_leave before old command after_it new result
+  pub commits_at_once : (before after_it : BookView Disk) (old new : Holder) (command : Command) (result : Result Receipt BookFault) → (IsMended before.library (change_of command) → ⊥)
+      → CommitAnswers D.failures before old command after_it new result → (IsTrue D.honest → ChangesDisk D (change_of command) before.library after_it.library result)
+      → CompactingAnswers D before old command after_it new result
   commits_at_once before after_it old new command result not answers disk =
-      inl (answers, λ is. no_room before after_it old new command not (subst (λ (r : Result Receipt BookFault). CommitAnswers failures before old command after_it new r) is answers), disk)
+      inl (answers, λ is. no_room before after_it old new command not (subst (λ (r : Result Receipt BookFault). CommitAnswers D.failures before old command after_it new r) is answers), disk)
 
   -- ---- behind a compaction
 
   -- the record fits there
-  fits_behind : (before between : BookView D) (change : LibraryCommand) → IsMended before.library change → CompactAnswers {T = Unit {0}} failures before between (Ok tt) → room_with between.library change ≤ between.library.area
-  fits_behind before between change mended (_, _, _, is) = subst (λ (b : BookView D). room_with b.library change ≤ b.library.area) (sym is) mended.2
+  fits_behind : (before between : BookView Disk) (change : LibraryCommand) → IsMended before.library change → CompactAnswers {T = Unit {0}} D.failures before between (Ok tt) → room_with between.library change ≤ between.library.area
+  fits_behind before between change mended (_, _, _, is) = subst (λ (b : BookView Disk). room_with b.library change ≤ b.library.area) (sym is) mended.2
 
-  not_full : (between after_it : BookView D) (old new : Holder) (command : Command) (result : Result Receipt BookFault) → room_with between.library (change_of command) ≤ between.library.area
-      → CommitAnswers failures between old command after_it new result → result ≢ Err Full
+  not_full : (between after_it : BookView Disk) (old new : Holder) (command : Command) (result : Result Receipt BookFault) → room_with between.library (change_of command) ≤ between.library.area
+      → CommitAnswers D.failures between old command after_it new result → result ≢ Err Full
   not_full between after_it old new command result fits answers is =
-      let full = subst (λ (r : Result Receipt BookFault). CommitAnswers failures between old command after_it new r) is answers in
+      let full = subst (λ (r : Result Receipt BookFault). CommitAnswers D.failures between old command after_it new r) is answers in
       omega (arith, fits, full.1)
 
-  pub commits_behind : (before between after_it : BookView D) (old new : Holder) (command : Command) (result : Result Receipt BookFault) → IsMended before.library (change_of command) → LastStands before.history old.receipts
-      → CompactAnswers {T = Unit {0}} failures before between (Ok tt) → (IsTrue honest → CompactsDisk {T = Unit {0}} seen may_leave before.library between.library (Ok tt))
-      → CommitAnswers failures between old command after_it new result → (IsTrue honest → ChangesDisk seen may_leave (change_of command) between.library after_it.library result)
-      → CompactingAnswers honest failures seen may_leave before old command after_it new result
+  pub commits_behind : (before between after_it : BookView Disk) (old new : Holder) (command : Command) (result : Result Receipt BookFault) → IsMended before.library (change_of command) → LastStands before.history old.receipts
+      → CompactAnswers {T = Unit {0}} D.failures before between (Ok tt) → (IsTrue D.honest → CompactsDisk {T = Unit {0}} D before.library between.library (Ok tt))
+      → CommitAnswers D.failures between old command after_it new result → (IsTrue D.honest → ChangesDisk D (change_of command) between.library after_it.library result)
+      → CompactingAnswers D before old command after_it new result
   commits_behind before between after_it old new command result mended stands compacted rewritten answers disk =
       inr (record {
         mended = mended;
@@ -59,9 +60,9 @@ module _ {D : Type 0} (honest : Bool) (failures : D → ℕ) (seen : D → List 
       })
 
   -- where it is refused
-  pub not_compacted : (before after_it : BookView D) (client : Holder) (command : Command) (fault : BookFault) → IsMended before.library (change_of command) → LastStands before.history client.receipts
-      → CompactAnswers {T = Unit {0}} failures before after_it (Err fault) → (IsTrue honest → CompactsDisk {T = Unit {0}} seen may_leave before.library after_it.library (Err fault))
-      → CompactingAnswers honest failures seen may_leave before client command after_it client (Err Full)
+  pub not_compacted : (before after_it : BookView Disk) (client : Holder) (command : Command) (fault : BookFault) → IsMended before.library (change_of command) → LastStands before.history client.receipts
+      → CompactAnswers {T = Unit {0}} D.failures before after_it (Err fault) → (IsTrue D.honest → CompactsDisk {T = Unit {0}} D before.library after_it.library (Err fault))
+      → CompactingAnswers D before client command after_it client (Err Full)
   not_compacted before after_it client command fault mended stands refused rewritten =
       inr (record { mended = mended; stands = stands; compacted = Err fault; between = after_it; answers = refused; rewritten = rewritten; commits = (refl, refl, refl) })
 

@@ -1,6 +1,7 @@
 -- How it is kept that whatever a crash left since an earlier call holds the calls until then.
 use Rattle.std.proofs.Common.{◌≡◌, ◌⊎◌, ℕ, ◌≤◌, inl, inr, false, List, [], ◌∷◌, ◌++◌, length, take, Result, Ok, Err, refl, sym, ap, ◌∙◌, subst, arith, append_assoc, length-append}
 use Rattle.std.proofs.lemmas.List.{take-append-le, take_all}
+use Rattle.cc_disk.specs.declared.disk.Disk.{Ghosts}
 use Rattle.cc_disk.specs.Images.{LeavesOnly, OnlyReads}
 use Rattle.cc_library.specs.declared.command.LibraryCommand.{LibraryCommand}
 use Rattle.cc_library.specs.Apply.{Units, after}
@@ -22,21 +23,21 @@ use Rattle.cc_recorded.proofs.Cores.{nothing_behind}
 none_is_some : {A : Type 0} (l : List A) (x : A) → l ≡ [] → l ≡ x ∷ [] → ⊥
 none_is_some l x none is = let both : [] ≡ x ∷ [] = sym none ∙ is in absurd (cc)
 
-module _ {D : Type 0} (moment : D → ℕ) (may_leave : D → List ℕ → Type 0) (left_since : D → ℕ → List ℕ → Type 0) where
-  abbrev Since : BookView D → BookView D → Type 0
-  Since book old = IsSince moment left_since book old
+module _ {Disk : Type 0} (D : Ghosts Disk) where
+  abbrev Since : BookView Disk → BookView Disk → Type 0
+  Since book old = IsSince D book old
 
   -- ---- what an image holds
 
   -- an image with the map that a shorter history left
-  of_prefix : (book : BookView D) (n : ℕ) (image : List ℕ) (prefix rest : List Entry) (base units : Units) → book.base ≡ base → book.history ≡ prefix ++ rest → units ≡ units_after base prefix → n ≤ length prefix → RecoversAlone image units → HoldsFrom book n image
+  of_prefix : (book : BookView Disk) (n : ℕ) (image : List ℕ) (prefix rest : List Entry) (base units : Units) → book.base ≡ base → book.history ≡ prefix ++ rest → units ≡ units_after base prefix → n ≤ length prefix → RecoversAlone image units → HoldsFrom book n image
   of_prefix book n image prefix rest base units same is map few recovers =
       let long = ap length is ∙ length-append prefix rest in
       let cut : take (length prefix) book.history ≡ prefix = ap (take (length prefix)) is ∙ take-append-le (length prefix) prefix rest (omega arith) ∙ take_all (length prefix) prefix (omega arith) in
       inl (length prefix, few, omega (arith, long), subst (λ (u : Units). RecoversAlone image u) (map ∙ (λ i. units_after (sym same i) (sym cut i))) recovers)
 
   -- what held of a shorter history holds of a longer one
-  still_holds : (before after_it : BookView D) (more : List Entry) (n : ℕ) (image : List ℕ) → after_it.base ≡ before.base → after_it.history ≡ before.history ++ more
+  still_holds : (before after_it : BookView Disk) (more : List Entry) (n : ℕ) (image : List ℕ) → after_it.base ≡ before.base → after_it.history ≡ before.history ++ more
       → ((c : LibraryCommand) → before.failed ≡ c ∷ [] → (after_it.failed ≡ before.failed) × (after_it.library.units ≡ before.library.units)) → HoldsFrom before n image → HoldsFrom after_it n image
   still_holds before after_it more n image base history failed (inl (j, few, within, recovers)) =
       let long = ap length history ∙ length-append before.history more in
@@ -47,7 +48,7 @@ module _ {D : Type 0} (moment : D → ℕ) (may_leave : D → List ℕ → Type 
       inr (c, same.0 ∙ is, subst (λ (u : Units). RecoversAlone image (after u c)) (sym same.1) recovers)
 
   -- an image of the disk now
-  holds_now : (book : BookView D) (image : List ℕ) (failed : List LibraryCommand) → book.library.units ≡ units_after book.base book.history → book.failed ≡ failed → length failed ≤ 1 → RecoversTo book.library.units failed image → HoldsFrom book (length book.history) image
+  holds_now : (book : BookView Disk) (image : List ℕ) (failed : List LibraryCommand) → book.library.units ≡ units_after book.base book.history → book.failed ≡ failed → length failed ≤ 1 → RecoversTo book.library.units failed image → HoldsFrom book (length book.history) image
   holds_now book image [] map is one recovers = of_prefix book (length book.history) image book.history [] book.base book.library.units refl (sym (nothing_behind book.history)) map (omega arith) recovers
   holds_now book image (c ∷ []) map is one (inl recovers) = of_prefix book (length book.history) image book.history [] book.base book.library.units refl (sym (nothing_behind book.history)) map (omega arith) recovers
   holds_now book image (c ∷ []) map is one (inr recovers) = inr (c, is, recovers)
@@ -56,19 +57,19 @@ module _ {D : Type 0} (moment : D → ℕ) (may_leave : D → List ℕ → Type 
   -- ---- what a call does to the book
 
   -- The history grows, or stays. The library stays; or the disk is written, and each image that it then leaves holds all calls before.
-  pub record Goes (before after_it : BookView D) : Type 0 where
+  pub record Goes (before after_it : BookView Disk) : Type 0 where
     pub more : List Entry
     pub base : after_it.base ≡ before.base
     pub history : after_it.history ≡ before.history ++ more
     pub way :
         ((after_it.library ≡ before.library) × (after_it.failed ≡ before.failed))
-        ⊎ ((before.failed ≡ []) × LeavesOnly moment left_since before.library.disk after_it.library.disk (λ image. (n : ℕ) → n ≤ length before.history → HoldsFrom after_it n image))
+        ⊎ ((before.failed ≡ []) × LeavesOnly D.moment D.left_since before.library.disk after_it.library.disk (λ image. (n : ℕ) → n ≤ length before.history → HoldsFrom after_it n image))
 
-  longer : (before after_it : BookView D) (more : List Entry) → after_it.base ≡ before.base → after_it.history ≡ before.history ++ more → after_it.library ≡ before.library → after_it.failed ≡ before.failed → Goes before after_it
+  longer : (before after_it : BookView Disk) (more : List Entry) → after_it.base ≡ before.base → after_it.history ≡ before.history ++ more → after_it.library ≡ before.library → after_it.failed ≡ before.failed → Goes before after_it
   longer before after_it more base history library failed = record { more = more; base = base; history = history; way = inl (library, failed) }
 
-  written : (before after_it : BookView D) (more : List Entry) (P : List ℕ → Type 0) → after_it.base ≡ before.base → after_it.history ≡ before.history ++ more → before.failed ≡ []
-      → LeavesOnly moment left_since before.library.disk after_it.library.disk P
+  written : (before after_it : BookView Disk) (more : List Entry) (P : List ℕ → Type 0) → after_it.base ≡ before.base → after_it.history ≡ before.history ++ more → before.failed ≡ []
+      → LeavesOnly D.moment D.left_since before.library.disk after_it.library.disk P
       → ((n : ℕ) (image : List ℕ) → n ≤ length before.history → P image → HoldsFrom after_it n image) → Goes before after_it
   written before after_it more P base history none leaves holds = record {
     more = more;
@@ -84,24 +85,24 @@ module _ {D : Type 0} (moment : D → ℕ) (may_leave : D → List ℕ → Type 
     );
   }
 
-  same : (before after_it : BookView D) → after_it ≡ before → Goes before after_it
+  same : (before after_it : BookView Disk) → after_it ≡ before → Goes before after_it
   same before after_it is =
-      longer before after_it [] (ap (λ (b : BookView D). b.base) is) (ap (λ (b : BookView D). b.history) is ∙ sym (nothing_behind before.history))
-      (ap (λ (b : BookView D). b.library) is) (ap (λ (b : BookView D). b.failed) is)
+      longer before after_it [] (ap (λ (b : BookView Disk). b.base) is) (ap (λ (b : BookView Disk). b.history) is ∙ sym (nothing_behind before.history))
+      (ap (λ (b : BookView Disk). b.library) is) (ap (λ (b : BookView Disk). b.failed) is)
 
   -- ---- what holds of what was left since a moment before holds after the call
 
-  goes_on : (before after_it : BookView D) → Goes before after_it → (from n : ℕ) (left : List ℕ → Type 0) → from ≤ moment before.library.disk → n ≤ length before.history
-      → ((image : List ℕ) → left_since before.library.disk from image → left image ⊎ HoldsFrom before n image)
-      → (from ≤ moment after_it.library.disk) × ((image : List ℕ) → left_since after_it.library.disk from image → left image ⊎ HoldsFrom after_it n image)
+  goes_on : (before after_it : BookView Disk) → Goes before after_it → (from n : ℕ) (left : List ℕ → Type 0) → from ≤ D.moment before.library.disk → n ≤ length before.history
+      → ((image : List ℕ) → D.left_since before.library.disk from image → left image ⊎ HoldsFrom before n image)
+      → (from ≤ D.moment after_it.library.disk) × ((image : List ℕ) → D.left_since after_it.library.disk from image → left image ⊎ HoldsFrom after_it n image)
   goes_on before after_it goes from n left past few was =
       elim goes.way [
         | inl stays ↦ (
-          subst (λ (v : View D). from ≤ moment v.disk) (sym stays.0) past,
+          subst (λ (v : View Disk). from ≤ D.moment v.disk) (sym stays.0) past,
           λ image now.
-              elim (was image (subst (λ (v : View D). left_since v.disk from image) stays.0 now)) [
+              elim (was image (subst (λ (v : View Disk). D.left_since v.disk from image) stays.0 now)) [
                 | inl early ↦ inl early
-                | inr held ↦ inr (still_holds before after_it goes.more n image goes.base goes.history (λ c is. (stays.1, ap (λ (v : View D). v.units) stays.0)) held)
+                | inr held ↦ inr (still_holds before after_it goes.more n image goes.base goes.history (λ c is. (stays.1, ap (λ (v : View Disk). v.units) stays.0)) held)
               ],
         )
         | inr leaves ↦ (
@@ -118,10 +119,10 @@ module _ {D : Type 0} (moment : D → ℕ) (may_leave : D → List ℕ → Type 
         )
       ]
 
-  pub since_goes : (before after_it old : BookView D) → Goes before after_it → Since before old → Since after_it old
+  pub since_goes : (before after_it old : BookView Disk) → Goes before after_it → Since before old → Since after_it old
   since_goes before after_it old goes was =
       let on =
-      goes_on before after_it goes (moment old.library.disk) (length old.history) (λ image. ⊥) was.past (omega (arith, ap length was.grows, length-append old.history was.rest)) (λ image left. inr (was.holds image left))
+      goes_on before after_it goes (D.moment old.library.disk) (length old.history) (λ image. ⊥) was.past (omega (arith, ap length was.grows, length-append old.history was.rest)) (λ image left. inr (was.holds image left))
       in
       record {
         rest = was.rest ++ goes.more;
@@ -130,42 +131,42 @@ module _ {D : Type 0} (moment : D → ℕ) (may_leave : D → List ℕ → Type 
         holds = λ image left. elim (on.1 image left) [ inl none ↦ absurd none | inr held ↦ held ];
       }
 
-  pub opening_goes : (before after_it : BookView D) → Goes before after_it → (from : ℕ) (left : List ℕ → Type 0) → IsSinceOpening moment left_since from left before → IsSinceOpening moment left_since from left after_it
+  pub opening_goes : (before after_it : BookView Disk) → Goes before after_it → (from : ℕ) (left : List ℕ → Type 0) → IsSinceOpening D from left before → IsSinceOpening D from left after_it
   opening_goes before after_it goes from left was =
       let on = goes_on before after_it goes from 0 left was.past (omega arith) was.holds in
       record { past = on.0; holds = on.1 }
 
   -- as it was opened
-  pub opening_now : (book : BookView D) (from : ℕ) (left : List ℕ → Type 0) → IsPast moment left_since from left book.library.disk → IsSinceOpening moment left_since from left book
+  pub opening_now : (book : BookView Disk) (from : ℕ) (left : List ℕ → Type 0) → IsPast D from left book.library.disk → IsSinceOpening D from left book
   opening_now book from left named = record { past = named.past; holds = λ image was. inl (named.all image was) }
 
   -- ---- each call
 
-  module _ (before after_it : BookView D) (replays : Replays (chronicle_of before)) (replays_after : Replays (chronicle_of after_it)) (idle : before.library.closed ≡ false → before.failed ≡ []) where
-    pub commit_goes : (failures : D → ℕ) (old new : Holder) (command : Command) (result : Result Receipt BookFault) → CommitAnswers failures before old command after_it new result
-        → (before.library.closed ≡ false → LeavesOnly moment left_since before.library.disk after_it.library.disk (RecoversOneOf before.library.units (after before.library.units (change_of command))))
+  module _ (before after_it : BookView Disk) (replays : Replays (chronicle_of before)) (replays_after : Replays (chronicle_of after_it)) (idle : before.library.closed ≡ false → before.failed ≡ []) where
+    pub commit_goes : (old new : Holder) (command : Command) (result : Result Receipt BookFault) → CommitAnswers D.failures before old command after_it new result
+        → (before.library.closed ≡ false → LeavesOnly D.moment D.left_since before.library.disk after_it.library.disk (RecoversOneOf before.library.units (after before.library.units (change_of command))))
         → Goes before after_it
-    commit_goes failures old new command (Ok receipt) answers leaves =
+    commit_goes old new command (Ok receipt) answers leaves =
         let done = answers.0 in
         let c = change_of command in
         written before after_it (receipt.entry ∷ []) (RecoversOneOf before.library.units (after before.library.units c)) done.recorded.base done.recorded.history (idle done.asked.idle) (leaves done.asked.idle)
         (λ n image few recovers. elim recovers [
           | inl old_map ↦ of_prefix after_it n image before.history (receipt.entry ∷ []) before.base before.library.units done.recorded.base done.recorded.history replays.units few old_map
           | inr new_map ↦ of_prefix after_it n image after_it.history [] after_it.base after_it.library.units refl (sym (nothing_behind after_it.history)) replays_after.units
-              (omega (arith, few, ap length done.recorded.history, length-append before.history (receipt.entry ∷ []))) (subst (λ (v : View D). RecoversAlone image v.units) (sym done.library) new_map)
+              (omega (arith, few, ap length done.recorded.history, length-append before.history (receipt.entry ∷ []))) (subst (λ (v : View Disk). RecoversAlone image v.units) (sym done.library) new_map)
         ])
-    commit_goes failures old new command (Err (Exists receipt)) refused leaves = longer before after_it (receipt.entry ∷ []) refused.recorded.base refused.recorded.history refused.library refused.failed
-    commit_goes failures old new command (Err (Absent receipt)) refused leaves = longer before after_it (receipt.entry ∷ []) refused.recorded.base refused.recorded.history refused.library refused.failed
-    commit_goes failures old new command (Err Closed) (_, stays, _) leaves = same before after_it stays
-    commit_goes failures old new command (Err (Estranged number found)) (_, _, stays, _) leaves = same before after_it stays
-    commit_goes failures old new command (Err Full) (_, _, stays, _) leaves = same before after_it stays
-    commit_goes failures old new command (Err OutOfMemory) (_, stays, _) leaves = same before after_it stays
-    commit_goes failures old new command (Err DiskFault) (asked, _, _, stays, _) leaves =
+    commit_goes old new command (Err (Exists receipt)) refused leaves = longer before after_it (receipt.entry ∷ []) refused.recorded.base refused.recorded.history refused.library refused.failed
+    commit_goes old new command (Err (Absent receipt)) refused leaves = longer before after_it (receipt.entry ∷ []) refused.recorded.base refused.recorded.history refused.library refused.failed
+    commit_goes old new command (Err Closed) (_, stays, _) leaves = same before after_it stays
+    commit_goes old new command (Err (Estranged number found)) (_, _, stays, _) leaves = same before after_it stays
+    commit_goes old new command (Err Full) (_, _, stays, _) leaves = same before after_it stays
+    commit_goes old new command (Err OutOfMemory) (_, stays, _) leaves = same before after_it stays
+    commit_goes old new command (Err DiskFault) (asked, _, _, stays, _) leaves =
         let c = change_of command in
-        let base : after_it.base ≡ before.base = ap (λ (b : BookView D). b.base) stays in
-        let history : after_it.history ≡ before.history = ap (λ (b : BookView D). b.history) stays in
-        let units : after_it.library.units ≡ before.library.units = ap (λ (b : BookView D). b.library.units) stays in
-        let failed : after_it.failed ≡ c ∷ [] = ap (λ (b : BookView D). b.failed) stays in
+        let base : after_it.base ≡ before.base = ap (λ (b : BookView Disk). b.base) stays in
+        let history : after_it.history ≡ before.history = ap (λ (b : BookView Disk). b.history) stays in
+        let units : after_it.library.units ≡ before.library.units = ap (λ (b : BookView Disk). b.library.units) stays in
+        let failed : after_it.failed ≡ c ∷ [] = ap (λ (b : BookView Disk). b.failed) stays in
         written before after_it [] (RecoversOneOf before.library.units (after before.library.units c)) base (history ∙ sym (nothing_behind before.history)) (idle asked.idle) (leaves asked.idle)
         (λ n image few recovers. elim recovers [
           | inl old_map ↦ of_prefix after_it n image before.history [] before.base before.library.units base (history ∙ sym (nothing_behind before.history)) replays.units few old_map
@@ -183,27 +184,27 @@ module _ {D : Type 0} (moment : D → ℕ) (may_leave : D → List ℕ → Type 
     look_goes old new asked (Err DiskFault) answers = absurd answers
 
     rewritten : after_it.base ≡ before.base → after_it.history ≡ before.history → before.failed ≡ []
-        → LeavesOnly moment left_since before.library.disk after_it.library.disk (λ image. RecoversAlone image before.library.units) → Goes before after_it
+        → LeavesOnly D.moment D.left_since before.library.disk after_it.library.disk (λ image. RecoversAlone image before.library.units) → Goes before after_it
     rewritten base history none leaves =
         written before after_it [] (λ image. RecoversAlone image before.library.units) base (history ∙ sym (nothing_behind before.history)) none leaves
         (λ n image few recovers. of_prefix after_it n image before.history [] before.base before.library.units base (history ∙ sym (nothing_behind before.history)) replays.units few recovers)
 
-    pub compact_goes : (failures : D → ℕ) (result : Result (Unit {0}) BookFault) → CompactAnswers failures before after_it result
-        → (before.library.closed ≡ false → LeavesOnly moment left_since before.library.disk after_it.library.disk (λ image. RecoversAlone image before.library.units)) → Goes before after_it
-    compact_goes failures (Ok done) (open', _, _, is) leaves = rewritten (ap (λ (b : BookView D). b.base) is) (ap (λ (b : BookView D). b.history) is) (idle open') (leaves open')
-    compact_goes failures (Err DiskFault) (open', _, _, is) leaves = rewritten (ap (λ (b : BookView D). b.base) is) (ap (λ (b : BookView D). b.history) is) (idle open') (leaves open')
-    compact_goes failures (Err Closed) (_, stays) leaves = same before after_it stays
-    compact_goes failures (Err Full) (_, _, stays) leaves = same before after_it stays
-    compact_goes failures (Err OutOfMemory) (_, stays) leaves = same before after_it stays
-    compact_goes failures (Err (Exists receipt)) answers leaves = absurd answers
-    compact_goes failures (Err (Absent receipt)) answers leaves = absurd answers
-    compact_goes failures (Err (Estranged number found)) answers leaves = absurd answers
+    pub compact_goes : (result : Result (Unit {0}) BookFault) → CompactAnswers D.failures before after_it result
+        → (before.library.closed ≡ false → LeavesOnly D.moment D.left_since before.library.disk after_it.library.disk (λ image. RecoversAlone image before.library.units)) → Goes before after_it
+    compact_goes (Ok done) (open', _, _, is) leaves = rewritten (ap (λ (b : BookView Disk). b.base) is) (ap (λ (b : BookView Disk). b.history) is) (idle open') (leaves open')
+    compact_goes (Err DiskFault) (open', _, _, is) leaves = rewritten (ap (λ (b : BookView Disk). b.base) is) (ap (λ (b : BookView Disk). b.history) is) (idle open') (leaves open')
+    compact_goes (Err Closed) (_, stays) leaves = same before after_it stays
+    compact_goes (Err Full) (_, _, stays) leaves = same before after_it stays
+    compact_goes (Err OutOfMemory) (_, stays) leaves = same before after_it stays
+    compact_goes (Err (Exists receipt)) answers leaves = absurd answers
+    compact_goes (Err (Absent receipt)) answers leaves = absurd answers
+    compact_goes (Err (Estranged number found)) answers leaves = absurd answers
 
   -- ---- the newest
 
   -- the book as it is now
-  now_since : (book : BookView D) → Replays (chronicle_of book) → length book.failed ≤ 1 → ((image : List ℕ) → left_since book.library.disk (moment book.library.disk) image → may_leave book.library.disk image)
-      → ((image : List ℕ) → may_leave book.library.disk image → RecoversTo book.library.units book.failed image) → Since book book
+  now_since : (book : BookView Disk) → Replays (chronicle_of book) → length book.failed ≤ 1 → ((image : List ℕ) → D.left_since book.library.disk (D.moment book.library.disk) image → D.may_leave book.library.disk image)
+      → ((image : List ℕ) → D.may_leave book.library.disk image → RecoversTo book.library.units book.failed image) → Since book book
   now_since book replays one only_now images = record {
     rest = [];
     grows = sym (nothing_behind book.history);
@@ -211,16 +212,16 @@ module _ {D : Type 0} (moment : D → ℕ) (may_leave : D → List ℕ → Type 
     holds = λ image left. holds_now book image book.failed replays.units refl one (images image (only_now image left));
   }
 
-  pub one_more : (book : BookView D) (since : List (BookView D)) → Replays (chronicle_of book) → length book.failed ≤ 1 → ((image : List ℕ) → left_since book.library.disk (moment book.library.disk) image → may_leave book.library.disk image)
-      → ((image : List ℕ) → may_leave book.library.disk image → RecoversTo book.library.units book.failed image)
-      → AreSince moment left_since book since → AreSince moment left_since book (since ++ book ∷ [])
+  pub one_more : (book : BookView Disk) (since : List (BookView Disk)) → Replays (chronicle_of book) → length book.failed ≤ 1 → ((image : List ℕ) → D.left_since book.library.disk (D.moment book.library.disk) image → D.may_leave book.library.disk image)
+      → ((image : List ℕ) → D.may_leave book.library.disk image → RecoversTo book.library.units book.failed image)
+      → AreSince D book since → AreSince D book (since ++ book ∷ [])
   one_more book since replays one only_now images all k old at =
-      elim (snoc_cases since book old k at) [ inl h ↦ all k old h.1 | inr h ↦ subst (λ (b : BookView D). Since book b) (sym h.1) (now_since book replays one only_now images) ]
+      elim (snoc_cases since book old k at) [ inl h ↦ all k old h.1 | inr h ↦ subst (λ (b : BookView Disk). Since book b) (sym h.1) (now_since book replays one only_now images) ]
 
 -- reading changes nothing of what a crash has left since an earlier moment
-pub past_on : {D : Type 0} (seen : D → List ℕ) (may_leave : D → List ℕ → Type 0) (moment : D → ℕ) (left_since : D → ℕ → List ℕ → Type 0) (from : ℕ) (left : List ℕ → Type 0) (old new : D)
-    → IsPast moment left_since from left old → OnlyReads seen may_leave moment left_since old new → IsPast moment left_since from left new
-past_on seen may_leave moment left_since from left old new named reads = record {
+pub past_on : {Disk : Type 0} (D : Ghosts Disk) (from : ℕ) (left : List ℕ → Type 0) (old new : Disk)
+    → IsPast D from left old → OnlyReads D.seen D.may_leave D.moment D.left_since old new → IsPast D from left new
+past_on D from left old new named reads = record {
   past = omega (arith, named.past, reads.later);
   all = λ image since. named.all image (reads.moments from image named.past since);
 }

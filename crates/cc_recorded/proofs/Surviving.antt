@@ -2,6 +2,7 @@
 use Rattle.std.proofs.Common.{◌≡◌, ◌⊎◌, ℕ, zero, suc, inl, inr, List, [], ◌∷◌, ◌++◌, take, Some, None, refl, sym, ap, subst, ◌∙◌, append_assoc}
 use Rattle.std.specs.Prelude.{slice_get}
 use Rattle.std.proofs.lemmas.List.{map-append}
+use Rattle.cc_disk.specs.declared.disk.Disk.{Ghosts}
 use Rattle.cc_library.specs.declared.command.LibraryCommand.{LibraryCommand}
 use Rattle.cc_core.specs.declared.command.Numbered.{Numbered}
 use Rattle.cc_core.specs.Rules.{Rules}
@@ -21,11 +22,11 @@ use Rattle.cc_recorded.specs.Promise.{HoldsPrefix, SurvivesCrash}
 use Rattle.cc_recorded.specs.Since.{HoldsFrom}
 use Rattle.cc_recorded.specs.Tie.{IsTied}
 
-module _ {D P : Type 0} (rules : Rules P) (keeps : P → Type 0)
+module _ {Disk P : Type 0} (rules : Rules P) (keeps : P → Type 0)
     (survives : (first new : Contents P) (events : List (Event P)) → IsBeginning first → Run rules keeps first events new → EachImageSurvives new.core)
     (units : (first new : Contents P) (events : List (Event P)) → IsBeginning first → Run rules keeps first events new → EachImageIsRight (IsRightOr is_right first.core.library) new.core)
-    (seen : D → List ℕ) (may_leave : D → List ℕ → Type 0) where
-  pub tied_survives : (book : BookView D) → IsTied rules keeps seen may_leave book → (image : List ℕ) → may_leave book.library.disk image → SurvivesCrash book image
+    (D : Ghosts Disk) where
+  pub tied_survives : (book : BookView Disk) → IsTied rules keeps D book → (image : List ℕ) → D.may_leave book.library.disk image → SurvivesCrash book image
   tied_survives book tied image left =
       let order = tied.shows.order in
       let here = tied.shows.disk.images refl image left in
@@ -59,9 +60,9 @@ right_change base (change.Withdraw name) agreed = tt
 each_right : (base units : Units) → EachAgrees base units → EachUnit (IsRightOr is_right base) units
 each_right base units each name unit at = elim (each name unit at) [ inl there ↦ inl (name, there) | inr agreed ↦ inr agreed ]
 
-pub held_agrees : {D : Type 0} → ((base : Units) (history : List Entry) → HaveAgreed history → EachAgrees base (units_after base history))
+pub held_agrees : {Disk : Type 0} → ((base : Units) (history : List Entry) → HaveAgreed history → EachAgrees base (units_after base history))
     → ((base library : Units) (c : LibraryCommand) → EachUnit (IsRightOr is_right base) library → IsRightCommand (IsRightOr is_right base) c → EachUnit (IsRightOr is_right base) (after library c))
-    → (book : BookView D) → Replays (chronicle_of book) → HaveAgreed book.history → AllAgreed book.failed
+    → (book : BookView Disk) → Replays (chronicle_of book) → HaveAgreed book.history → AllAgreed book.failed
     → (entries : ℕ) (image : List ℕ) (library : Units) → HoldsFrom book entries image → Recovers image library → EachUnit (IsRightOr is_right book.base) library
 held_agrees law stays book replays agreed failed entries image library (inl (j, _, _, alone)) recovers =
     subst (λ (u : Units). EachUnit (IsRightOr is_right book.base) u) (sym (alone.alone library recovers))
@@ -74,12 +75,12 @@ held_agrees law stays book replays agreed failed entries image library (inr (c, 
     (stays book.base book.library.units c map (right_change book.base c one))
 
 -- each unit of the map is the base's, or was compiled
-pub map_agrees : {D : Type 0} → ((base : Units) (history : List Entry) → HaveAgreed history → EachAgrees base (units_after base history)) → (book : BookView D) → Replays (chronicle_of book) → HaveAgreed book.history
+pub map_agrees : {Disk : Type 0} → ((base : Units) (history : List Entry) → HaveAgreed history → EachAgrees base (units_after base history)) → (book : BookView Disk) → Replays (chronicle_of book) → HaveAgreed book.history
     → EachAgrees book.base book.library.units
 map_agrees law book replays agreed = subst (λ (u : Units). EachAgrees book.base u) (sym replays.units) (law book.base book.history agreed)
 
 -- what holds a prefix of the calls, with its units
-pub or_prefix : {D : Type 0} (book : BookView D) (left : List ℕ → Type 0) (image : List ℕ)
+pub or_prefix : {Disk : Type 0} (book : BookView Disk) (left : List ℕ → Type 0) (image : List ℕ)
     → ((library : Units) → HoldsFrom book 0 image → Recovers image library → EachUnit (IsRightOr is_right book.base) library) → left image ⊎ HoldsFrom book 0 image → left image ⊎ HoldsPrefix book image
 or_prefix book left image right (inl early) = inl early
 or_prefix book left image right (inr held) = inr (record { holds = held; right = λ library recovers. right library held recovers })

@@ -6,6 +6,7 @@ use Rattle.std.specs.Ordering.{nat_cmp}
 use Rattle.cc_library.specs.declared.command.LibraryCommand as made
 use Rattle.cc_library.specs.Body.{IsCommand, body_of}
 use Rattle.cc_library.specs.Recovered.{StandFor, View}
+use Rattle.cc_disk.specs.declared.disk.Disk.{Ghosts}
 use Rattle.cc_disk.specs.Images.{LeavesAlone}
 use Rattle.cc_journal.specs.Format.{HoldsRecords}
 use Rattle.cc_core.specs.declared.command.Reply.{Reply}
@@ -40,7 +41,7 @@ use Rattle.cc_recorded.specs.Core.{Has, IsPhase, Shows, ShowsDisk, IsCommitOf, I
 use Rattle.cc_recorded.specs.Tie.{IsTied}
 use Rattle.cc_recorded.proofs.Cores.{commits, nothing_behind, order_same}
 use Rattle.cc_recorded.proofs.Rewriting.{compacts}
-use Rattle.cc_recorded.proofs.Beginning.{begins, same_core}
+use Rattle.cc_recorded.proofs.Beginning.{begins, honest_kind, same_core}
 use Rattle.cc_recorded.proofs.Committing.{look_changes_nothing}
 
 -- ---- how a run goes on
@@ -147,27 +148,48 @@ not_open : (failed : List made.LibraryCommand) (phase : Phase) → IsPhase true 
 not_open [] phase is open' = let h : ◌≡◌ {A = Option Refusal} (Some refusal.Closed) None = ap closed (sym is) ∙ open' in cc
 not_open (c ∷ failed) phase is open' = let h : ◌≡◌ {A = Option Refusal} (Some refusal.Closed) None = ap closed (sym is.2) ∙ open' in cc
 
-module _ {D P : Type 0} (rules : Rules P) (keeps : P → Type 0) (seen : D → List ℕ) (may_leave : D → List ℕ → Type 0) where
-  abbrev Tied : BookView D → Type 0
-  Tied book = IsTied rules keeps seen may_leave book
+-- what becomes of the disk's bytes does not depend on what the kind says of itself
+changes_too : {Disk T : Type 0} (D : Ghosts Disk) (command : made.LibraryCommand) (old new : View Disk) (result : Result T BookFault) → ChangesDisk D command old new result → ChangesDisk (honest_kind D) command old new result
+changes_too D command old new (Ok done) is = is
+changes_too D command old new (Err DiskFault) is = is
+changes_too D command old new (Err (Exists receipt)) is = is
+changes_too D command old new (Err (Absent receipt)) is = is
+changes_too D command old new (Err Full) is = is
+changes_too D command old new (Err Closed) is = is
+changes_too D command old new (Err (Estranged number found)) is = is
+changes_too D command old new (Err OutOfMemory) is = is
 
-  abbrev Shown : BookView D → Contents P → Type 0
-  Shown book s = Shows true seen may_leave book s
+compacts_too : {Disk T : Type 0} (D : Ghosts Disk) (old new : View Disk) (result : Result T BookFault) → CompactsDisk D old new result → CompactsDisk (honest_kind D) old new result
+compacts_too D old new (Ok done) is = is
+compacts_too D old new (Err DiskFault) is = is
+compacts_too D old new (Err (Exists receipt)) is = is
+compacts_too D old new (Err (Absent receipt)) is = is
+compacts_too D old new (Err Full) is = is
+compacts_too D old new (Err Closed) is = is
+compacts_too D old new (Err (Estranged number found)) is = is
+compacts_too D old new (Err OutOfMemory) is = is
 
-  same_book : (before after_it : BookView D) → Tied before → after_it ≡ before → Tied after_it
+module _ {Disk P : Type 0} (rules : Rules P) (keeps : P → Type 0) (D : Ghosts Disk) where
+  abbrev Tied : BookView Disk → Type 0
+  Tied book = IsTied rules keeps D book
+
+  abbrev Shown : BookView Disk → Contents P → Type 0
+  Shown book s = Shows (honest_kind D) book s
+
+  same_book : (before after_it : BookView Disk) → Tied before → after_it ≡ before → Tied after_it
   same_book before after_it tied same = subst Tied (sym same) tied
 
   -- ---- a look, which changes nothing shown
 
-  shown_same : (before after_it : BookView D) (s : Contents P) → Shown before s → after_it.library ≡ before.library → after_it.failed ≡ before.failed → after_it.base ≡ before.base → changes after_it.history ≡ changes before.history → Shown after_it s
+  shown_same : (before after_it : BookView Disk) (s : Contents P) → Shown before s → after_it.library ≡ before.library → after_it.failed ≡ before.failed → after_it.base ≡ before.base → changes after_it.history ≡ changes before.history → Shown after_it s
   shown_same before after_it s shows library failed base same = record {
-    library = shows.library ∙ ap (λ (v : View D). v.units) (sym library);
+    library = shows.library ∙ ap (λ (v : View Disk). v.units) (sym library);
     order = order_same before after_it s.core.order s.core.acknowledged shows.order base same failed;
-    phase = subst (λ (l : List made.LibraryCommand). IsPhase after_it.library.closed l s.core.phase) (sym failed) (subst (λ (v : View D). IsPhase v.closed before.failed s.core.phase) (sym library) shows.phase);
-    disk = subst (λ (v : View D). ShowsDisk true seen may_leave v s.core.store) (sym library) shows.disk;
+    phase = subst (λ (l : List made.LibraryCommand). IsPhase after_it.library.closed l s.core.phase) (sym failed) (subst (λ (v : View Disk). IsPhase v.closed before.failed s.core.phase) (sym library) shows.phase);
+    disk = subst (λ (v : View Disk). ShowsDisk (honest_kind D) v s.core.store) (sym library) shows.disk;
   }
 
-  pub look_tied : (before after_it : BookView D) (old new : Holder) (asked : Asked) (result : Result Receipt BookFault) → IsLook asked → LookAnswers before old asked after_it new result → Tied before → Tied after_it
+  pub look_tied : (before after_it : BookView Disk) (old new : Holder) (asked : Asked) (result : Result Receipt BookFault) → IsLook asked → LookAnswers before old asked after_it new result → Tied before → Tied after_it
   look_tied before after_it old new asked (Ok receipt) look (recorded, library, failed) tied =
       let same : changes after_it.history ≡ changes before.history =
       ap changes recorded.history ∙ changes-push before.history receipt.entry
@@ -195,10 +217,10 @@ module _ {D P : Type 0} (rules : Rules P) (keeps : P → Type 0) (seen : D → L
 
   -- ---- the opening
 
-  pub opening_tied : (book : BookView D) → book.history ≡ [] → book.failed ≡ [] → book.library.closed ≡ false → book.base ≡ book.library.units → StandFor book.library.bodies book.library.units
-      → HoldsRecords (seen book.library.disk) book.library.area book.library.bodies → LeavesAlone (seen book.library.disk) (may_leave book.library.disk) → Tied book
+  pub opening_tied : (book : BookView Disk) → book.history ≡ [] → book.failed ≡ [] → book.library.closed ≡ false → book.base ≡ book.library.units → StandFor book.library.bodies book.library.units
+      → HoldsRecords (D.seen book.library.disk) book.library.area book.library.bodies → LeavesAlone (D.seen book.library.disk) (D.may_leave book.library.disk) → Tied book
   opening_tied book none none_failed idle same stand holds alone =
-      let made = begins {P = P} seen may_leave book none none_failed idle same stand holds alone in
+      let made = begins {P = P} D book none none_failed idle same stand holds alone in
       record {
         first = made.0;
         opened = made.2;
@@ -212,15 +234,15 @@ module _ {D P : Type 0} (rules : Rules P) (keeps : P → Type 0) (seen : D → L
         idle = ap (λ (w : FinMap nat_cmp _). get w 0) made.2.workers ∙ get-empty nat_cmp 0;
       }
 
-module _ {D P : Type 0} (rules : Rules P) (keeps : P → Type 0) (law : TurnLaw rules keeps) (seen : D → List ℕ) (may_leave : D → List ℕ → Type 0) where
-  abbrev TiedSo : BookView D → Type 0
-  TiedSo book = IsTied rules keeps seen may_leave book
+module _ {Disk P : Type 0} (rules : Rules P) (keeps : P → Type 0) (law : TurnLaw rules keeps) (D : Ghosts Disk) where
+  abbrev TiedSo : BookView Disk → Type 0
+  TiedSo book = IsTied rules keeps D book
 
-  abbrev ShownBy : BookView D → Contents P → Type 0
-  ShownBy book s = Shows true seen may_leave book s
+  abbrev ShownBy : BookView Disk → Contents P → Type 0
+  ShownBy book s = Shows (honest_kind D) book s
 
   -- the run goes on to a state that the book shows afterwards
-  goes_on : (before after_it : BookView D) (tied : TiedSo before) → after_it.base ≡ before.base → (events : List (Event P)) (new : Contents P) → Run rules keeps tied.now events new → ShownBy after_it new
+  goes_on : (before after_it : BookView Disk) (tied : TiedSo before) → after_it.base ≡ before.base → (events : List (Event P)) (new : Contents P) → Run rules keeps tied.now events new → ShownBy after_it new
       → (clients : ℕ) → ((k : ℕ) → clients ≤ k → get new.jobs k ≡ None) → get new.workers 0 ≡ None → TiedSo after_it
   goes_on before after_it tied base events new run shows clients fresh idle = record {
     first = tied.first;
@@ -239,14 +261,14 @@ module _ {D P : Type 0} (rules : Rules P) (keeps : P → Type 0) (law : TurnLaw 
   abbrev worker : WorkerId
   worker = record { number = 0 }
 
-  abbrev next : (book : BookView D) → TiedSo book → ClientId
+  abbrev next : (book : BookView Disk) → TiedSo book → ClientId
   next book tied = record { number = tied.clients }
 
-  abbrev IsReadyFor : (book : BookView D) → TiedSo book → made.LibraryCommand → Type 0
+  abbrev IsReadyFor : (book : BookView Disk) → TiedSo book → made.LibraryCommand → Type 0
   IsReadyFor book tied c = CanBeReady rules keeps tied.now (next book tied) worker c
 
   -- while no device call has failed, the disk's area is within its limits
-  area_small : (book : BookView D) (s : Contents P) → Shows true seen may_leave book s → closed s.core.phase ≡ None → s.core.store.area ≤ 2 ^ 30
+  area_small : (book : BookView Disk) (s : Contents P) → Shows (honest_kind D) book s → closed s.core.phase ≡ None → s.core.store.area ≤ 2 ^ 30
   area_small book s shows open' = by book.library.closed refl shows.phase
     where
       by : (b : Bool) → book.library.closed ≡ b → IsPhase b book.failed s.core.phase → s.core.store.area ≤ 2 ^ 30
@@ -254,90 +276,90 @@ module _ {D P : Type 0} (rules : Rules P) (keeps : P → Type 0) (law : TurnLaw 
       by true e is = absurd (not_open book.failed s.core.phase is open')
 
   -- a commit that begins
-  begun_on : (before after_it : BookView D) (tied : TiedSo before) → after_it.base ≡ before.base → (c : made.LibraryCommand) → (length (body_of c) < 2 ^ 32 → IsCommand c) → (ready_for : IsReadyFor before tied c)
+  begun_on : (before after_it : BookView Disk) (tied : TiedSo before) → after_it.base ≡ before.base → (c : made.LibraryCommand) → (length (body_of c) < 2 ^ 32 → IsCommand c) → (ready_for : IsReadyFor before tied c)
       → (reply : Option Reply) (others : List (Event P × Option Reply)) → AllPlain rules keeps law others → (new : Contents P)
       → Steps rules ready_for.new ((event.Begin (next before tied), reply) ∷ others) new → ShownBy after_it new → TiedSo after_it
   begun_on before after_it tied base c can ready_for reply others plain new steps shows =
       let client = next before tied in
       let has : Has rules ready_for.new client c = record { its = ready_for.job; held = ready_for.held; there = ready_for.there; gives = ready_for.comes } in
-      let shown = same_core true seen may_leave before tied.now ready_for.new ready_for.core tied.shows in
+      let shown = same_core (honest_kind D) before tied.now ready_for.new ready_for.core tied.shows in
       let spelling : CanSpell rules keeps law ready_for.new c = record { command = can; area = area_small before ready_for.new shown } in
       let on = begun_steps rules keeps law ready_for.new client reply others new c has spelling plain steps in
       let later = event.Begin client ∷ events_of rules keeps law others in
       goes_on before after_it tied base (ready_for.events ++ later) new (law.goes_on tied.now ready_for.new new ready_for.events later ready_for.run on.run) shows (tied.clients + 1)
       (λ k less. on.jobs k (ready_for.others k (λ is. absurd (omega (arith, less, is))) ∙ tied.fresh k (omega (arith, less)))) (on.workers 0 ready_for.idle)
 
-  base_same : (failures : D → ℕ) (before after_it : BookView D) (old new : Holder) (command : Command) (result : Result Receipt BookFault) → CommitAnswers failures before old command after_it new result → after_it.base ≡ before.base
-  base_same failures before after_it old new command (Ok receipt) answers = answers.0.recorded.base
-  base_same failures before after_it old new command (Err (Exists receipt)) answers = answers.recorded.base
-  base_same failures before after_it old new command (Err (Absent receipt)) answers = answers.recorded.base
-  base_same failures before after_it old new command (Err Closed) (_, same, _) = ap (λ (b : BookView D). b.base) same
-  base_same failures before after_it old new command (Err (Estranged number found)) (_, _, same, _) = ap (λ (b : BookView D). b.base) same
-  base_same failures before after_it old new command (Err Full) (_, _, same, _) = ap (λ (b : BookView D). b.base) same
-  base_same failures before after_it old new command (Err DiskFault) (_, _, _, same, _) = ap (λ (b : BookView D). b.base) same
-  base_same failures before after_it old new command (Err OutOfMemory) (_, same, _) = ap (λ (b : BookView D). b.base) same
+  base_same : (before after_it : BookView Disk) (old new : Holder) (command : Command) (result : Result Receipt BookFault) → CommitAnswers D.failures before old command after_it new result → after_it.base ≡ before.base
+  base_same before after_it old new command (Ok receipt) answers = answers.0.recorded.base
+  base_same before after_it old new command (Err (Exists receipt)) answers = answers.recorded.base
+  base_same before after_it old new command (Err (Absent receipt)) answers = answers.recorded.base
+  base_same before after_it old new command (Err Closed) (_, same, _) = ap (λ (b : BookView Disk). b.base) same
+  base_same before after_it old new command (Err (Estranged number found)) (_, _, same, _) = ap (λ (b : BookView Disk). b.base) same
+  base_same before after_it old new command (Err Full) (_, _, same, _) = ap (λ (b : BookView Disk). b.base) same
+  base_same before after_it old new command (Err DiskFault) (_, _, _, same, _) = ap (λ (b : BookView Disk). b.base) same
+  base_same before after_it old new command (Err OutOfMemory) (_, same, _) = ap (λ (b : BookView Disk). b.base) same
 
   -- what the commit is for the core, it is for the tie
-  commit_on : (failures : D → ℕ) (before after_it : BookView D) (old new : Holder) (command : Command) (result : Result Receipt BookFault) (tied : TiedSo before)
-      → CommitAnswers failures before old command after_it new result → (length (body_of (change_of command)) < 2 ^ 32 → IsCommand (change_of command)) → (ready_for : IsReadyFor before tied (change_of command)) → after_it.base ≡ before.base
+  commit_on : (before after_it : BookView Disk) (old new : Holder) (command : Command) (result : Result Receipt BookFault) (tied : TiedSo before)
+      → CommitAnswers D.failures before old command after_it new result → (length (body_of (change_of command)) < 2 ^ 32 → IsCommand (change_of command)) → (ready_for : IsReadyFor before tied (change_of command)) → after_it.base ≡ before.base
       → IsCommitOf rules (ShownBy after_it) ready_for.new (next before tied) result → TiedSo after_it
-  commit_on failures before after_it old new command (Ok receipt) tied answers can ready_for base made =
+  commit_on before after_it old new command (Ok receipt) tied answers can ready_for base made =
       begun_on before after_it tied base (change_of command) can ready_for None
       ((event.WriteBody, None) ∷ (event.SyncBody, None) ∷ (event.WriteGate, None) ∷ (event.SyncGate, None) ∷ (event.Ack (next before tied), Some replies.Done) ∷ [])
       (refl, (refl, (refl, (refl, (refl, tt))))) made.0 made.1 made.2
-  commit_on failures before after_it old new command (Err (Exists receipt)) tied answers can ready_for base made =
+  commit_on before after_it old new command (Err (Exists receipt)) tied answers can ready_for base made =
       begun_on before after_it tied base (change_of command) can ready_for (Some (replies.Refused refusal.Exists)) [] tt made.0 made.1 made.2
-  commit_on failures before after_it old new command (Err (Absent receipt)) tied answers can ready_for base made =
+  commit_on before after_it old new command (Err (Absent receipt)) tied answers can ready_for base made =
       begun_on before after_it tied base (change_of command) can ready_for (Some (replies.Refused refusal.Absent)) [] tt made.0 made.1 made.2
-  commit_on failures before after_it old new command (Err Closed) tied answers can ready_for base made =
+  commit_on before after_it old new command (Err Closed) tied answers can ready_for base made =
       begun_on before after_it tied base (change_of command) can ready_for (Some (replies.Refused refusal.Closed)) [] tt made.0 made.1 made.2
-  commit_on failures before after_it old new command (Err Full) tied answers can ready_for base made =
+  commit_on before after_it old new command (Err Full) tied answers can ready_for base made =
       begun_on before after_it tied base (change_of command) can ready_for (Some (replies.Refused refusal.Full)) [] tt made.0 made.1 made.2
-  commit_on failures before after_it old new command (Err DiskFault) tied answers can ready_for base made =
+  commit_on before after_it old new command (Err DiskFault) tied answers can ready_for base made =
       elim made.1 [
         | inl steps ↦ begun_on before after_it tied base (change_of command) can ready_for None ((event.Fail, Some (replies.Refused refusal.DiskFault)) ∷ []) (refl, tt) made.0 steps made.2
         | inr steps ↦ begun_on before after_it tied base (change_of command) can ready_for None ((event.WriteBody, None) ∷ (event.SyncBody, None) ∷ (event.Fail, Some (replies.Refused refusal.DiskFault)) ∷ [])
             (refl, (refl, (refl, tt))) made.0 steps made.2
       ]
-  commit_on failures before after_it old new command (Err (Estranged number found)) tied (_, _, same, _) can ready_for base made = same_book rules keeps seen may_leave before after_it tied same
-  commit_on failures before after_it old new command (Err OutOfMemory) tied (_, same, _) can ready_for base made = same_book rules keeps seen may_leave before after_it tied same
+  commit_on before after_it old new command (Err (Estranged number found)) tied (_, _, same, _) can ready_for base made = same_book rules keeps D before after_it tied same
+  commit_on before after_it old new command (Err OutOfMemory) tied (_, same, _) can ready_for base made = same_book rules keeps D before after_it tied same
 
-  pub commit_tied : ((disk : D) → may_leave disk (seen disk)) → (failures : D → ℕ) (before after_it : BookView D) (old new : Holder) (command : Command) (result : Result Receipt BookFault)
-      → CommitAnswers failures before old command after_it new result → ChangesDisk seen may_leave (change_of command) before.library after_it.library result
+  pub commit_tied : ((disk : Disk) → D.may_leave disk (D.seen disk)) → (before after_it : BookView Disk) (old new : Holder) (command : Command) (result : Result Receipt BookFault)
+      → CommitAnswers D.failures before old command after_it new result → ChangesDisk D (change_of command) before.library after_it.library result
       → (length (body_of (change_of command)) < 2 ^ 32 → IsCommand (change_of command)) → HasBuilt rules keeps (change_of command) → TiedSo before → TiedSo after_it
-  commit_tied now failures before after_it old new command result answers disk can built tied =
+  commit_tied now before after_it old new command result answers disk can built tied =
       let up = phase_up before.library.closed before.failed tied.now.core.phase tied.shows.phase in
       let ready_for = law.ready tied.now (next before tied) worker (change_of command) up (tied.fresh tied.clients (omega arith)) tied.idle built in
       let has : Has rules ready_for.new (next before tied) (change_of command) = record { its = ready_for.job; held = ready_for.held; there = ready_for.there; gives = ready_for.comes } in
-      let shows = same_core true seen may_leave before tied.now ready_for.new ready_for.core tied.shows in
-      commit_on failures before after_it old new command result tied answers can ready_for (base_same failures before after_it old new command result answers)
-      (commits rules true seen may_leave (λ d h. now d) failures before after_it old new command result ready_for.new (next before tied) answers (λ h. disk) shows has)
+      let shows = same_core (honest_kind D) before tied.now ready_for.new ready_for.core tied.shows in
+      commit_on before after_it old new command result tied answers can ready_for (base_same before after_it old new command result answers)
+      (commits rules (honest_kind D) (λ d h. now d) before after_it old new command result ready_for.new (next before tied) answers (λ h. changes_too D (change_of command) before.library after_it.library result disk) shows has)
 
   -- ---- a rewrite
 
-  rewritten_on : (before after_it : BookView D) (tied : TiedSo before) → after_it.base ≡ before.base → (steps : List (Event P × Option Reply)) → AllPlain rules keeps law steps → (new : Contents P)
+  rewritten_on : (before after_it : BookView Disk) (tied : TiedSo before) → after_it.base ≡ before.base → (steps : List (Event P × Option Reply)) → AllPlain rules keeps law steps → (new : Contents P)
       → Steps rules tied.now steps new → ShownBy after_it new → TiedSo after_it
   rewritten_on before after_it tied base steps plain new is shows =
       let on = all_on rules keeps law tied.now steps new plain is in
       goes_on before after_it tied base (events_of rules keeps law steps) new on.run shows tied.clients (λ k less. on.jobs k (tied.fresh k less)) (on.workers 0 tied.idle)
 
-  rewrite_on : (failures : D → ℕ) (before after_it : BookView D) (result : Result (Unit {0}) BookFault) (tied : TiedSo before) → CompactAnswers failures before after_it result
+  rewrite_on : (before after_it : BookView Disk) (result : Result (Unit {0}) BookFault) (tied : TiedSo before) → CompactAnswers D.failures before after_it result
       → IsRewriteOf rules (ShownBy after_it) tied.now result → TiedSo after_it
-  rewrite_on failures before after_it (Ok done) tied (_, _, _, is) made =
-      rewritten_on before after_it tied (ap (λ (b : BookView D). b.base) is) rewritten_steps (refl, (refl, (refl, (refl, tt)))) made.0 made.1 made.2
-  rewrite_on failures before after_it (Err DiskFault) tied (_, _, _, is) made =
+  rewrite_on before after_it (Ok done) tied (_, _, _, is) made =
+      rewritten_on before after_it tied (ap (λ (b : BookView Disk). b.base) is) rewritten_steps (refl, (refl, (refl, (refl, tt)))) made.0 made.1 made.2
+  rewrite_on before after_it (Err DiskFault) tied (_, _, _, is) made =
       elim made.1 [
-        | inl steps ↦ rewritten_on before after_it tied (ap (λ (b : BookView D). b.base) is) rewrite_failed_first (refl, (refl, tt)) made.0 steps made.2
-        | inr steps ↦ rewritten_on before after_it tied (ap (λ (b : BookView D). b.base) is) rewrite_failed_last (refl, (refl, (refl, tt))) made.0 steps made.2
+        | inl steps ↦ rewritten_on before after_it tied (ap (λ (b : BookView Disk). b.base) is) rewrite_failed_first (refl, (refl, tt)) made.0 steps made.2
+        | inr steps ↦ rewritten_on before after_it tied (ap (λ (b : BookView Disk). b.base) is) rewrite_failed_last (refl, (refl, (refl, tt))) made.0 steps made.2
       ]
-  rewrite_on failures before after_it (Err Closed) tied (_, same) made = same_book rules keeps seen may_leave before after_it tied same
-  rewrite_on failures before after_it (Err Full) tied (_, _, same) made = same_book rules keeps seen may_leave before after_it tied same
-  rewrite_on failures before after_it (Err OutOfMemory) tied (_, same) made = same_book rules keeps seen may_leave before after_it tied same
-  rewrite_on failures before after_it (Err (Exists receipt)) tied answers made = absurd answers
-  rewrite_on failures before after_it (Err (Absent receipt)) tied answers made = absurd answers
-  rewrite_on failures before after_it (Err (Estranged number found)) tied answers made = absurd answers
+  rewrite_on before after_it (Err Closed) tied (_, same) made = same_book rules keeps D before after_it tied same
+  rewrite_on before after_it (Err Full) tied (_, _, same) made = same_book rules keeps D before after_it tied same
+  rewrite_on before after_it (Err OutOfMemory) tied (_, same) made = same_book rules keeps D before after_it tied same
+  rewrite_on before after_it (Err (Exists receipt)) tied answers made = absurd answers
+  rewrite_on before after_it (Err (Absent receipt)) tied answers made = absurd answers
+  rewrite_on before after_it (Err (Estranged number found)) tied answers made = absurd answers
 
-  pub compact_tied : (failures : D → ℕ) (before after_it : BookView D) (result : Result (Unit {0}) BookFault)
-      → CompactAnswers failures before after_it result → CompactsDisk seen may_leave before.library after_it.library result → TiedSo before → TiedSo after_it
-  compact_tied failures before after_it result answers disk tied =
-      rewrite_on failures before after_it result tied answers (compacts rules true seen may_leave failures before after_it result tied.now answers (λ h. disk) tied.shows)
+  pub compact_tied : (before after_it : BookView Disk) (result : Result (Unit {0}) BookFault)
+      → CompactAnswers D.failures before after_it result → CompactsDisk D before.library after_it.library result → TiedSo before → TiedSo after_it
+  compact_tied before after_it result answers disk tied =
+      rewrite_on before after_it result tied answers (compacts rules (honest_kind D) before after_it result tied.now answers (λ h. compacts_too D before.library after_it.library result disk) tied.shows)

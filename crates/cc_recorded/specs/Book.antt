@@ -1,6 +1,7 @@
 -- What contracts see of a book, the value of a service's lock, and what its type keeps.
-use Rattle.std.specs.Prelude.{◌≡◌, ℕ, ◌≤◌, Bool, false, IsTrue, List, [], ◌∷◌, length, Some, slice_get, refl}
+use Rattle.std.specs.Prelude.{◌≡◌, ℕ, ◌≤◌, false, IsTrue, List, [], ◌∷◌, length, Some, slice_get, refl}
 use Rattle.std.specs.Coded.{Coded, code_by, coded×, coded_list}
+use Rattle.cc_disk.specs.declared.disk.Disk.{Ghosts}
 use Rattle.cc_history.specs.Agree.{Agree}
 use Rattle.cc_library.specs.declared.command.LibraryCommand.{LibraryCommand}
 use Rattle.cc_library.specs.declared.command.LibraryCommand.TheVariants as change
@@ -44,12 +45,12 @@ RecoversTo units (failed ∷ others) image = RecoversOneOf units (after units fa
 
 -- What the type of a book keeps. While the library is not closed, every image of an honest disk recovers to its map; once the
 -- device has failed in a change, to the map with or without it.
-pub record IsRecordedLibrary {D : Type 0} (honest : Bool) (may_leave : D → List ℕ → Type 0) (named : Units) (total : ℕ) (book : BookView D) : Type 0 where
+pub record IsRecordedLibrary {Disk : Type 0} (D : Ghosts Disk) (named : Units) (total : ℕ) (book : BookView Disk) : Type 0 where
   pub replays : Replays (chronicle_of book)
   pub agreed : HaveAgreed book.history
   pub agreed_failed : AllAgreed book.failed
   pub counted : total ≡ length book.history
-  pub base : IsTrue honest → book.base ≡ named
+  pub base : IsTrue D.honest → book.base ≡ named
   pub idle : book.library.closed ≡ false → book.failed ≡ []
   pub one : length book.failed ≤ 1
-  pub images : IsTrue honest → (image : List ℕ) → may_leave book.library.disk image → RecoversTo book.library.units book.failed image
+  pub images : IsTrue D.honest → (image : List ℕ) → D.may_leave book.library.disk image → RecoversTo book.library.units book.failed image

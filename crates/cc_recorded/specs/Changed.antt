@@ -27,7 +27,7 @@ module _ {Disk : Type 0} (D : Ghosts Disk) where
   pub record IsBookChanged (before : BookView Disk) (old : Holder) (command : Command) (after : BookView Disk) (new : Holder) (result : Result Receipt BookFault) : Type 0 where
     pub answers : CommitAnswers D.failures before old command after new result
     -- what becomes of the disk's bytes
-    pub disk : IsTrue D.honest → ChangesDisk D.seen D.may_leave (change_of command) before.library after.library result
+    pub disk : IsTrue D.honest → ChangesDisk D (change_of command) before.library after.library result
     pub moments : ChangesAtOnce command before after
     -- at Ok it is the map after the command, alone
     pub kept : AllRecover after
@@ -36,7 +36,7 @@ module _ {Disk : Type 0} (D : Ghosts Disk) where
   pub record IsBookCompacted (before after : BookView Disk) (result : Result (Unit {0}) BookFault) : Type 0 where
     pub answers : CompactAnswers D.failures before after result
     -- what becomes of the disk's bytes
-    pub disk : IsTrue D.honest → CompactsDisk D.seen D.may_leave before.library after.library result
+    pub disk : IsTrue D.honest → CompactsDisk D before.library after.library result
     -- a crash at any moment leaves the map
     pub moments : IsTrue D.honest → before.library.closed ≡ false
         → LeavesOnly D.moment D.left_since before.library.disk after.library.disk (λ image. RecoversAlone image before.library.units)

@@ -1,6 +1,7 @@
 -- What a commit answers that compacts where this makes room, and what it leaves: 34 is its answer only where the record does not fit behind
 -- the compacted records either, or where the compaction was refused.
-use Rattle.std.specs.Prelude.{◌≡◌, ◌≢◌, ◌⊎◌, ℕ, ◌<◌, Bool, IsTrue, List, Result, Ok, Err}
+use Rattle.std.specs.Prelude.{◌≡◌, ◌≢◌, ◌⊎◌, ◌<◌, IsTrue, Result, Ok, Err}
+use Rattle.cc_disk.specs.declared.disk.Disk.{Ghosts}
 use Rattle.cc_library.specs.Answers.{IsMended}
 use Rattle.cc_library.specs.Compact.{room_compacted}
 use Rattle.cc_history.specs.declared.command.Command.{Command}
@@ -13,29 +14,29 @@ use Rattle.cc_recorded.specs.Disk.{ChangesDisk, CompactsDisk}
 use Rattle.cc_recorded.specs.declared.fault.BookFault.{BookFault}
 use Rattle.cc_recorded.specs.declared.fault.BookFault.TheVariants.{Full}
 
-module _ {D : Type 0} (honest : Bool) (failures : D → ℕ) (seen : D → List ℕ) (may_leave : D → List ℕ → Type 0) where
+module _ {Disk : Type 0} (D : Ghosts Disk) where
   -- What comes behind a compaction: the commit, on the book that the compaction leaves, and 34 is not its answer. Where the compaction was
   -- refused nothing comes, and 34 is the answer.
-  abbrev pub CommitsBehind : Command → (between : BookView D) (old : Holder) (after : BookView D) (new : Holder) → Result (Unit {0}) BookFault → Result Receipt BookFault → Type 0
+  abbrev pub CommitsBehind : Command → (between : BookView Disk) (old : Holder) (after : BookView Disk) (new : Holder) → Result (Unit {0}) BookFault → Result Receipt BookFault → Type 0
   CommitsBehind command between old after new (Ok done) result =
-      CommitAnswers failures between old command after new result × (result ≢ Err Full)
-      × (IsTrue honest → ChangesDisk seen may_leave (change_of command) between.library after.library result)
+      CommitAnswers D.failures between old command after new result × (result ≢ Err Full)
+      × (IsTrue D.honest → ChangesDisk D (change_of command) between.library after.library result)
   CommitsBehind command between old after new (Err fault) result = (result ≡ Err Full) × (after ≡ between) × (new ≡ old)
 
   -- 34 would refuse the change, and would not behind a compaction: so the library is compacted, which makes no entry and leaves the map.
-  pub record IsCompactedFor (before : BookView D) (old : Holder) (command : Command) (after : BookView D) (new : Holder) (result : Result Receipt BookFault) : Type 0 where
+  pub record IsCompactedFor (before : BookView Disk) (old : Holder) (command : Command) (after : BookView Disk) (new : Holder) (result : Result Receipt BookFault) : Type 0 where
     pub mended : IsMended before.library (change_of command)
     pub stands : LastStands before.history old.receipts
     pub compacted : Result (Unit {0}) BookFault
-    pub between : BookView D
-    pub answers : CompactAnswers failures before between compacted
-    pub rewritten : IsTrue honest → CompactsDisk seen may_leave before.library between.library compacted
+    pub between : BookView Disk
+    pub answers : CompactAnswers D.failures before between compacted
+    pub rewritten : IsTrue D.honest → CompactsDisk D before.library between.library compacted
     pub commits : CommitsBehind command between old after new compacted result
 
   -- the answer: as a commit has it, and 34 only where a compaction would make no room; or a compaction comes first
-  abbrev pub CompactingAnswers : (before : BookView D) (old : Holder) → Command → (after : BookView D) (new : Holder) → Result Receipt BookFault → Type 0
+  abbrev pub CompactingAnswers : (before : BookView Disk) (old : Holder) → Command → (after : BookView Disk) (new : Holder) → Result Receipt BookFault → Type 0
   CompactingAnswers before old command after new result =
-      (CommitAnswers failures before old command after new result
+      (CommitAnswers D.failures before old command after new result
       × (result ≡ Err Full → before.library.area < room_compacted before.library.units (change_of command))
-      × (IsTrue honest → ChangesDisk seen may_leave (change_of command) before.library after.library result))
+      × (IsTrue D.honest → ChangesDisk D (change_of command) before.library after.library result))
       ⊎ IsCompactedFor before old command after new result

@@ -3,6 +3,7 @@
 -- disk may leave.
 use Rattle.std.specs.Prelude.{◌≡◌, ◌⊎◌, ℕ, Bool, true, false, IsTrue, List, [], ◌∷◌, ◌++◌, length, Option, Some, None, Result, Ok, Err}
 use Rattle.std.specs.FinMap.{empty, get}
+use Rattle.cc_disk.specs.declared.disk.Disk.{Ghosts}
 use Rattle.cc_disk.specs.Model.{bytes_of, IsImage}
 use Rattle.cc_journal.specs.Format.{HoldsRecords, records}
 use Rattle.cc_library.specs.declared.command.LibraryCommand.{LibraryCommand}
@@ -49,20 +50,20 @@ IsPhase true (change ∷ others) phase = (last : Numbered) × (last.command ≡ 
 
 -- A store that leaves all that the disk may leave. While no device call has failed, it reads as the disk does, and its records are
 -- those of the disk, in the same area. (After that nobody reads before the disk is opened again.)
-pub record ShowsDisk {D : Type 0} (honest : Bool) (seen : D → List ℕ) (may_leave : D → List ℕ → Type 0) (view : View D) (store : StoreState) : Type 0 where
+pub record ShowsDisk {Disk : Type 0} (D : Ghosts Disk) (view : View Disk) (store : StoreState) : Type 0 where
   pub area : store.area ≡ view.area
   pub used : view.closed ≡ false → store.used ≡ length (records view.bodies)
-  pub bytes : IsTrue honest → view.closed ≡ false → bytes_of store.cells ≡ seen view.disk
-  pub images : IsTrue honest → (image : List ℕ) → may_leave view.disk image → IsImage store.cells image
-  pub holds : IsTrue honest → view.closed ≡ false → (h : HoldsRecords (seen view.disk) view.area view.bodies) × (h.area_byte ≡ store.area_byte)
+  pub bytes : IsTrue D.honest → view.closed ≡ false → bytes_of store.cells ≡ D.seen view.disk
+  pub images : IsTrue D.honest → (image : List ℕ) → D.may_leave view.disk image → IsImage store.cells image
+  pub holds : IsTrue D.honest → view.closed ≡ false → (h : HoldsRecords (D.seen view.disk) view.area view.bodies) × (h.area_byte ≡ store.area_byte)
 
-module _ {D P : Type 0} (honest : Bool) (seen : D → List ℕ) (may_leave : D → List ℕ → Type 0) where
+module _ {Disk P : Type 0} (D : Ghosts Disk) where
   -- the book shows this state: live map, order, phase and disk
-  pub record Shows (book : BookView D) (s : Contents P) : Type 0 where
+  pub record Shows (book : BookView Disk) (s : Contents P) : Type 0 where
     pub library : s.core.library ≡ book.library.units
     pub order : ShowsOrder book s.core.order s.core.acknowledged
     pub phase : IsPhase book.library.closed book.failed s.core.phase
-    pub disk : ShowsDisk honest seen may_leave book.library s.core.store
+    pub disk : ShowsDisk D book.library s.core.store
 
 module _ {P : Type 0} (rules : Rules P) where
   -- events with their replies, one step after the other

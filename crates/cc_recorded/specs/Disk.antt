@@ -1,6 +1,7 @@
 -- What a change, and what a compaction, does to the bytes of an honest disk. After 35 it is said once, for all images together, in
 -- which of the two writes the call failed.
-use Rattle.std.specs.Prelude.{ℕ, List, Result, Ok, Err}
+use Rattle.std.specs.Prelude.{ℕ, Result, Ok, Err}
+use Rattle.cc_disk.specs.declared.disk.Disk.{Ghosts}
 use Rattle.cc_disk.specs.Images.{LeavesAlone}
 use Rattle.cc_journal.specs.Commit.{FailsIn, IsCommitted}
 use Rattle.cc_journal.specs.Format.{HasAreaByte, HoldsRecords}
@@ -12,29 +13,29 @@ use Rattle.cc_recorded.specs.declared.fault.BookFault.TheVariants.{Exists, Absen
 
 -- at Ok the journal's commit of the change's record is made, all is settled, and the records are the library's; after 35 that commit
 -- was left in its first write, or in its last one
-abbrev pub ChangesDisk : {D T : Type 0} → (seen : D → List ℕ) (may_leave : D → List ℕ → Type 0) → LibraryCommand → (old new : View D) → Result T BookFault → Type 0
-ChangesDisk seen may_leave change old new (Ok done) =
-    HoldsRecords (seen new.disk) new.area new.bodies
-    × ((area_byte : ℕ) → HasAreaByte (seen old.disk) area_byte old.area → IsCommitted (commit_of area_byte old change) (seen old.disk) (seen new.disk) × LeavesAlone (seen new.disk) (may_leave new.disk))
-ChangesDisk seen may_leave change old new (Err DiskFault) =
-    (area_byte : ℕ) → HasAreaByte (seen old.disk) area_byte old.area → FailsIn (commit_of area_byte old change) (seen old.disk) (may_leave new.disk)
-ChangesDisk seen may_leave change old new (Err (Exists receipt)) = Unit {0}
-ChangesDisk seen may_leave change old new (Err (Absent receipt)) = Unit {0}
-ChangesDisk seen may_leave change old new (Err Full) = Unit {0}
-ChangesDisk seen may_leave change old new (Err Closed) = Unit {0}
-ChangesDisk seen may_leave change old new (Err (Estranged number found)) = Unit {0}
-ChangesDisk seen may_leave change old new (Err OutOfMemory) = Unit {0}
+abbrev pub ChangesDisk : {Disk T : Type 0} (D : Ghosts Disk) → LibraryCommand → (old new : View Disk) → Result T BookFault → Type 0
+ChangesDisk D change old new (Ok done) =
+    HoldsRecords (D.seen new.disk) new.area new.bodies
+    × ((area_byte : ℕ) → HasAreaByte (D.seen old.disk) area_byte old.area → IsCommitted (commit_of area_byte old change) (D.seen old.disk) (D.seen new.disk) × LeavesAlone (D.seen new.disk) (D.may_leave new.disk))
+ChangesDisk D change old new (Err DiskFault) =
+    (area_byte : ℕ) → HasAreaByte (D.seen old.disk) area_byte old.area → FailsIn (commit_of area_byte old change) (D.seen old.disk) (D.may_leave new.disk)
+ChangesDisk D change old new (Err (Exists receipt)) = Unit {0}
+ChangesDisk D change old new (Err (Absent receipt)) = Unit {0}
+ChangesDisk D change old new (Err Full) = Unit {0}
+ChangesDisk D change old new (Err Closed) = Unit {0}
+ChangesDisk D change old new (Err (Estranged number found)) = Unit {0}
+ChangesDisk D change old new (Err OutOfMemory) = Unit {0}
 
 -- the same of a compaction
-abbrev pub CompactsDisk : {D T : Type 0} → (seen : D → List ℕ) (may_leave : D → List ℕ → Type 0) → (old new : View D) → Result T BookFault → Type 0
-CompactsDisk seen may_leave old new (Ok done) =
-    HoldsRecords (seen new.disk) new.area new.bodies
-    × ((area_byte : ℕ) → HasAreaByte (seen old.disk) area_byte old.area → IsCommitted (rewrites_in area_byte old) (seen old.disk) (seen new.disk) × LeavesAlone (seen new.disk) (may_leave new.disk))
-CompactsDisk seen may_leave old new (Err DiskFault) =
-    (area_byte : ℕ) → HasAreaByte (seen old.disk) area_byte old.area → FailsIn (rewrites_in area_byte old) (seen old.disk) (may_leave new.disk)
-CompactsDisk seen may_leave old new (Err (Exists receipt)) = Unit {0}
-CompactsDisk seen may_leave old new (Err (Absent receipt)) = Unit {0}
-CompactsDisk seen may_leave old new (Err Full) = Unit {0}
-CompactsDisk seen may_leave old new (Err Closed) = Unit {0}
-CompactsDisk seen may_leave old new (Err (Estranged number found)) = Unit {0}
-CompactsDisk seen may_leave old new (Err OutOfMemory) = Unit {0}
+abbrev pub CompactsDisk : {Disk T : Type 0} (D : Ghosts Disk) → (old new : View Disk) → Result T BookFault → Type 0
+CompactsDisk D old new (Ok done) =
+    HoldsRecords (D.seen new.disk) new.area new.bodies
+    × ((area_byte : ℕ) → HasAreaByte (D.seen old.disk) area_byte old.area → IsCommitted (rewrites_in area_byte old) (D.seen old.disk) (D.seen new.disk) × LeavesAlone (D.seen new.disk) (D.may_leave new.disk))
+CompactsDisk D old new (Err DiskFault) =
+    (area_byte : ℕ) → HasAreaByte (D.seen old.disk) area_byte old.area → FailsIn (rewrites_in area_byte old) (D.seen old.disk) (D.may_leave new.disk)
+CompactsDisk D old new (Err (Exists receipt)) = Unit {0}
+CompactsDisk D old new (Err (Absent receipt)) = Unit {0}
+CompactsDisk D old new (Err Full) = Unit {0}
+CompactsDisk D old new (Err Closed) = Unit {0}
+CompactsDisk D old new (Err (Estranged number found)) = Unit {0}
+CompactsDisk D old new (Err OutOfMemory) = Unit {0}

@@ -1,5 +1,6 @@
 -- What the type of a book keeps, and what follows from it for whatever a crash leaves.
 use Rattle.std.specs.Prelude.{◌≡◌, ◌⊎◌, ℕ, Bool, false, IsTrue, List, [], ◌++◌}
+use Rattle.cc_disk.specs.declared.disk.Disk.{Ghosts}
 use Rattle.cc_library.specs.declared.command.LibraryCommand.{LibraryCommand}
 use Rattle.cc_library.specs.Apply.{Units, library_of}
 use Rattle.cc_library.specs.Recovered.{Recovers}
@@ -15,11 +16,10 @@ use Rattle.cc_recorded.specs.Tie.{IsTied}
 
 -- On an honest disk: the tie to the core's theorem, what a crash at any moment since each earlier call has left, and what one has left since
 -- the moment that the service's parameter names, for which it had left this until the opening.
-pub record IsBook {D : Type 0} (honest : Bool) (seen : D → List ℕ) (may_leave : D → List ℕ → Type 0) (moment : D → ℕ) (left_since : D → ℕ → List ℕ → Type 0) (from : ℕ) (left : List ℕ → Type 0)
-    (b : BookSince D) : Type 0 where
-  pub tied : IsTrue honest → IsTied compiling Keeps seen may_leave b.book
-  pub since : IsTrue honest → AreSince moment left_since b.book b.since
-  pub opened : IsTrue honest → IsSinceOpening moment left_since from left b.book
+pub record IsBook {Disk : Type 0} (D : Ghosts Disk) (from : ℕ) (left : List ℕ → Type 0) (b : BookSince Disk) : Type 0 where
+  pub tied : IsTrue D.honest → IsTied compiling Keeps D b.book
+  pub since : IsTrue D.honest → AreSince D b.book b.since
+  pub opened : IsTrue D.honest → IsSinceOpening D from left b.book
 
 -- What a crash leaves of a book's disk recovers, to the library of a prefix of the commands in commit order. These are some that led to
 -- the base, then the changes of the history, then the one in which the device failed. The prefix holds each that was acknowledged, as often as
@@ -42,8 +42,8 @@ pub record HoldsPrefix {D : Type 0} (book : BookView D) (image : List ℕ) : Typ
 
 -- What holds of a book at any time, whatever order the calls of all threads took the lock in. The parameter of its service names the base, a
 -- moment up to the opening, and what a crash from that moment until the opening had left.
-pub record IsSound {D : Type 0} (honest : Bool) (may_leave : D → List ℕ → Type 0) (left_since : D → ℕ → List ℕ → Type 0) (base : Units) (from : ℕ) (left : List ℕ → Type 0) (book : BookView D) : Type 0 where
-  pub base_is : IsTrue honest → book.base ≡ base
+pub record IsSound {Disk : Type 0} (D : Ghosts Disk) (base : Units) (from : ℕ) (left : List ℕ → Type 0) (book : BookView Disk) : Type 0 where
+  pub base_is : IsTrue D.honest → book.base ≡ base
   -- each answer is the one that one thread gets there, and the map is the base with the changes; each unit was found or was compiled
   pub legal : IsLegal book.base book.history
   pub map : book.library.units ≡ units_after book.base book.history
@@ -51,18 +51,17 @@ pub record IsSound {D : Type 0} (honest : Bool) (may_leave : D → List ℕ → 
   pub agrees_failed : AllAgreed book.failed
   pub idle : book.library.closed ≡ false → book.failed ≡ []
   -- what a crash leaves now, and what it has left since that moment
-  pub images : IsTrue honest → (image : List ℕ) → may_leave book.library.disk image → RecoversTo book.library.units book.failed image
-  pub survives : IsTrue honest → (image : List ℕ) → may_leave book.library.disk image → SurvivesCrash book image
-  pub since : IsTrue honest → (image : List ℕ) → left_since book.library.disk from image → left image ⊎ HoldsPrefix book image
+  pub images : IsTrue D.honest → (image : List ℕ) → D.may_leave book.library.disk image → RecoversTo book.library.units book.failed image
+  pub survives : IsTrue D.honest → (image : List ℕ) → D.may_leave book.library.disk image → SurvivesCrash book image
+  pub since : IsTrue D.honest → (image : List ℕ) → D.left_since book.library.disk from image → left image ⊎ HoldsPrefix book image
 
 -- What is left of a service that was given up with these clients: its book lay on this disk, and each has receipts of its own calls, in their
 -- order. Where it is said that these are all its clients, every receipt of theirs stands in its history, and every entry has one; where it is
 -- said that they are not, this shows why.
-pub record IsGivenUp {D : Type 0} (honest : Bool) (may_leave : D → List ℕ → Type 0) (left_since : D → ℕ → List ℕ → Type 0) (base : Units) (from : ℕ) (left : List ℕ → Type 0)
-    (clients : List Holder) (are_all : Bool) (disk : D) : Type 0 where
-  pub book : BookView D
+pub record IsGivenUp {Disk : Type 0} (D : Ghosts Disk) (base : Units) (from : ℕ) (left : List ℕ → Type 0) (clients : List Holder) (are_all : Bool) (disk : Disk) : Type 0 where
+  pub book : BookView Disk
   pub disk_is : book.library.disk ≡ disk
-  pub sound : IsSound honest may_leave left_since base from left book
+  pub sound : IsSound D base from left book
   pub own : AreOwn clients
   pub closed : IsTrue are_all → IsClosed book.history clients
   pub why : are_all ≡ false → IsNotWhole book.history clients

@@ -1,6 +1,7 @@
 -- What a crash at any moment since an earlier call has left, the opening among them.
 use Rattle.std.specs.Prelude.{◌≡◌, ◌⊎◌, ℕ, ◌≤◌, List, [], ◌∷◌, ◌++◌, length, take, Some, slice_get, refl}
 use Rattle.std.specs.Coded.{Coded, code_by, coded×, coded_list}
+use Rattle.cc_disk.specs.declared.disk.Disk.{Ghosts}
 use Rattle.cc_library.specs.declared.command.LibraryCommand.{LibraryCommand}
 use Rattle.cc_library.specs.Apply.{after}
 use Rattle.cc_library.specs.Recovered.{RecoversAlone}
@@ -18,30 +19,31 @@ abbrev pub since_code : {D : Type 0} → Coded (BookView D) → Coded (BookSince
 since_code {D} book =
     code_by (BookView D × List (BookView D)) (coded× book (coded_list book)) (λ b. (b.book, b.since)) (λ p. record { book = p.0; since = p.1 }) (λ _. refl)
 
-module _ {D : Type 0} where
+module _ {Disk : Type 0} where
   -- The image recovers to the base after a prefix of the history, which has this many entries at least; or to the map with the change in
   -- which the device failed.
-  abbrev pub HoldsFrom : BookView D → ℕ → List ℕ → Type 0
+  abbrev pub HoldsFrom : BookView Disk → ℕ → List ℕ → Type 0
   HoldsFrom book entries image =
       ((j : ℕ) × (entries ≤ j) × (j ≤ length book.history) × RecoversAlone image (units_after book.base (take j book.history)))
       ⊎ ((c : LibraryCommand) × (book.failed ≡ c ∷ []) × RecoversAlone image (after book.library.units c))
 
+module _ {Disk : Type 0} (D : Ghosts Disk) where
   -- Whatever a crash left since the book was as `old` says holds all calls that were in the history then.
-  pub record IsSince (moment : D → ℕ) (left_since : D → ℕ → List ℕ → Type 0) (book old : BookView D) : Type 0 where
+  pub record IsSince (book old : BookView Disk) : Type 0 where
     pub rest : List Entry
     pub grows : book.history ≡ old.history ++ rest
-    pub past : moment old.library.disk ≤ moment book.library.disk
-    pub holds : (image : List ℕ) → left_since book.library.disk (moment old.library.disk) image → HoldsFrom book (length old.history) image
+    pub past : D.moment old.library.disk ≤ D.moment book.library.disk
+    pub holds : (image : List ℕ) → D.left_since book.library.disk (D.moment old.library.disk) image → HoldsFrom book (length old.history) image
 
   -- A moment up to now, and what a crash from then on has left.
-  pub record IsPast (moment : D → ℕ) (left_since : D → ℕ → List ℕ → Type 0) (from : ℕ) (left : List ℕ → Type 0) (disk : D) : Type 0 where
-    pub past : from ≤ moment disk
-    pub all : (image : List ℕ) → left_since disk from image → left image
+  pub record IsPast (from : ℕ) (left : List ℕ → Type 0) (disk : Disk) : Type 0 where
+    pub past : from ≤ D.moment disk
+    pub all : (image : List ℕ) → D.left_since disk from image → left image
 
   -- Whatever a crash left since that moment it left before the opening, or it holds a prefix of the calls.
-  pub record IsSinceOpening (moment : D → ℕ) (left_since : D → ℕ → List ℕ → Type 0) (from : ℕ) (left : List ℕ → Type 0) (book : BookView D) : Type 0 where
-    pub past : from ≤ moment book.library.disk
-    pub holds : (image : List ℕ) → left_since book.library.disk from image → left image ⊎ HoldsFrom book 0 image
+  pub record IsSinceOpening (from : ℕ) (left : List ℕ → Type 0) (book : BookView Disk) : Type 0 where
+    pub past : from ≤ D.moment book.library.disk
+    pub holds : (image : List ℕ) → D.left_since book.library.disk from image → left image ⊎ HoldsFrom book 0 image
 
-  abbrev pub AreSince : (moment : D → ℕ) (left_since : D → ℕ → List ℕ → Type 0) → BookView D → List (BookView D) → Type 0
-  AreSince moment left_since book since = (k : ℕ) (old : BookView D) → slice_get since k ≡ Some old → IsSince moment left_since book old
+  abbrev pub AreSince : BookView Disk → List (BookView Disk) → Type 0
+  AreSince book since = (k : ℕ) (old : BookView Disk) → slice_get since k ≡ Some old → IsSince book old

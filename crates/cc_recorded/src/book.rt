@@ -67,7 +67,7 @@ impl<N: Based, D: Disk> Model for Book<N, D> {
 
     ghost view = { λ b. record { book = b.recorded; since = b.since.items } };
 
-    ghost invariant = { λ b. IsBook D.honest D.seen D.may_leave D.moment D.left_since N.from N.left (record { book = b.recorded; since = b.since.items }) };
+    ghost invariant = { λ b. IsBook D.Disk N.from N.left (record { book = b.recorded; since = b.since.items }) };
 }
 
 impl<N: Based, D: Disk> Book<N, D> {
@@ -84,7 +84,7 @@ impl<N: Based, D: Disk> Book<N, D> {
         // The base that the service's parameter names, where an honest disk's bytes recover to one.
         requires named { IsTrue D.honest → (units : Units) → Recovers (D.seen disk) units → units ≡ N.base }
         // The moment that it names, and what a crash has left since then.
-        requires past { IsTrue D.honest → IsPast D.moment D.left_since N.from N.left disk }
+        requires past { IsTrue D.honest → IsPast D.Disk N.from N.left disk }
         requires counted { calls.total ≡ 0 }
 
         // No call has been made yet, and the base is what was recovered.
@@ -134,7 +134,7 @@ impl<N: Based, D: Disk> Book<N, D> {
         requires stand { StandFor library.bodies library.units }
         requires records { IsTrue D.honest → HoldsRecords (D.seen library.disk) library.area library.bodies }
         requires settled { IsTrue D.honest → LeavesAlone (D.seen library.disk) (D.may_leave library.disk) }
-        requires past { IsTrue D.honest → IsPast D.moment D.left_since N.from N.left library.disk }
+        requires past { IsTrue D.honest → IsPast D.Disk N.from N.left library.disk }
         requires counted { calls.total ≡ 0 }
         ensures book { result.book ≡ record { base = base; library = library; history = []; failed = [] } }
         ensures since { result.since ≡ result.book ∷ [] }
@@ -183,7 +183,7 @@ impl<N: Based, D: Disk> Book<N, D> {
         client: &mut Member<N>,
         command: Command,
     ) -> Result<Receipt, BookFault>
-        ensures answers { CompactingAnswers D.honest D.failures D.seen D.may_leave self.old.book client.old command self.new.book client.new result }
+        ensures answers { CompactingAnswers D.Disk self.old.book client.old command self.new.book client.new result }
         // Nothing was done, or the book afterwards is the newest.
         ensures since { (self.new ≡ self.old) ⊎ ((between : List (BookView D)) × (self.new.since ≡ self.old.since ++ (between ++ self.new.book ∷ []))) }
 
@@ -284,7 +284,7 @@ impl<N: Based, D: Disk> Book<N, D> {
     /// Ends it, with a share that is the whole ledger: what that share counts is then all of the history.
     pub fn end(self, whole: Share<N>) -> Ended<D>
         requires parts { whole.parts ≡ N.parts }
-        ensures sound { IsSound D.honest D.may_leave D.left_since N.base N.from N.left (record { base = result.base; library = result.library; history = result.history.items; failed = result.failed.items }) }
+        ensures sound { IsSound D.Disk N.base N.from N.left (record { base = result.base; library = result.library; history = result.history.items; failed = result.failed.items }) }
         ensures counted { length result.history.items ≡ whole.amount }
         // It is the book's library, with what was known of it.
         ensures of_book { ◌≡◌ {A = BookView D} (record { base = result.base; library = result.library; history = result.history.items; failed = result.failed.items }) self.book }
@@ -297,7 +297,7 @@ impl<N: Based, D: Disk> Book<N, D> {
 
     /// The disk, and whether these are all clients of its history. It takes no memory.
     pub fn give_up<C: HasReceipts>(self, clients: &[C]) -> (D, bool)
-        ensures { IsGivenUp D.honest D.may_leave D.left_since N.base N.from N.left (map C.holder clients.now) result.1 result.0 }
+        ensures { IsGivenUp D.Disk N.base N.from N.left (map C.holder clients.now) result.1 result.0 }
     {
         self.survives();
         let are_all = self.recorded.is_whole(clients);
@@ -307,11 +307,11 @@ impl<N: Based, D: Disk> Book<N, D> {
     /// What is known of a book at any time, whatever order the calls of all threads took the lock in: a law, which does nothing.
     pub fn survives(&self)
         // Some run of the core leads from an opened disk to a state that the book shows.
-        ensures reached { IsTrue D.honest → IsTied compiling Keeps D.seen D.may_leave self.now.book }
+        ensures reached { IsTrue D.honest → IsTied compiling Keeps D.Disk self.now.book }
 
         // The history is legal, the map is the base with its changes; what a crash leaves now holds each acknowledged command, what it has
         // left since the opening a prefix of the calls, and the units in it are right.
-        ensures sound { IsSound D.honest D.may_leave D.left_since N.base N.from N.left self.now.book }
+        ensures sound { IsSound D.Disk N.base N.from N.left self.now.book }
 
         // Whatever a crash has left since the end of the opening, or since any call, holds all calls until then.
         ensures since { IsTrue D.honest → (k : ℕ) (then' : BookView D) → slice_get self.now.since k ≡ Some then' → (image : List ℕ)

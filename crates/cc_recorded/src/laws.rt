@@ -28,9 +28,9 @@ use cc_disk::Disk;
 pub fn commits_are_steps<D: Disk, B: Build>()
     ensures { (before after : BookView D) (old new : Holder) (command : Command) (result : Result Receipt BookFault) (s : Contents B.Piece) (client : ClientId)
         → CommitAnswers D.failures before old command after new result
-        → (IsTrue D.honest → ChangesDisk D.seen D.may_leave (change_of command) before.library after.library result)
-        → Shows D.honest D.seen D.may_leave before s → Has B.rules s client (change_of command)
-        → IsCommitOf B.rules (Shows D.honest D.seen D.may_leave after) s client result }
+        → (IsTrue D.honest → ChangesDisk D.Disk (change_of command) before.library after.library result)
+        → Shows D.Disk before s → Has B.rules s client (change_of command)
+        → IsCommitOf B.rules (Shows D.Disk after) s client result }
 {}
 
 /// A book over a library that was opened on an honest disk shows a state of the core, which is a beginning of it: so what the core's
@@ -39,19 +39,19 @@ pub fn opened_books_begin<D: Disk, B: Build>()
     ensures { (book : BookView D) → book.history ≡ [] → book.failed ≡ [] → book.library.closed ≡ false → book.base ≡ book.library.units
         → StandFor book.library.bodies book.library.units → HoldsRecords (D.seen book.library.disk) book.library.area book.library.bodies
         → LeavesAlone (D.seen book.library.disk) (D.may_leave book.library.disk)
-        → (s : Contents B.Piece) × Shows true D.seen D.may_leave book s × IsOpened s }
+        → (s : Contents B.Piece) × Shows (record D.Disk { honest = true }) book s × IsOpened s }
 {}
 
 /// Handing in a job, taking a piece and its result change nothing that a book shows.
 pub fn jobs_are_beside<D: Disk, B: Build>()
     ensures { (book : BookView D) (old new : Contents B.Piece) (event : Event B.Piece) (reply : Option Reply)
-        → IsBeside event → Step B.rules old event reply new → Shows D.honest D.seen D.may_leave book old → Shows D.honest D.seen D.may_leave book new }
+        → IsBeside event → Step B.rules old event reply new → Shows D.Disk book old → Shows D.Disk book new }
 {}
 
 /// The same of a compaction: a rewrite's four device steps, or those up to the failure.
 pub fn compactions_are_rewrites<D: Disk, B: Build>()
     ensures { (before after : BookView D) (result : Result (Unit {0}) BookFault) (s : Contents B.Piece)
         → CompactAnswers D.failures before after result
-        → (IsTrue D.honest → CompactsDisk D.seen D.may_leave before.library after.library result)
-        → Shows D.honest D.seen D.may_leave before s → IsRewriteOf B.rules (Shows D.honest D.seen D.may_leave after) s result }
+        → (IsTrue D.honest → CompactsDisk D.Disk before.library after.library result)
+        → Shows D.Disk before s → IsRewriteOf B.rules (Shows D.Disk after) s result }
 {}

@@ -51,7 +51,7 @@ impl<N: Based, D: Disk> Model for RecordedLibrary<N, D> {
 
     ghost view = { λ b. record { base = b.base; library = b.library; history = b.history.items; failed = b.failed.items } };
 
-    ghost invariant = { λ b. IsRecordedLibrary D.honest D.may_leave N.base b.calls.total (record { base = b.base; library = b.library; history = b.history.items; failed = b.failed.items }) };
+    ghost invariant = { λ b. IsRecordedLibrary D.Disk N.base b.calls.total (record { base = b.base; library = b.library; history = b.history.items; failed = b.failed.items }) };
 }
 
 /// What is left of a library with its history: the map that it began with, the library, and the history.

@@ -1,5 +1,6 @@
 -- What its client sees of a commit that compacts where this makes room.
-use Rattle.std.proofs.Common.{◌≡◌, inl, inr, ℕ, Bool, IfOk, IfErr, List, Result, Ok, Err, sym, subst}
+use Rattle.std.proofs.Common.{◌≡◌, inl, inr, IfOk, IfErr, Result, Ok, Err, sym, subst}
+use Rattle.cc_disk.specs.declared.disk.Disk.{Ghosts}
 use Rattle.cc_history.specs.declared.command.Command.{Command}
 use Rattle.cc_history.specs.declared.entry.Receipt.{Receipt}
 use Rattle.cc_history.specs.declared.reply.Reply.TheVariants as reply
@@ -10,21 +11,21 @@ use Rattle.cc_recorded.specs.declared.fault.BookFault.{BookFault}
 use Rattle.cc_service.specs.Serving.{IsEntered, IsTurnedDown}
 use Rattle.cc_service.proofs.Answering.{entered_where_ok, turned_down_where_err}
 
-module _ {D : Type 0} (honest : Bool) (failures : D → ℕ) (seen : D → List ℕ) (may_leave : D → List ℕ → Type 0) where
-  pub compacting_entered : (before after_it : BookView D) (old new : Holder) (command : Command) (result : Result Receipt BookFault) → CompactingAnswers honest failures seen may_leave before old command after_it new result
+module _ {Disk : Type 0} (D : Ghosts Disk) where
+  pub compacting_entered : (before after_it : BookView Disk) (old new : Holder) (command : Command) (result : Result Receipt BookFault) → CompactingAnswers D before old command after_it new result
       → IfOk result (λ receipt. IsEntered (λ c. c ≡ command) old reply.Done new receipt)
   compacting_entered before after_it old new command result answers =
-      elim answers [ inl once ↦ entered_where_ok failures before old command after_it new result once.0 | inr twice ↦ behind twice.between twice.compacted twice.commits ]
+      elim answers [ inl once ↦ entered_where_ok D.failures before old command after_it new result once.0 | inr twice ↦ behind twice.between twice.compacted twice.commits ]
     where
-      behind : (between : BookView D) (compacted : Result (Unit {0}) BookFault) → CommitsBehind honest failures seen may_leave command between old after_it new compacted result → IfOk result (λ receipt. IsEntered (λ c. c ≡ command) old reply.Done new receipt)
-      behind between (Ok done) commits = entered_where_ok failures between old command after_it new result commits.0
+      behind : (between : BookView Disk) (compacted : Result (Unit {0}) BookFault) → CommitsBehind D command between old after_it new compacted result → IfOk result (λ receipt. IsEntered (λ c. c ≡ command) old reply.Done new receipt)
+      behind between (Ok done) commits = entered_where_ok D.failures between old command after_it new result commits.0
       behind between (Err fault) commits = subst (λ (r : Result Receipt BookFault). IfOk r (λ receipt. IsEntered (λ c. c ≡ command) old reply.Done new receipt)) (sym commits.0) tt
 
-  pub compacting_turned_down : (before after_it : BookView D) (old new : Holder) (command : Command) (result : Result Receipt BookFault) → CompactingAnswers honest failures seen may_leave before old command after_it new result
+  pub compacting_turned_down : (before after_it : BookView Disk) (old new : Holder) (command : Command) (result : Result Receipt BookFault) → CompactingAnswers D before old command after_it new result
       → IfErr result (λ fault. IsTurnedDown (λ c. c ≡ command) old new fault)
   compacting_turned_down before after_it old new command result answers =
-      elim answers [ inl once ↦ turned_down_where_err failures before old command after_it new result once.0 | inr twice ↦ behind twice.between twice.compacted twice.commits ]
+      elim answers [ inl once ↦ turned_down_where_err D.failures before old command after_it new result once.0 | inr twice ↦ behind twice.between twice.compacted twice.commits ]
     where
-      behind : (between : BookView D) (compacted : Result (Unit {0}) BookFault) → CommitsBehind honest failures seen may_leave command between old after_it new compacted result → IfErr result (λ fault. IsTurnedDown (λ c. c ≡ command) old new fault)
-      behind between (Ok done) commits = turned_down_where_err failures between old command after_it new result commits.0
+      behind : (between : BookView Disk) (compacted : Result (Unit {0}) BookFault) → CommitsBehind D command between old after_it new compacted result → IfErr result (λ fault. IsTurnedDown (λ c. c ≡ command) old new fault)
+      behind between (Ok done) commits = turned_down_where_err D.failures between old command after_it new result commits.0
       behind between (Err fault) commits = subst (λ (r : Result Receipt BookFault). IfErr r (λ f. IsTurnedDown (λ c. c ≡ command) old new f)) (sym commits.0) commits.2

@@ -107,7 +107,7 @@ pub(crate) fn end<N: Named, D: Disk>(
     requires amount { rest.amount ≡ 0 }
     requires apart { AreApart (holders clients.items) }
     requires stand { ReceiptsStand book.book.history (holders clients.items) }
-    ensures sound { IsSound D.honest D.may_leave D.left_since N.base N.from N.left (record { base = result.0.base; library = result.0.library; history = result.0.history.items; failed = result.0.failed.items }) }
+    ensures sound { IsSound D.Disk N.base N.from N.left (record { base = result.0.base; library = result.0.library; history = result.0.history.items; failed = result.0.failed.items }) }
     ensures closed { IsClosed result.0.history.items (holders clients.items) }
     ensures receipts { map (λ v. v.items) result.0.receipts.items ≡ map (λ c. c.receipts) (holders clients.items) }
     // The receipts of each client are of its own calls.
@@ -145,7 +145,7 @@ pub fn close<N: Named, D: Disk>(
 ) -> Result<Closed<D>, (BookFault, Book<N, D>, Share<N>, Vec<Client<N>>)>
     requires parts { rest.parts + made ≡ N.parts }
     requires amount { rest.amount ≡ 0 }
-    ensures sound { IfOk result (λ r. IsSound D.honest D.may_leave D.left_since N.base N.from N.left (record { base = r.base; library = r.library; history = r.history.items; failed = r.failed.items })) }
+    ensures sound { IfOk result (λ r. IsSound D.Disk N.base N.from N.left (record { base = r.base; library = r.library; history = r.history.items; failed = r.failed.items })) }
     ensures closed { IfOk result (λ r. IsClosed r.history.items (holders clients.items)) }
     ensures all { OnOk result (length clients.items ≡ made) }
     ensures receipts { IfOk result (λ r. map (λ v. v.items) r.receipts.items ≡ map (λ c. c.receipts) (holders clients.items)) }

@@ -91,7 +91,7 @@ impl<N: Named + Send + Sync + 'static, D: Disk> Service<N, D> {
         requires queue { fresh.queue ≡ N.queue }
         requires named { IsTrue D.honest → (units : Units) → Recovers (D.seen disk) units → units ≡ N.base }
         // It names a moment up to now, too, and what a crash has left since then: `finish` tells what one leaves later.
-        requires past { IsTrue D.honest → IsPast D.moment D.left_since N.from N.left disk }
+        requires past { IsTrue D.honest → IsPast D.Disk N.from N.left disk }
         requires some { 1 ≤ workers }
         requires few { workers ≤ 8 }
         ensures recovered { IfOk result (λ _. IsTrue D.honest → Recovers (D.seen disk) N.base) }
@@ -318,7 +318,7 @@ impl<N: Named + Send + Sync + 'static, D: Disk> Service<N, D> {
     ) -> Result<Closed<D>, (ServiceFault, Service<N, D>, Vec<Client<N>>)>
         // One legal history from the base leads to the library. What a crash then leaves of the disk holds each acknowledged command; what one
         // has left at any moment since the opening holds a prefix of them.
-        ensures sound { IfOk result (λ r. IsSound D.honest D.may_leave D.left_since N.base N.from N.left (record { base = r.base; library = r.library; history = r.history.items; failed = r.failed.items })) }
+        ensures sound { IfOk result (λ r. IsSound D.Disk N.base N.from N.left (record { base = r.base; library = r.library; history = r.history.items; failed = r.failed.items })) }
         // Every receipt of every client stands in that history, once and in its client's order.
         ensures closed { IfOk result (λ r. IsClosed r.history.items (holders clients.items)) }
         ensures receipts { IfOk result (λ r. map (λ v. v.items) r.receipts.items ≡ map (λ c. c.receipts) (holders clients.items)) }
@@ -352,7 +352,7 @@ impl<N: Named + Send + Sync + 'static, D: Disk> Service<N, D> {
     /// stands, no two have one number, and every entry of the history has a receipt. It takes no memory, so it ends a service that `finish`
     /// refuses to end, or one of whose clients is lost.
     pub fn give_up<R: Wait>(self, rt: &R, alloc: Global, clients: Vec<Client<N>>) -> (D, bool)
-        ensures { IsGivenUp D.honest D.may_leave D.left_since N.base N.from N.left (holders clients.items) result.1 result.0 }
+        ensures { IsGivenUp D.Disk N.base N.from N.left (holders clients.items) result.1 result.0 }
     {
         let Service { book, desk, pool } = self;
         drop(desk);

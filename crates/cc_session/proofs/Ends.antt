@@ -1,6 +1,7 @@
 -- What was read before a service was opened changes nothing of how it ended.
 use Rattle.std.proofs.Common.{◌≡◌, ◌∙◌, ℕ, List, Bool, true, false, if◌then◌else◌, IsTrue, inl, inr, refl, sym, ap, subst, arith}
 use Rattle.std.specs.Prelude.{◌⊎◌}
+use Rattle.cc_disk.specs.declared.disk.Disk.{Ghosts}
 use Rattle.cc_disk.specs.Images.{OnlyReads}
 use Rattle.cc_library.specs.Answers.{OpenFaults}
 use Rattle.cc_library.specs.Apply.{Units}
@@ -78,17 +79,17 @@ refusal_number honest base clients fault it =
       | inr (inr others) ↦ inl (ap book_fault_number others.0)
     ])
 
-module _ {D : Type 0} (honest : Bool) (may_leave : D → List ℕ → Type 0) (left_since : D → ℕ → List ℕ → Type 0) (named : Units) (from : ℕ) (left : List ℕ → Type 0)
-    (bytes : List ℕ) (begun : IsTrue honest → Recovers bytes named) (clients : List Holder) (played : SessionEnd) where
+module _ {Disk : Type 0} (D : Ghosts Disk) (named : Units) (from : ℕ) (left : List ℕ → Type 0)
+    (bytes : List ℕ) (begun : IsTrue D.honest → Recovers bytes named) (clients : List Holder) (played : SessionEnd) where
   -- with all that its end says of the book
-  pub kept_by : (book : BookView D) (after : D) → after ≡ book.library.disk → IsSound honest may_leave left_since named from left book → IsClosed book.history clients → AreOwn clients
-      → IsEnded honest bytes may_leave left_since from left clients played played after
+  pub kept_by : (book : BookView Disk) (after : Disk) → after ≡ book.library.disk → IsSound D named from left book → IsClosed book.history clients → AreOwn clients
+      → IsEnded D bytes from left clients played played after
   kept_by book after disk sound closed own =
       inl (inl refl, record { base = named; begun = begun; book = book; disk = sym disk; sound = sound; own = own; holds = closed })
 
   -- it was given up, for its end was refused by this number
-  pub given_up_by : (are_all : Bool) (after : D) (number : ℕ) → IsGivenUp honest may_leave left_since named from left clients are_all after → (number ≡ 39) ⊎ (number ≡ 40)
-      → IsEnded honest bytes may_leave left_since from left clients played (told_after (if are_all then 40 else number) played) after
+  pub given_up_by : (are_all : Bool) (after : Disk) (number : ℕ) → IsGivenUp D named from left clients are_all after → (number ≡ 39) ⊎ (number ≡ 40)
+      → IsEnded D bytes from left clients played (told_after (if are_all then 40 else number) played) after
   given_up_by true after number it why =
       inl (inr refl, record { base = named; begun = begun; book = it.book; disk = it.disk_is; sound = it.sound; own = it.own; holds = it.closed refl })
   given_up_by false after number it why =
@@ -100,13 +101,12 @@ module _ {D : Type 0} (honest : Bool) (may_leave : D → List ℕ → Type 0) (l
 -- ---- what was read before it was opened
 
 -- what is left of a service, said of the bytes that were seen before
-left_on : {D : Type 0} (honest : Bool) (seen later : List ℕ) (may_leave : D → List ℕ → Type 0) (left_since : D → ℕ → List ℕ → Type 0) (from : ℕ) (left : List ℕ → Type 0)
-    (Holds : List Entry → List Holder → Type 0) (clients : List Holder) (after : D) → (IsTrue honest → later ≡ seen)
-    → IsLeft honest later may_leave left_since from left Holds clients after → IsLeft honest seen may_leave left_since from left Holds clients after
-left_on honest seen later may_leave left_since from left Holds clients after same it =
+left_on : {Disk : Type 0} (D : Ghosts Disk) (bytes later : List ℕ) (from : ℕ) (left : List ℕ → Type 0) (Holds : List Entry → List Holder → Type 0) (clients : List Holder) (after : Disk)
+    → (IsTrue D.honest → later ≡ bytes) → IsLeft D later from left Holds clients after → IsLeft D bytes from left Holds clients after
+left_on D bytes later from left Holds clients after same it =
     record {
       base = it.base;
-      begun = λ h. subst (λ (bytes : List ℕ). Recovers bytes it.base) (same h) (it.begun h);
+      begun = λ h. subst (λ (b : List ℕ). Recovers b it.base) (same h) (it.begun h);
       book = it.book;
       disk = it.disk;
       sound = it.sound;
@@ -115,21 +115,20 @@ left_on honest seen later may_leave left_since from left Holds clients after sam
     }
 
 -- so of one that was ended or given up
-ended_on : {D : Type 0} (honest : Bool) (seen later : List ℕ) (may_leave : D → List ℕ → Type 0) (left_since : D → ℕ → List ℕ → Type 0) (from : ℕ) (left : List ℕ → Type 0)
-    (clients : List Holder) (played end : SessionEnd) (after : D) → (IsTrue honest → later ≡ seen) → IsEnded honest later may_leave left_since from left clients played end after
-    → IsEnded honest seen may_leave left_since from left clients played end after
-ended_on honest seen later may_leave left_since from left clients played end after same (inl kept) =
-    inl (kept.0, left_on honest seen later may_leave left_since from left IsClosed clients after same kept.1)
-ended_on honest seen later may_leave left_since from left clients played end after same (inr estranged) =
-    inr (estranged.0, left_on honest seen later may_leave left_since from left IsNotWhole clients after same estranged.1)
+ended_on : {Disk : Type 0} (D : Ghosts Disk) (bytes later : List ℕ) (from : ℕ) (left : List ℕ → Type 0) (clients : List Holder) (played end : SessionEnd) (after : Disk)
+    → (IsTrue D.honest → later ≡ bytes) → IsEnded D later from left clients played end after → IsEnded D bytes from left clients played end after
+ended_on D bytes later from left clients played end after same (inl kept) =
+    inl (kept.0, left_on D bytes later from left IsClosed clients after same kept.1)
+ended_on D bytes later from left clients played end after same (inr estranged) =
+    inr (estranged.0, left_on D bytes later from left IsNotWhole clients after same estranged.1)
 
-module _ {D : Type 0} (seen : D → List ℕ) (may_leave : D → List ℕ → Type 0) (moment : D → ℕ) (left_since : D → ℕ → List ℕ → Type 0) where
+module _ {Disk : Type 0} (D : Ghosts Disk) where
   -- nothing was done
-  pub reads_none : (a : D) → OnlyReads seen may_leave moment left_since a a
+  pub reads_none : (a : Disk) → OnlyReads D.seen D.may_leave D.moment D.left_since a a
   reads_none a = record { same = refl; images = λ image leaves. leaves; later = omega arith; moments = λ t image early left. left }
 
   -- reads after reads
-  pub reads_on : (a b c : D) → OnlyReads seen may_leave moment left_since a b → OnlyReads seen may_leave moment left_since b c → OnlyReads seen may_leave moment left_since a c
+  pub reads_on : (a b c : Disk) → OnlyReads D.seen D.may_leave D.moment D.left_since a b → OnlyReads D.seen D.may_leave D.moment D.left_since b c → OnlyReads D.seen D.may_leave D.moment D.left_since a c
   reads_on a b c one two = record {
     same = two.same ∙ one.same;
     images = λ image leaves. one.images image (two.images image leaves);
@@ -138,42 +137,42 @@ module _ {D : Type 0} (seen : D → List ℕ) (may_leave : D → List ℕ → Ty
   }
 
   -- how a service ended, said of the disk before it was looked at
-  on_first : (honest : Bool) (failures : D → ℕ) (from : ℕ) (begins : List ℕ → Type 0) (Untouched : Type 0) (HaveDone : List Holder → SessionEnd → Type 0) (a b after : D) (end : SessionEnd)
-      → failures b ≡ failures a → (IsTrue honest → OnlyReads seen may_leave moment left_since a b)
-      → EndsSince honest seen may_leave moment left_since failures from begins Untouched HaveDone b after end
-      → EndsSince honest seen may_leave moment left_since failures from begins Untouched HaveDone a after end
-  on_first honest failures from begins Untouched HaveDone a b after end sound reads (inl (unopened, later, untouched)) =
+  on_first : (from : ℕ) (begins : List ℕ → Type 0) (Untouched : Type 0) (HaveDone : List Holder → SessionEnd → Type 0) (a b after : Disk) (end : SessionEnd)
+      → D.failures b ≡ D.failures a → (IsTrue D.honest → OnlyReads D.seen D.may_leave D.moment D.left_since a b)
+      → EndsSince D from begins Untouched HaveDone b after end
+      → EndsSince D from begins Untouched HaveDone a after end
+  on_first from begins Untouched HaveDone a b after end sound reads (inl (unopened, later, untouched)) =
       inl (
-        subst (λ (n : ℕ). IsUnopened honest (seen a) n (failures after) end) sound
-            (unopened_on honest (seen a) (seen b) (failures b) (failures after) end (λ h. (reads h).same) unopened),
+        subst (λ (n : ℕ). IsUnopened D.honest (D.seen a) n (D.failures after) end) sound
+            (unopened_on D.honest (D.seen a) (D.seen b) (D.failures b) (D.failures after) end (λ h. (reads h).same) unopened),
         λ h. reads_on a b after (reads h) (later h),
         untouched,
       )
-  on_first honest failures from begins Untouched HaveDone a b after end sound reads (inr ended) =
-      inr (ended.0, ended.1, ended.2, ended_on honest (seen a) (seen b) may_leave left_since from begins ended.0 ended.1 end after (λ h. (reads h).same) ended.3)
+  on_first from begins Untouched HaveDone a b after end sound reads (inr ended) =
+      inr (ended.0, ended.1, ended.2, ended_on D (D.seen a) (D.seen b) from begins ended.0 ended.1 end after (λ h. (reads h).same) ended.3)
 
   -- the disk as it was at the beginning
-  pub ends_on : (honest : Bool) (failures : D → ℕ) (Untouched : Type 0) (HaveDone : List Holder → SessionEnd → Type 0) (first a b after : D) (end : SessionEnd)
-      → first ≡ a → failures b ≡ failures a → (IsTrue honest → OnlyReads seen may_leave moment left_since a b)
-      → EndsSince honest seen may_leave moment left_since failures (moment first) (may_leave first) Untouched HaveDone b after end
-      → ServiceEnds honest seen may_leave moment left_since failures Untouched HaveDone a after end
-  ends_on honest failures Untouched HaveDone first a b after end is sound reads it =
-      subst (λ (d : D). EndsSince honest seen may_leave moment left_since failures (moment d) (may_leave d) Untouched HaveDone a after end) is
-      (on_first honest failures (moment first) (may_leave first) Untouched HaveDone a b after end sound reads it)
+  pub ends_on : (Untouched : Type 0) (HaveDone : List Holder → SessionEnd → Type 0) (first a b after : Disk) (end : SessionEnd)
+      → first ≡ a → D.failures b ≡ D.failures a → (IsTrue D.honest → OnlyReads D.seen D.may_leave D.moment D.left_since a b)
+      → EndsSince D (D.moment first) (D.may_leave first) Untouched HaveDone b after end
+      → ServiceEnds D Untouched HaveDone a after end
+  ends_on Untouched HaveDone first a b after end is sound reads it =
+      subst (λ (d : Disk). EndsSince D (D.moment d) (D.may_leave d) Untouched HaveDone a after end) is
+      (on_first (D.moment first) (D.may_leave first) Untouched HaveDone a b after end sound reads it)
 
   -- none was opened, for this reason, which is told
-  pub unserved_by : (honest : Bool) (failures : D → ℕ) (from : ℕ) (begins : List ℕ → Type 0) (Untouched : Type 0) (HaveDone : List Holder → SessionEnd → Type 0) (base : Units)
-      (fault : ServiceFault) (a b after : D) (end : SessionEnd) → after ≡ b → end ≡ Fault (fault_number fault) → IsNotOpened honest (seen a) base (failures a) (failures b) fault
-      → (IsTrue honest → OnlyReads seen may_leave moment left_since a b) → Untouched
-      → EndsSince honest seen may_leave moment left_since failures from begins Untouched HaveDone a after end
-  unserved_by honest failures from begins Untouched HaveDone base fault a b after end is told why reads untouched =
-      subst (λ (d : D). EndsSince honest seen may_leave moment left_since failures from begins Untouched HaveDone a d end) (sym is)
-      (subst (λ (e : SessionEnd). EndsSince honest seen may_leave moment left_since failures from begins Untouched HaveDone a b e) (sym told)
+  pub unserved_by : (from : ℕ) (begins : List ℕ → Type 0) (Untouched : Type 0) (HaveDone : List Holder → SessionEnd → Type 0) (base : Units)
+      (fault : ServiceFault) (a b after : Disk) (end : SessionEnd) → after ≡ b → end ≡ Fault (fault_number fault) → IsNotOpened D.honest (D.seen a) base (D.failures a) (D.failures b) fault
+      → (IsTrue D.honest → OnlyReads D.seen D.may_leave D.moment D.left_since a b) → Untouched
+      → EndsSince D from begins Untouched HaveDone a after end
+  unserved_by from begins Untouched HaveDone base fault a b after end is told why reads untouched =
+      subst (λ (d : Disk). EndsSince D from begins Untouched HaveDone a d end) (sym is)
+      (subst (λ (e : SessionEnd). EndsSince D from begins Untouched HaveDone a b e) (sym told)
       (inl ((base, fault, refl, why), reads, untouched)))
 
   -- what a crash may have left at its beginning
-  pub past_at : (first a b : D) → ((image : List ℕ) → left_since a (moment a) image → may_leave a image) → first ≡ a → OnlyReads seen may_leave moment left_since a b
-      → IsPast moment left_since (moment first) (may_leave first) b
+  pub past_at : (first a b : Disk) → ((image : List ℕ) → D.left_since a (D.moment a) image → D.may_leave a image) → first ≡ a → OnlyReads D.seen D.may_leave D.moment D.left_since a b
+      → IsPast D (D.moment first) (D.may_leave first) b
   past_at first a b only is reads =
-      subst (λ (d : D). IsPast moment left_since (moment d) (may_leave d) b) (sym is)
-      (record { past = reads.later; all = λ image since. only image (reads.moments (moment a) image (omega arith) since) })
+      subst (λ (d : Disk). IsPast D (D.moment d) (D.may_leave d) b) (sym is)
+      (record { past = reads.later; all = λ image since. only image (reads.moments (D.moment a) image (omega arith) since) })

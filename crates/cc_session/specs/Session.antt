@@ -1,5 +1,6 @@
 -- How sessions end, and what a crash leaves of their disks.
 use Rattle.std.specs.Prelude.{◌≡◌, ◌⊎◌, ℕ, Bool, IsTrue, List, [], ◌∷◌, Option, Some, None, IfSome}
+use Rattle.cc_disk.specs.declared.disk.Disk.{Ghosts}
 use Rattle.cc_disk.specs.Images.{OnlyReads}
 use Rattle.cc_library.specs.Apply.{Units}
 use Rattle.cc_library.specs.Recovered.{Recovers}
@@ -50,13 +51,13 @@ told_after number (Fault first) = Fault first
 -- Whatever a crash then leaves of the disk recovers to that library's map, or to that with or without the change in which the device failed: so
 -- it holds each change that was acknowledged, in order. Whatever one left since this moment it left before the opening, or it recovers to the
 -- first map with the changes of the first calls, or with that failed one. Each unit in it was there before or agrees with its source.
-pub record IsLeft {D : Type 0} (honest : Bool) (bytes : List ℕ) (may_leave : D → List ℕ → Type 0) (left_since : D → ℕ → List ℕ → Type 0) (from : ℕ) (left : List ℕ → Type 0)
-    (Holds : (history : List Entry) (clients : List Holder) → Type 0) (clients : List Holder) (after : D) : Type 0 where
+pub record IsLeft {Disk : Type 0} (D : Ghosts Disk) (bytes : List ℕ) (from : ℕ) (left : List ℕ → Type 0)
+    (Holds : (history : List Entry) (clients : List Holder) → Type 0) (clients : List Holder) (after : Disk) : Type 0 where
   pub base : Units
-  pub begun : IsTrue honest → Recovers bytes base
-  pub book : BookView D
+  pub begun : IsTrue D.honest → Recovers bytes base
+  pub book : BookView Disk
   pub disk : book.library.disk ≡ after
-  pub sound : IsSound honest may_leave left_since base from left book
+  pub sound : IsSound D base from left book
   pub own : AreOwn clients
   pub holds : Holds book.history clients
 
@@ -64,37 +65,33 @@ pub record IsLeft {D : Type 0} (honest : Bool) (bytes : List ℕ) (may_leave : D
 -- entries. How the work ended is told; or 40, where it was done and the service had no memory to end.
 -- Or it was given up: a receipt does not stand in the history, or that has more entries, or two clients have one number. How the work ended is
 -- told, where a fault ended it; else 39, or 40 where there was no memory to see that.
-abbrev pub IsEnded : {D : Type 0} (honest : Bool) (bytes : List ℕ) (may_leave : D → List ℕ → Type 0) (left_since : D → ℕ → List ℕ → Type 0) (from : ℕ) (left : List ℕ → Type 0)
-    (clients : List Holder) (played end : SessionEnd) (after : D) → Type 0
-IsEnded honest bytes may_leave left_since from left clients played end after =
-    (((end ≡ played) ⊎ (end ≡ told_after 40 played)) × IsLeft honest bytes may_leave left_since from left IsClosed clients after)
-    ⊎ (((end ≡ told_after 39 played) ⊎ (end ≡ told_after 40 played)) × IsLeft honest bytes may_leave left_since from left IsNotWhole clients after)
+abbrev pub IsEnded : {Disk : Type 0} (D : Ghosts Disk) (bytes : List ℕ) (from : ℕ) (left : List ℕ → Type 0) (clients : List Holder) (played end : SessionEnd) (after : Disk) → Type 0
+IsEnded D bytes from left clients played end after =
+    (((end ≡ played) ⊎ (end ≡ told_after 40 played)) × IsLeft D bytes from left IsClosed clients after)
+    ⊎ (((end ≡ told_after 39 played) ⊎ (end ≡ told_after 40 played)) × IsLeft D bytes from left IsNotWhole clients after)
 
 -- so of clients that worked so, by how their work ended
-abbrev pub HasEnded : {D : Type 0} (honest : Bool) (bytes : List ℕ) (may_leave : D → List ℕ → Type 0) (left_since : D → ℕ → List ℕ → Type 0) (from : ℕ) (left : List ℕ → Type 0)
-    (Worked : (clients : List Holder) (played : SessionEnd) → Type 0) → SessionEnd → (after : D) → Type 0
-HasEnded honest bytes may_leave left_since from left Worked end after =
-    (clients : List Holder) × (played : SessionEnd) × Worked clients played × IsEnded honest bytes may_leave left_since from left clients played end after
+abbrev pub HasEnded : {Disk : Type 0} (D : Ghosts Disk) (bytes : List ℕ) (from : ℕ) (left : List ℕ → Type 0)
+    (Worked : (clients : List Holder) (played : SessionEnd) → Type 0) → SessionEnd → (after : Disk) → Type 0
+HasEnded D bytes from left Worked end after =
+    (clients : List Holder) × (played : SessionEnd) × Worked clients played × IsEnded D bytes from left clients played end after
 
 -- How a service ends that began with this disk, where until then a crash had left this since a moment. It was not opened, an honest disk was
 -- read at most, and `Untouched` holds; or it was ended or given up, with clients that worked so.
-abbrev pub EndsSince : {D : Type 0} (honest : Bool) (seen : D → List ℕ) (may_leave : D → List ℕ → Type 0) (moment : D → ℕ)
-    (left_since : D → ℕ → List ℕ → Type 0) (failures : D → ℕ) (from : ℕ) (left : List ℕ → Type 0)
-    (Untouched : Type 0) (Worked : (clients : List Holder) (played : SessionEnd) → Type 0) (before after : D) → SessionEnd → Type 0
-EndsSince honest seen may_leave moment left_since failures from left Untouched Worked before after end =
-    (IsUnopened honest (seen before) (failures before) (failures after) end × (IsTrue honest → OnlyReads seen may_leave moment left_since before after) × Untouched)
-    ⊎ HasEnded honest (seen before) may_leave left_since from left Worked end after
+abbrev pub EndsSince : {Disk : Type 0} (D : Ghosts Disk) (from : ℕ) (left : List ℕ → Type 0) (Untouched : Type 0)
+    (Worked : (clients : List Holder) (played : SessionEnd) → Type 0) (before after : Disk) → SessionEnd → Type 0
+EndsSince D from left Untouched Worked before after end =
+    (IsUnopened D.honest (D.seen before) (D.failures before) (D.failures after) end × (IsTrue D.honest → OnlyReads D.seen D.may_leave D.moment D.left_since before after) × Untouched)
+    ⊎ HasEnded D (D.seen before) from left Worked end after
 
 -- so of one that began with this disk, and what a crash at any moment of it has left, beside what it may have left at its beginning
-abbrev pub ServiceEnds : {D : Type 0} (honest : Bool) (seen : D → List ℕ) (may_leave : D → List ℕ → Type 0) (moment : D → ℕ)
-    (left_since : D → ℕ → List ℕ → Type 0) (failures : D → ℕ) (Untouched : Type 0) (Worked : (clients : List Holder) (played : SessionEnd) → Type 0)
-    (before after : D) → SessionEnd → Type 0
-ServiceEnds honest seen may_leave moment left_since failures Untouched Worked before after end =
-    EndsSince honest seen may_leave moment left_since failures (moment before) (may_leave before) Untouched Worked before after end
+abbrev pub ServiceEnds : {Disk : Type 0} (D : Ghosts Disk) (Untouched : Type 0) (Worked : (clients : List Holder) (played : SessionEnd) → Type 0)
+    (before after : Disk) → SessionEnd → Type 0
+ServiceEnds D Untouched Worked before after end =
+    EndsSince D (D.moment before) (D.may_leave before) Untouched Worked before after end
 
 -- How a session ends that began with this disk: as the service ends whose one client does the script. The disk is always handed back.
-abbrev pub SessionEnds : {D : Type 0} (honest : Bool) (seen : D → List ℕ) (may_leave : D → List ℕ → Type 0) (moment : D → ℕ)
-    (left_since : D → ℕ → List ℕ → Type 0) (failures : D → ℕ) (script : Option (List ℕ)) (before : D) → Option D → SessionEnd → Type 0
-SessionEnds honest seen may_leave moment left_since failures script before None end = ⊥
-SessionEnds honest seen may_leave moment left_since failures script before (Some after) end =
-    ServiceEnds honest seen may_leave moment left_since failures (Unit {0}) (HaveCalled script) before after end
+abbrev pub SessionEnds : {Disk : Type 0} (D : Ghosts Disk) (script : Option (List ℕ)) (before : Disk) → Option Disk → SessionEnd → Type 0
+SessionEnds D script before None end = ⊥
+SessionEnds D script before (Some after) end =
+    ServiceEnds D (Unit {0}) (HaveCalled script) before after end

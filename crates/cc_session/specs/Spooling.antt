@@ -1,5 +1,6 @@
 -- Many clients of one service, each of which does the scripts that its spool gives.
-use Rattle.std.specs.Prelude.{◌≡◌, ℕ, Bool, List, [], ◌∷◌, ◌++◌, length, Option, Some, None, IfSome, slice_get}
+use Rattle.std.specs.Prelude.{◌≡◌, ℕ, List, [], ◌∷◌, ◌++◌, length, Option, Some, None, IfSome, slice_get}
+use Rattle.cc_disk.specs.declared.disk.Disk.{Ghosts}
 use Rattle.cc_history.specs.History.{Holder}
 use Rattle.cc_script.specs.Fault as faults
 use Rattle.cc_script.specs.declared.command.Dialect.TheVariants.{Served}
@@ -62,7 +63,6 @@ HaveServed before after clients (Fault number) =
 
 -- How serving ends that began with this disk and these spools: as the service ends whose clients do what the spools give, and where it was not
 -- opened no script was taken and no answer handed over.
-abbrev pub ServingEnds : {D : Type 0} (honest : Bool) (seen : D → List ℕ) (may_leave : D → List ℕ → Type 0) (moment : D → ℕ)
-    (left_since : D → ℕ → List ℕ → Type 0) (failures : D → ℕ) (spools_before spools_after : List Given) (before after : D) → SessionEnd → Type 0
-ServingEnds honest seen may_leave moment left_since failures spools_before spools_after before after end =
-    ServiceEnds honest seen may_leave moment left_since failures (spools_after ≡ spools_before) (HaveServed spools_before spools_after) before after end
+abbrev pub ServingEnds : {Disk : Type 0} (D : Ghosts Disk) (spools_before spools_after : List Given) (before after : Disk) → SessionEnd → Type 0
+ServingEnds D spools_before spools_after before after end =
+    ServiceEnds D (spools_after ≡ spools_before) (HaveServed spools_before spools_after) before after end

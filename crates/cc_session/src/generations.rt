@@ -68,7 +68,7 @@ where
     T: Steward,
     requires some { 1 ≤ workers }
     requires few { workers ≤ 8 }
-    ensures generations { (earlier : ℕ) × ServesOn (ServingEnds D.honest D.seen D.may_leave D.moment D.left_since D.failures) earlier
+    ensures generations { (earlier : ℕ) × ServesOn (ServingEnds D.Disk) earlier
         (map (given_by S.taken S.ended) spools.items) (map (given_by S.taken S.ended) result.spools.items) disk result.disk result.end }
 {
     let mut left = serve(

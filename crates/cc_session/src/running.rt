@@ -43,7 +43,7 @@ pub(crate) fn begin<D: Disk + Drop>(alloc: Global, disk: D) -> Result<Begun<D>, 
     ensures refused { IfErr result (λ e. OpenFaults D.honest (D.seen disk) (D.failures disk) (D.failures e.1) e.0) }
     ensures before { IfOk result (λ b. b.before.value ≡ disk) }
     ensures reads { IfOk result (λ b. IsTrue D.honest → OnlyReads D.seen D.may_leave D.moment D.left_since disk b.disk) }
-    ensures past { IfOk result (λ b. IsTrue D.honest → IsPast D.moment D.left_since (D.moment b.before.value) (D.may_leave b.before.value) b.disk) }
+    ensures past { IfOk result (λ b. IsTrue D.honest → IsPast D.Disk (D.moment b.before.value) (D.may_leave b.before.value) b.disk) }
     ensures reads_refused { IfErr result (λ e. IsTrue D.honest → OnlyReads D.seen D.may_leave D.moment D.left_since disk e.1) }
 {
     let before = Snapshot::of(&disk);
@@ -150,7 +150,7 @@ where
     D: Disk,
     // Whatever bytes those were that recover to the map that the service's type names.
     ensures { (bytes : List ℕ) → (IsTrue D.honest → Recovers bytes N.base)
-        → IsEnded D.honest bytes D.may_leave D.left_since N.from N.left (holders clients.items) played result.1 result.0 }
+        → IsEnded D.Disk bytes N.from N.left (holders clients.items) played result.1 result.0 }
 {
     match service.finish(rt, alloc, clients) {
         Ok(closed) => (disk_of(closed), played),
@@ -184,11 +184,11 @@ where
     requires parts { N.parts ≡ 1025 }
     requires queue { begun.fresh.queue ≡ N.queue }
     requires named { IsTrue D.honest → (units : Units) → Recovers (D.seen begun.disk) units → units ≡ N.base }
-    requires past { IsTrue D.honest → IsPast D.moment D.left_since N.from N.left begun.disk }
+    requires past { IsTrue D.honest → IsPast D.Disk N.from N.left begun.disk }
     requires some { 1 ≤ workers }
     requires few { workers ≤ 8 }
     requires fresh { script.old.left ≡ 16777216 }
-    ensures { EndsSince D.honest D.seen D.may_leave D.moment D.left_since D.failures N.from N.left (Unit {0}) (HaveCalled script.old.rest) begun.disk result.0 result.1 }
+    ensures { EndsSince D.Disk N.from N.left (Unit {0}) (HaveCalled script.old.rest) begun.disk result.0 result.1 }
 {
     let Begun {
         disk,
@@ -232,7 +232,7 @@ where
     G: Gate + Drop + Send + Sync + 'static,
     requires some { 1 ≤ workers }
     requires few { workers ≤ 8 }
-    ensures answers { SessionEnds D.honest D.seen D.may_leave D.moment D.left_since D.failures (R.remaining reader.old) disk result.0 result.1 }
+    ensures answers { SessionEnds D.Disk (R.remaining reader.old) disk result.0 result.1 }
 {
     let mut script = Reading::new(reader);
     let mut teller = Teller {
@@ -281,7 +281,7 @@ where
     H: Threads + Wait + Copy + Send + 'static,
     requires some { 1 ≤ workers }
     requires few { workers ≤ 8 }
-    ensures answers { SessionEnds D.honest D.seen D.may_leave D.moment D.left_since D.failures (R.remaining reader.old) disk result.0 result.1 }
+    ensures answers { SessionEnds D.Disk (R.remaining reader.old) disk result.0 result.1 }
 {
     session_and_explain(
         rt,

@@ -289,7 +289,7 @@ where
     requires clients { (room.clients.items ≡ []) × (vec_len spools ≤ vec_capacity room.clients) }
     requires spools { (room.spools.items ≡ []) × (vec_len spools ≤ vec_capacity room.spools) }
     // Whatever bytes those were that recover to the map that the service's type names.
-    ensures { (bytes : List ℕ) → (IsTrue D.honest → Recovers bytes N.base) → HasEnded D.honest bytes D.may_leave D.left_since N.from N.left
+    ensures { (bytes : List ℕ) → (IsTrue D.honest → Recovers bytes N.base) → HasEnded D.Disk bytes N.from N.left
         (HaveServed (map (given_by S.taken S.ended) spools.items) (map (given_by S.taken S.ended) result.spools.items)) result.end result.disk }
 {
     let meter = Meter::new(bounds);
@@ -330,11 +330,11 @@ where
     requires parts { N.parts ≡ 1025 }
     requires queue { begun.fresh.queue ≡ N.queue }
     requires named { IsTrue D.honest → (units : Units) → Recovers (D.seen begun.disk) units → units ≡ N.base }
-    requires past { IsTrue D.honest → IsPast D.moment D.left_since N.from N.left begun.disk }
+    requires past { IsTrue D.honest → IsPast D.Disk N.from N.left begun.disk }
     requires some { 1 ≤ workers }
     requires few { workers ≤ 8 }
     ensures { let before = map (given_by S.taken S.ended) spools.items in let after = map (given_by S.taken S.ended) result.spools.items in
-        EndsSince D.honest D.seen D.may_leave D.moment D.left_since D.failures N.from N.left (after ≡ before) (HaveServed before after) begun.disk result.disk result.end }
+        EndsSince D.Disk N.from N.left (after ≡ before) (HaveServed before after) begun.disk result.disk result.end }
 {
     let Begun {
         disk,
@@ -387,7 +387,7 @@ where
     T: Steward,
     requires some { 1 ≤ workers }
     requires few { workers ≤ 8 }
-    ensures answers { ServingEnds D.honest D.seen D.may_leave D.moment D.left_since D.failures
+    ensures answers { ServingEnds D.Disk
         (map (given_by S.taken S.ended) spools.items) (map (given_by S.taken S.ended) result.spools.items) disk result.disk result.end }
 {
     let mut teller = Teller {

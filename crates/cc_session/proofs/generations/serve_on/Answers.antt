@@ -12,7 +12,7 @@ pub loop-preserved : goal.loop-preserved
 loop-preserved g c =
     let D = g.D.Disk in
     let by = given_by g.S.Spool.taken g.S.Spool.ended in
-    let Ends = ServingEnds D.honest D.seen D.may_leave D.moment D.left_since D.failures in
+    let Ends = ServingEnds D in
     let so_far = c.loop.invariant in
     let looked = c.goes_on.ensures in
     let now = c.goes_on.new.left in
@@ -26,7 +26,7 @@ pub returns : goal.returns
 returns g c =
     let D = g.D.Disk in
     let by = given_by g.S.Spool.taken g.S.Spool.ended in
-    let Ends = ServingEnds D.honest D.seen D.may_leave D.moment D.left_since D.failures in
+    let Ends = ServingEnds D in
     let so_far = c.loop.invariant in
     let left = c.loop.left in
     record {

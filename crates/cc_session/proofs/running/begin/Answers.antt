@@ -15,5 +15,5 @@ returns-in-Ok-new-clause-base g c = λ h units recovers.
 pub returns-in-Ok-new-clause-past : goal.returns-in-Ok-new-clause-past
 returns-in-Ok-new-clause-past g c = λ h.
     let D = g.D.Disk in
-    past_at D.seen D.may_leave D.moment D.left_since c.of-before.result.value c.args.disk c.into_disk-disk.result (λ image left. g.met.D.Disk.only_now c.args.disk image h left) c.of-before.ensures
+    past_at D c.of-before.result.value c.args.disk c.into_disk-disk.result (λ image left. g.met.D.Disk.only_now c.args.disk image h left) c.of-before.ensures
     (subst (λ (d : g.row.D.Denot). OnlyReads D.seen D.may_leave D.moment D.left_since c.args.disk d) (sym c.into_disk-disk.ensures) (c.in-Ok.ensures.reads h))

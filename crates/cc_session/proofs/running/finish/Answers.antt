@@ -14,7 +14,7 @@ returns-in-Ok g c = λ bytes recovers.
     let N = g.N.Based in
     let r = c.in-Ok.closed in
     let e = c.in-Ok.ensures in
-    kept_by D.honest D.may_leave D.left_since N.base N.from N.left bytes recovers (holders c.args.clients.items) c.args.played
+    kept_by D N.base N.from N.left bytes recovers (holders c.args.clients.items) c.args.played
     (record { base = r.base; library = r.library; history = r.history.items; failed = r.failed.items }) c.disk_of.result c.disk_of.ensures e.sound e.closed e.own
 
 pub returns-in-Err : goal.returns-in-Err
@@ -22,8 +22,8 @@ returns-in-Err g c = λ bytes recovers.
     let D = g.D.Disk in
     let N = g.N.Based in
     let given = c.give_up-disk.result in
-    let it = subst (λ (v : Vec ClientView Global). IsGivenUp D.honest D.may_leave D.left_since N.base N.from N.left (holders v.items) given.1 given.0) c.in-Err.ensures.back c.give_up-disk.ensures in
+    let it = subst (λ (v : Vec ClientView Global). IsGivenUp D N.base N.from N.left (holders v.items) given.1 given.0) c.in-Err.ensures.back c.give_up-disk.ensures in
     let why = refusal_number D.honest N.base (holders c.args.clients.items) c.in-Err.fault c.in-Err.ensures.refused in
-    subst (λ (end : SessionEnd). IsEnded D.honest bytes D.may_leave D.left_since N.from N.left (holders c.args.clients.items) c.args.played end given.0) (sym c.told_after.ensures)
-    (given_up_by D.honest D.may_leave D.left_since N.base N.from N.left bytes recovers (holders c.args.clients.items) c.args.played given.1 given.0 c.refused-number.result it
+    subst (λ (end : SessionEnd). IsEnded D bytes N.from N.left (holders c.args.clients.items) c.args.played end given.0) (sym c.told_after.ensures)
+    (given_up_by D N.base N.from N.left bytes recovers (holders c.args.clients.items) c.args.played given.1 given.0 c.refused-number.result it
     (subst (λ (n : ℕ). (n ≡ 39) ⊎ (n ≡ 40)) (sym c.refused-number.ensures) why))

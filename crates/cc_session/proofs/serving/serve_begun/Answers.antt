@@ -14,8 +14,8 @@ returns-in_default g c =
     let u = c.unserved.ensures in
     let before = map by c.args.spools.items in
     let after = map by c.unserved.result.spools.items in
-    unserved_by D.seen D.may_leave D.moment D.left_since D.honest D.failures N.from N.left (after ≡ before) (HaveServed before after) N.base (Opening OutOfMemory) c.args.begun.disk
-    c.args.begun.disk c.unserved.result.disk c.unserved.result.end u.disk u.end refl (λ h. reads_none D.seen D.may_leave D.moment D.left_since c.args.begun.disk) (ap (λ v. map by v.items) u.spools)
+    unserved_by D N.from N.left (after ≡ before) (HaveServed before after) N.base (Opening OutOfMemory) c.args.begun.disk
+    c.args.begun.disk c.unserved.result.disk c.unserved.result.end u.disk u.end refl (λ h. reads_none D c.args.begun.disk) (ap (λ v. map by v.items) u.spools)
 
 pub returns : goal.returns
 returns g c =
@@ -26,5 +26,5 @@ returns g c =
     let left = c.unserved-in-Err.result in
     let before = map by c.args.spools.items in
     let after = map by left.spools.items in
-    unserved_by D.seen D.may_leave D.moment D.left_since D.honest D.failures N.from N.left (after ≡ before) (HaveServed before after) N.base c.in-Err.fault c.args.begun.disk
+    unserved_by D N.from N.left (after ≡ before) (HaveServed before after) N.base c.in-Err.fault c.args.begun.disk
     c.in-Err.disk left.disk left.end u.disk u.end c.in-Err.ensures.refused c.in-Err.ensures.reads (ap (λ v. map by v.items) u.spools)

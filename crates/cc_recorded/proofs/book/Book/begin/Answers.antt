@@ -14,11 +14,11 @@ invariant_of-result g c =
     let book : BookView g.row.D.Denot = c.new-recorded.result in
     let first : BookView g.row.D.Denot = record { base = c.args.base; library = c.args.library; history = []; failed = [] } in
     record {
-      tied = λ h. subst (λ (b : BookView g.row.D.Denot). IsTied compiling Keeps D.seen D.may_leave b) (sym c.new-recorded.ensures)
-          (opening_tied compiling Keeps D.seen D.may_leave first refl refl c.requires.usable c.requires.same c.requires.stand (c.requires.records h) (c.requires.settled h));
-      since = λ h. subst (λ (l : List (BookView g.row.D.Denot)). AreSince D.moment D.left_since book l) (sym c.and-since.ensures)
-          (one_more D.moment D.may_leave D.left_since book c.new.result.items c.kept.ensures.replays c.kept.ensures.one (λ image left. g.met.D.Disk.only_now book.library.disk image h left) (c.kept.ensures.images h)
+      tied = λ h. subst (λ (b : BookView g.row.D.Denot). IsTied compiling Keeps D b) (sym c.new-recorded.ensures)
+          (opening_tied compiling Keeps D first refl refl c.requires.usable c.requires.same c.requires.stand (c.requires.records h) (c.requires.settled h));
+      since = λ h. subst (λ (l : List (BookView g.row.D.Denot)). AreSince D book l) (sym c.and-since.ensures)
+          (one_more D book c.new.result.items c.kept.ensures.replays c.kept.ensures.one (λ image left. g.met.D.Disk.only_now book.library.disk image h left) (c.kept.ensures.images h)
           (λ k old at. let none : None ≡ Some old = sym (ap (λ (l : List (BookView g.row.D.Denot)). slice_get l k) c.new.ensures) ∙ at in absurd (cc)));
-      opened = λ h. subst (λ (b : BookView g.row.D.Denot). IsSinceOpening D.moment D.left_since g.N.Based.from g.N.Based.left b) (sym c.new-recorded.ensures)
-          (opening_now D.moment D.may_leave D.left_since first g.N.Based.from g.N.Based.left (c.requires.past h));
+      opened = λ h. subst (λ (b : BookView g.row.D.Denot). IsSinceOpening D g.N.Based.from g.N.Based.left b) (sym c.new-recorded.ensures)
+          (opening_now D first g.N.Based.from g.N.Based.left (c.requires.past h));
     }

@@ -6,14 +6,14 @@ use Rattle.cc_recorded.proofs.book.Book.commit_compacting.Goals as goal
 pub returns-in-Ok-false-clause-answers : goal.returns-in-Ok-false-clause-answers
 returns-in-Ok-false-clause-answers g c =
     let D = g.D.Disk in
-    commits_at_once D.honest D.failures D.seen D.may_leave c.args.self.now.book c.commit.new.self.book c.args.client.now c.commit.new.client c.args.command c.commit.result
+    commits_at_once D c.args.self.now.book c.commit.new.self.book c.args.client.now c.commit.new.client c.args.command c.commit.result
     (c.in-Ok-false.ensures.not c.in-Ok-false.field-0-test) c.commit.ensures.changed.answers c.commit.ensures.changed.disk
 
 pub returns-in-Ok-clause-answers : goal.returns-in-Ok-clause-answers
 returns-in-Ok-clause-answers g c =
     let D = g.D.Disk in
     let test = c.in-Ok-true.field-0-test in
-    commits_behind D.honest D.failures D.seen D.may_leave c.args.self.now.book c.compact.new.self.book c.commit-in-Ok.new.self.book c.args.client.now c.commit-in-Ok.new.client c.args.command c.commit-in-Ok.result
+    commits_behind D c.args.self.now.book c.compact.new.self.book c.commit-in-Ok.new.self.book c.args.client.now c.commit-in-Ok.new.client c.args.command c.commit-in-Ok.result
     (c.in-Ok-true.ensures.mended test) (c.in-Ok-true.ensures.stands test) c.in-Ok.ensures.compacted.answers c.in-Ok.ensures.compacted.disk c.commit-in-Ok.ensures.changed.answers c.commit-in-Ok.ensures.changed.disk
 
 pub returns-in-Ok-clause-since : goal.returns-in-Ok-clause-since
@@ -27,5 +27,5 @@ pub returns-in-Err-compact-clause-answers : goal.returns-in-Err-compact-clause-a
 returns-in-Err-compact-clause-answers g c =
     let D = g.D.Disk in
     let test = c.in-Ok-true.field-0-test in
-    not_compacted D.honest D.failures D.seen D.may_leave c.args.self.now.book c.compact.new.self.book c.args.client.now c.args.command c.in-Err-compact.field-0
+    not_compacted D c.args.self.now.book c.compact.new.self.book c.args.client.now c.args.command c.in-Err-compact.field-0
     (c.in-Ok-true.ensures.mended test) (c.in-Ok-true.ensures.stands test) c.in-Err-compact.ensures.compacted.answers c.in-Err-compact.ensures.compacted.disk

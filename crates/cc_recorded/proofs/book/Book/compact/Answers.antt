@@ -14,14 +14,14 @@ invariant_of-self g c =
     let after_it : BookView g.row.D.Denot = c.compact-result.new.self in
     let done = c.compact-result.ensures.compacted in
     let law : TurnLaw compiling Keeps = record { turn = c.turn_law.ensures.turn; goes_on = c.turn_law.ensures.goes_on; no_job = c.turn_law.ensures.no_job; no_work = c.turn_law.ensures.no_work; ready = c.turn_law.ensures.ready } in
-    let goes : IsTrue D.honest → Goes D.moment D.may_leave D.left_since before after_it = λ h.
-    compact_goes D.moment D.may_leave D.left_since before after_it c.kept.ensures.replays c.kept-2.ensures.replays c.kept.ensures.idle D.failures c.compact-result.result done.answers (done.moments h) in
+    let goes : IsTrue D.honest → Goes D before after_it = λ h.
+    compact_goes D before after_it c.kept.ensures.replays c.kept-2.ensures.replays c.kept.ensures.idle c.compact-result.result done.answers (done.moments h) in
     record {
-      tied = λ h. compact_tied compiling Keeps law D.seen D.may_leave D.failures before after_it c.compact-result.result done.answers (done.disk h) (c.self.invariant.tied h);
-      since = λ h. subst (λ (l : List (BookView g.row.D.Denot)). AreSince D.moment D.left_since after_it l) (sym c.and-self-inside.ensures)
-          (one_more D.moment D.may_leave D.left_since after_it c.self.inside.since.items c.kept-2.ensures.replays c.kept-2.ensures.one (λ image left. g.met.D.Disk.only_now after_it.library.disk image h left) (c.kept-2.ensures.images h)
-          (λ k old at. since_goes D.moment D.may_leave D.left_since before after_it old (goes h) (c.self.invariant.since h k old at)));
-      opened = λ h. opening_goes D.moment D.may_leave D.left_since before after_it (goes h) g.N.Based.from g.N.Based.left (c.self.invariant.opened h);
+      tied = λ h. compact_tied compiling Keeps law D before after_it c.compact-result.result done.answers (done.disk h) (c.self.invariant.tied h);
+      since = λ h. subst (λ (l : List (BookView g.row.D.Denot)). AreSince D after_it l) (sym c.and-self-inside.ensures)
+          (one_more D after_it c.self.inside.since.items c.kept-2.ensures.replays c.kept-2.ensures.one (λ image left. g.met.D.Disk.only_now after_it.library.disk image h left) (c.kept-2.ensures.images h)
+          (λ k old at. since_goes D before after_it old (goes h) (c.self.invariant.since h k old at)));
+      opened = λ h. opening_goes D before after_it (goes h) g.N.Based.from g.N.Based.left (c.self.invariant.opened h);
     }
 
 pub returns-clause-compacted : goal.returns-clause-compacted

@@ -11,13 +11,13 @@ invariant_of-self g c =
     let D = g.D.Disk in
     let before : BookView g.row.D.Denot = c.self.inside.recorded in
     let after_it : BookView g.row.D.Denot = c.look-result.new.self in
-    let goes : Goes D.moment D.may_leave D.left_since before after_it =
-    look_goes D.moment D.may_leave D.left_since before after_it c.kept.ensures.replays c.kept-2.ensures.replays c.kept.ensures.idle
+    let goes : Goes D before after_it =
+    look_goes D before after_it c.kept.ensures.replays c.kept-2.ensures.replays c.kept.ensures.idle
     c.args.client.now c.look-result.new.client c.args.asked c.look-result.result c.look-result.ensures in
     record {
-      tied = λ h. look_tied compiling Keeps D.seen D.may_leave before after_it c.args.client.now c.look-result.new.client c.args.asked c.look-result.result c.requires c.look-result.ensures (c.self.invariant.tied h);
-      since = λ h. subst (λ (l : List (BookView g.row.D.Denot)). AreSince D.moment D.left_since after_it l) (sym c.and-self-inside.ensures)
-          (one_more D.moment D.may_leave D.left_since after_it c.self.inside.since.items c.kept-2.ensures.replays c.kept-2.ensures.one (λ image left. g.met.D.Disk.only_now after_it.library.disk image h left) (c.kept-2.ensures.images h)
-          (λ k old at. since_goes D.moment D.may_leave D.left_since before after_it old goes (c.self.invariant.since h k old at)));
-      opened = λ h. opening_goes D.moment D.may_leave D.left_since before after_it goes g.N.Based.from g.N.Based.left (c.self.invariant.opened h);
+      tied = λ h. look_tied compiling Keeps D before after_it c.args.client.now c.look-result.new.client c.args.asked c.look-result.result c.requires c.look-result.ensures (c.self.invariant.tied h);
+      since = λ h. subst (λ (l : List (BookView g.row.D.Denot)). AreSince D after_it l) (sym c.and-self-inside.ensures)
+          (one_more D after_it c.self.inside.since.items c.kept-2.ensures.replays c.kept-2.ensures.one (λ image left. g.met.D.Disk.only_now after_it.library.disk image h left) (c.kept-2.ensures.images h)
+          (λ k old at. since_goes D before after_it old goes (c.self.invariant.since h k old at)));
+      opened = λ h. opening_goes D before after_it goes g.N.Based.from g.N.Based.left (c.self.invariant.opened h);
     }

@@ -12,7 +12,7 @@ begin-requires-clause-records g c = λ h.
 pub begin-requires-clause-past : goal.begin-requires-clause-past
 begin-requires-clause-past g c = λ h.
     let D = g.D.Disk in
-    past_on D.seen D.may_leave D.moment D.left_since g.N.Based.from g.N.Based.left c.args.disk c.in-Ok.library.disk (c.requires.past h) (c.in-Ok.ensures.reads h)
+    past_on D g.N.Based.from g.N.Based.left c.args.disk c.in-Ok.library.disk (c.requires.past h) (c.in-Ok.ensures.reads h)
 
 pub returns-in-Ok-again-clause-fresh : goal.returns-in-Ok-again-clause-fresh
 returns-in-Ok-again-clause-fresh g c = λ h area holds.

@@ -14,7 +14,7 @@ use Rattle.cc_recorded.proofs.book.Book.survives.Goals as goal
 pub returns-clause-reached : goal.returns-clause-reached
 returns-clause-reached g c =
     let D = g.D.Disk in
-    subst (λ (b : BookSince g.row.D.Denot). IsTrue D.honest → IsTied compiling Keeps D.seen D.may_leave b.book) c.self.view_is c.self.invariant.tied
+    subst (λ (b : BookSince g.row.D.Denot). IsTrue D.honest → IsTied compiling Keeps D b.book) c.self.view_is c.self.invariant.tied
 
 pub returns-clause-sound : goal.returns-clause-sound
 returns-clause-sound g c =
@@ -22,7 +22,7 @@ returns-clause-sound g c =
     let N = g.N.Based in
     let book : BookView g.row.D.Denot = c.self.inside.recorded in
     let kept = c.kept.ensures in
-    subst (λ (b : BookSince g.row.D.Denot). IsSound D.honest D.may_leave D.left_since N.base N.from N.left b.book) c.self.view_is
+    subst (λ (b : BookSince g.row.D.Denot). IsSound D N.base N.from N.left b.book) c.self.view_is
     (record {
       base_is = kept.base;
       legal = kept.replays.legal;
@@ -31,7 +31,7 @@ returns-clause-sound g c =
       agrees_failed = kept.agreed_failed;
       idle = kept.idle;
       images = kept.images;
-      survives = λ h image left. tied_survives compiling Keeps c.crash_law.ensures.survives c.crash_law.ensures.units D.seen D.may_leave book (c.self.invariant.tied h) image left;
+      survives = λ h image left. tied_survives compiling Keeps c.crash_law.ensures.survives c.crash_law.ensures.units D book (c.self.invariant.tied h) image left;
       since = λ h image left.
           or_prefix book N.left image (held_agrees c.units_agree.ensures c.units_law.ensures.found book kept.replays kept.agreed kept.agreed_failed 0 image) ((c.self.invariant.opened h).holds image left);
     })

@@ -27,7 +27,7 @@ use Rattle.cc_recorded.proofs.recorded.RecordedLibrary.commit.Given.{Over}
 use Rattle.cc_recorded.proofs.recorded.RecordedLibrary.commit.Goals as goal
 
 exists_facts : (g : Over) (c : goal.Joined-change-3 g)
-    → IsRecordedLibrary g.D.Disk.honest g.D.Disk.may_leave g.N.Based.base c.enter.new.calls.total (record { base = c.self.inside.base; library = c.self.inside.library; history = c.enter.new.history.items; failed = c.self.inside.failed.items })
+    → IsRecordedLibrary g.D.Disk g.N.Based.base c.enter.new.calls.total (record { base = c.self.inside.base; library = c.self.inside.library; history = c.enter.new.history.items; failed = c.self.inside.failed.items })
     × IsClient (record { number = c.client.inside.number; receipts = c.enter.new.receipts.items }) c.enter.new.share.parts c.enter.new.share.amount
     × IsRecorded (record { base = c.self.inside.base; units = c.self.inside.library.units; history = c.self.inside.history.items }) (record { number = c.client.inside.number; receipts = c.client.inside.receipts.items }) (Change c.args.command) reply.Exists
     (record { base = c.self.inside.base; units = c.self.inside.library.units; history = c.enter.new.history.items }) (record { number = c.client.inside.number; receipts = c.enter.new.receipts.items }) c.enter.result
@@ -41,7 +41,7 @@ exists_facts g c =
     let replied : reply.Exists ≡ reply_of_change (apply before.library.units (change_of c.args.command)) = sym (ap answer_reply c.in-Exists.is) ∙ c.decide-answer.ensures in
     let entry : o.history ≡ entry_of old (Change c.args.command) reply.Exists = c.in-Ok-prepare.ensures.owners.0 ∙ (λ i. record { client = old.number; call = count i + 1; asked = Change c.args.command; reply = answered i }) in
     let r = receipt_is c.enter.result (length c.prepare.new.history.items + 1) o.history c.enter.ensures.receipt in
-    entering c.calls_are_recorded.ensures g.D.Disk.honest g.D.Disk.may_leave g.N.Based.base c.self.inside.calls.total c.enter.new.calls.total before c.self.inside.library old c.client.inside.share.parts c.client.inside.share.amount c.enter.new.share.parts c.enter.new.share.amount
+    entering c.calls_are_recorded.ensures g.D.Disk g.N.Based.base c.self.inside.calls.total c.enter.new.calls.total before c.self.inside.library old c.client.inside.share.parts c.client.inside.share.amount c.enter.new.share.parts c.enter.new.share.amount
     (Change c.args.command) reply.Exists c.enter.new.history.items c.enter.new.receipts.items c.enter.result c.self.invariant c.client.invariant stood replied c.in-Ok-change.ensures.agrees
     (r.0 ∙ ap (λ (h : List Entry). length h + 1) c.in-Ok-prepare.ensures.history) (r.1 ∙ entry)
     (c.enter.ensures.history ∙ (λ i. c.in-Ok-prepare.ensures.history i ++ sym r.1 i ∷ [])) (c.enter.ensures.receipts ∙ ap (λ (l : List Receipt). l ++ c.enter.result ∷ []) c.in-Ok-prepare.ensures.receipts)
@@ -72,7 +72,7 @@ returns-in-Exists g c =
     }
 
 absent_facts : (g : Over) (c : goal.Joined-change-4 g)
-    → IsRecordedLibrary g.D.Disk.honest g.D.Disk.may_leave g.N.Based.base c.enter-in-Absent.new.calls.total (record { base = c.self.inside.base; library = c.self.inside.library; history = c.enter-in-Absent.new.history.items; failed = c.self.inside.failed.items })
+    → IsRecordedLibrary g.D.Disk g.N.Based.base c.enter-in-Absent.new.calls.total (record { base = c.self.inside.base; library = c.self.inside.library; history = c.enter-in-Absent.new.history.items; failed = c.self.inside.failed.items })
     × IsClient (record { number = c.client.inside.number; receipts = c.enter-in-Absent.new.receipts.items }) c.enter-in-Absent.new.share.parts c.enter-in-Absent.new.share.amount
     × IsRecorded (record { base = c.self.inside.base; units = c.self.inside.library.units; history = c.self.inside.history.items }) (record { number = c.client.inside.number; receipts = c.client.inside.receipts.items }) (Change c.args.command) reply.Absent
     (record { base = c.self.inside.base; units = c.self.inside.library.units; history = c.enter-in-Absent.new.history.items }) (record { number = c.client.inside.number; receipts = c.enter-in-Absent.new.receipts.items }) c.enter-in-Absent.result
@@ -86,7 +86,7 @@ absent_facts g c =
     let replied : reply.Absent ≡ reply_of_change (apply before.library.units (change_of c.args.command)) = sym (ap answer_reply c.in-Absent.is) ∙ c.decide-answer.ensures in
     let entry : o.history ≡ entry_of old (Change c.args.command) reply.Absent = c.in-Ok-prepare.ensures.owners.0 ∙ (λ i. record { client = old.number; call = count i + 1; asked = Change c.args.command; reply = answered i }) in
     let r = receipt_is c.enter-in-Absent.result (length c.prepare.new.history.items + 1) o.history c.enter-in-Absent.ensures.receipt in
-    entering c.calls_are_recorded.ensures g.D.Disk.honest g.D.Disk.may_leave g.N.Based.base c.self.inside.calls.total c.enter-in-Absent.new.calls.total before c.self.inside.library old c.client.inside.share.parts c.client.inside.share.amount c.enter-in-Absent.new.share.parts c.enter-in-Absent.new.share.amount
+    entering c.calls_are_recorded.ensures g.D.Disk g.N.Based.base c.self.inside.calls.total c.enter-in-Absent.new.calls.total before c.self.inside.library old c.client.inside.share.parts c.client.inside.share.amount c.enter-in-Absent.new.share.parts c.enter-in-Absent.new.share.amount
     (Change c.args.command) reply.Absent c.enter-in-Absent.new.history.items c.enter-in-Absent.new.receipts.items c.enter-in-Absent.result c.self.invariant c.client.invariant stood replied c.in-Ok-change.ensures.agrees
     (r.0 ∙ ap (λ (h : List Entry). length h + 1) c.in-Ok-prepare.ensures.history) (r.1 ∙ entry)
     (c.enter-in-Absent.ensures.history ∙ (λ i. c.in-Ok-prepare.ensures.history i ++ sym r.1 i ∷ [])) (c.enter-in-Absent.ensures.receipts ∙ ap (λ (l : List Receipt). l ++ c.enter-in-Absent.result ∷ []) c.in-Ok-prepare.ensures.receipts)
@@ -117,7 +117,7 @@ returns-in-Absent g c =
     }
 
 done_facts : (g : Over) (c : goal.After-enter-in-Ok-change-2 g)
-    → IsRecordedLibrary g.D.Disk.honest g.D.Disk.may_leave g.N.Based.base c.enter-in-Ok-change-2.new.calls.total (record { base = c.self.inside.base; library = c.change-in-Done.new.self; history = c.enter-in-Ok-change-2.new.history.items; failed = c.self.inside.failed.items })
+    → IsRecordedLibrary g.D.Disk g.N.Based.base c.enter-in-Ok-change-2.new.calls.total (record { base = c.self.inside.base; library = c.change-in-Done.new.self; history = c.enter-in-Ok-change-2.new.history.items; failed = c.self.inside.failed.items })
     × IsClient (record { number = c.client.inside.number; receipts = c.enter-in-Ok-change-2.new.receipts.items }) c.enter-in-Ok-change-2.new.share.parts c.enter-in-Ok-change-2.new.share.amount
     × IsRecorded (record { base = c.self.inside.base; units = c.self.inside.library.units; history = c.self.inside.history.items }) (record { number = c.client.inside.number; receipts = c.client.inside.receipts.items }) (Change c.args.command) reply.Done
     (record { base = c.self.inside.base; units = c.change-in-Done.new.self.units; history = c.enter-in-Ok-change-2.new.history.items }) (record { number = c.client.inside.number; receipts = c.enter-in-Ok-change-2.new.receipts.items }) c.enter-in-Ok-change-2.result
@@ -131,7 +131,7 @@ done_facts g c =
     let replied : reply.Done ≡ reply_of_change (apply before.library.units (change_of c.args.command)) = sym (ap answer_reply c.in-Done.is) ∙ c.decide-answer.ensures in
     let entry : o.history ≡ entry_of old (Change c.args.command) reply.Done = c.in-Ok-prepare.ensures.owners.0 ∙ (λ i. record { client = old.number; call = count i + 1; asked = Change c.args.command; reply = answered i }) in
     let r = receipt_is c.enter-in-Ok-change-2.result (length c.prepare.new.history.items + 1) o.history c.enter-in-Ok-change-2.ensures.receipt in
-    entering c.calls_are_recorded.ensures g.D.Disk.honest g.D.Disk.may_leave g.N.Based.base c.self.inside.calls.total c.enter-in-Ok-change-2.new.calls.total before c.change-in-Done.new.self old c.client.inside.share.parts c.client.inside.share.amount c.enter-in-Ok-change-2.new.share.parts c.enter-in-Ok-change-2.new.share.amount
+    entering c.calls_are_recorded.ensures g.D.Disk g.N.Based.base c.self.inside.calls.total c.enter-in-Ok-change-2.new.calls.total before c.change-in-Done.new.self old c.client.inside.share.parts c.client.inside.share.amount c.enter-in-Ok-change-2.new.share.parts c.enter-in-Ok-change-2.new.share.amount
     (Change c.args.command) reply.Done c.enter-in-Ok-change-2.new.history.items c.enter-in-Ok-change-2.new.receipts.items c.enter-in-Ok-change-2.result c.self.invariant c.client.invariant stood replied c.in-Ok-change.ensures.agrees
     (r.0 ∙ ap (λ (h : List Entry). length h + 1) c.in-Ok-prepare.ensures.history) (r.1 ∙ entry)
     (c.enter-in-Ok-change-2.ensures.history ∙ (λ i. c.in-Ok-prepare.ensures.history i ++ sym r.1 i ∷ [])) (c.enter-in-Ok-change-2.ensures.receipts ∙ ap (λ (l : List Receipt). l ++ c.enter-in-Ok-change-2.result ∷ []) c.in-Ok-prepare.ensures.receipts)
@@ -169,7 +169,7 @@ returns-in-Ok-change-2 g c =
           (subst (λ (h : Holder). IsBookChanged D before h c.args.command after_it new answered) c.client.view_is
           (record {
             answers = (done, answers.2);
-            disk = λ h. subst (λ (k : LibraryCommand). ChangesDisk D.seen D.may_leave k before.library library answered) is (c.in-Ok-change-2.ensures.changed.disk h);
+            disk = λ h. subst (λ (k : LibraryCommand). ChangesDisk D k before.library library answered) is (c.in-Ok-change-2.ensures.changed.disk h);
             moments = λ h usable. subst (λ (k : LibraryCommand). LeavesOnly D.moment D.left_since before.library.disk library.disk (RecoversOneOf before.library.units (after before.library.units k))) is
                 (c.in-Ok-change-2.ensures.changed.moments h usable);
             kept = (done_facts g c).0.images;
@@ -180,7 +180,7 @@ pub invariant_of-self-in-Err-DiskFault : goal.invariant_of-self-in-Err-DiskFault
 invariant_of-self-in-Err-DiskFault g c =
     let before : BookView g.row.D.Denot = record { base = c.self.inside.base; library = c.self.inside.library; history = c.self.inside.history.items; failed = c.self.inside.failed.items } in
     let idle : before.library.closed ≡ false = sym c.is_closed.ensures ∙ c.if-is_closed.false in
-    (keeps_failed g.D.Disk.honest g.D.Disk.may_leave g.N.Based.base c.self.inside.calls.total before c.change-in-Done.new.self c.prepare.new.history.items c.and-failing.result.items c.args.command c.in-Ok-change.change
+    (keeps_failed g.D.Disk g.N.Based.base c.self.inside.calls.total before c.change-in-Done.new.self c.prepare.new.history.items c.and-failing.result.items c.args.command c.in-Ok-change.change
     c.self.invariant c.in-Ok-change.ensures.agrees c.in-Ok-prepare.ensures.history c.and-failing.ensures idle (rw c.in-Err-DiskFault.field-0-is at c.in-Err-DiskFault.ensures.changed.leaves) c.in-Ok-change.ensures.change (λ h image left. c.change-in-Done.ensures.changed.images h idle image left)).1
 
 pub returns-in-Err-DiskFault : goal.returns-in-Err-DiskFault
@@ -199,7 +199,7 @@ returns-in-Err-DiskFault g c =
     let answers = rw c.in-Err-DiskFault.field-0-is at c.in-Err-DiskFault.ensures.changed.answers in
     let leaves = rw c.in-Err-DiskFault.field-0-is at c.in-Err-DiskFault.ensures.changed.leaves in
     let fails = rw c.in-Err-DiskFault.field-0-is at c.in-Err-DiskFault.ensures.changed.disk in
-    let facts = keeps_failed D.honest D.may_leave g.N.Based.base c.self.inside.calls.total before library c.prepare.new.history.items c.and-failing.result.items c.args.command c.in-Ok-change.change
+    let facts = keeps_failed D g.N.Based.base c.self.inside.calls.total before library c.prepare.new.history.items c.and-failing.result.items c.args.command c.in-Ok-change.change
     c.self.invariant c.in-Ok-change.ensures.agrees c.in-Ok-prepare.ensures.history c.and-failing.ensures idle leaves is (λ h image left. c.change-in-Done.ensures.changed.images h idle image left) in
     record {
       changed = subst (λ (b : BookView g.row.D.Denot). IsBookChanged D b c.args.client.now c.args.command after_it new answered) c.self.view_is
@@ -212,7 +212,7 @@ returns-in-Err-DiskFault g c =
               λ k. record { base = before.base; library = leaves k; history = c.in-Ok-prepare.ensures.history k; failed = facts.0 k },
               λ k. record { number = old.number; receipts = c.in-Ok-prepare.ensures.receipts k },
             );
-            disk = λ h. subst (λ (k : LibraryCommand). ChangesDisk {T = Receipt} D.seen D.may_leave k before.library library (Err DiskFault)) is (fails h);
+            disk = λ h. subst (λ (k : LibraryCommand). ChangesDisk {T = Receipt} D k before.library library (Err DiskFault)) is (fails h);
             moments = λ h usable. subst (λ (k : LibraryCommand). LeavesOnly D.moment D.left_since before.library.disk library.disk (RecoversOneOf before.library.units (after before.library.units k))) is
                 (c.change-in-Done.ensures.changed.moments h usable);
             kept = facts.1.images;

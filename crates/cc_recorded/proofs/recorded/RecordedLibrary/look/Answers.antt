@@ -13,7 +13,7 @@ use Rattle.cc_recorded.proofs.recorded.RecordedLibrary.look.Given.{Over}
 use Rattle.cc_recorded.proofs.recorded.RecordedLibrary.look.Goals as goal
 
 facts : (g : Over) (c : goal.After-enter g)
-    → IsRecordedLibrary g.D.Disk.honest g.D.Disk.may_leave g.N.Based.base c.enter.new.calls.total (record { base = c.self.inside.base; library = c.self.inside.library; history = c.enter.new.history.items; failed = c.self.inside.failed.items })
+    → IsRecordedLibrary g.D.Disk g.N.Based.base c.enter.new.calls.total (record { base = c.self.inside.base; library = c.self.inside.library; history = c.enter.new.history.items; failed = c.self.inside.failed.items })
     × IsClient (record { number = c.client.inside.number; receipts = c.enter.new.receipts.items }) c.enter.new.share.parts c.enter.new.share.amount
     × IsRecorded (record { base = c.self.inside.base; units = c.self.inside.library.units; history = c.self.inside.history.items }) (record { number = c.client.inside.number; receipts = c.client.inside.receipts.items }) c.args.asked (reply_of c.self.inside.library.units c.args.asked)
     (record { base = c.self.inside.base; units = c.self.inside.library.units; history = c.enter.new.history.items }) (record { number = c.client.inside.number; receipts = c.enter.new.receipts.items }) c.enter.result
@@ -27,7 +27,7 @@ facts g c =
     let answered : c.in-Ok-looked.reply ≡ answer = c.in-Ok-looked.ensures in
     let entry : o.history ≡ entry_of old c.args.asked answer = c.in-Ok-prepare.ensures.owners.0 ∙ (λ i. record { client = old.number; call = count i + 1; asked = c.args.asked; reply = answered i }) in
     let r = receipt_is c.enter.result (length c.prepare.new.history.items + 1) o.history c.enter.ensures.receipt in
-    entering c.calls_are_recorded.ensures g.D.Disk.honest g.D.Disk.may_leave g.N.Based.base c.self.inside.calls.total c.enter.new.calls.total before c.self.inside.library old c.client.inside.share.parts c.client.inside.share.amount c.enter.new.share.parts c.enter.new.share.amount
+    entering c.calls_are_recorded.ensures g.D.Disk g.N.Based.base c.self.inside.calls.total c.enter.new.calls.total before c.self.inside.library old c.client.inside.share.parts c.client.inside.share.amount c.enter.new.share.parts c.enter.new.share.amount
     c.args.asked answer c.enter.new.history.items c.enter.new.receipts.items c.enter.result c.self.invariant c.client.invariant stood refl (look_agrees c.args.asked c.requires)
     (r.0 ∙ ap (λ (h : List Entry). length h + 1) c.in-Ok-prepare.ensures.history) (r.1 ∙ entry)
     (c.enter.ensures.history ∙ (λ i. c.in-Ok-prepare.ensures.history i ++ sym r.1 i ∷ [])) (c.enter.ensures.receipts ∙ ap (λ (l : List Receipt). l ++ c.enter.result ∷ []) c.in-Ok-prepare.ensures.receipts)

@@ -7,4 +7,4 @@ pub returns : goal.returns
 returns g c =
     let D = g.D.Disk in
     let N = g.N.Based in
-    subst (λ (l : List ClientView). IsGivenUp D.honest D.may_leave D.left_since N.base N.from N.left (holders l) c.give_up-given_up.result.1 c.give_up-given_up.result.0) c.as_slice.ensures.value c.give_up-given_up.ensures
+    subst (λ (l : List ClientView). IsGivenUp D N.base N.from N.left (holders l) c.give_up-given_up.result.1 c.give_up-given_up.result.0) c.as_slice.ensures.value c.give_up-given_up.ensures
