@@ -17,14 +17,14 @@ use Rattle.cc_history.specs.declared.entry.Receipt.{Receipt}
 use Rattle.cc_history.specs.declared.reply.Reply.{Reply}
 use Rattle.cc_history.specs.declared.reply.Reply.TheVariants as reply
 use Rattle.cc_history.specs.Calls.{HasAgreedUnit, HasAgreed, change_of, changes_of, reply_of, reply_of_change}
-use Rattle.cc_history.specs.History.{Holder, Chronicle, HaveAgreed, IsOwn, IsRecorded, LastStands, Replays, entry_of}
-use Rattle.cc_history.specs.Laws.{RecordsKeep, next_of, holder_of}
+use Rattle.cc_history.specs.History.{MemberView, Chronicle, HaveAgreed, IsOwn, IsRecorded, LastStands, Replays, entry_of}
+use Rattle.cc_history.specs.Laws.{RecordsKeep, next_of, member_of}
 use Rattle.cc_history.proofs.Histories.{snoc_cases}
 use Rattle.cc_history.specs.declared.command.Command.TheVariants as commands
 use Rattle.cc_recorded.specs.Book.{BookView, IsRecordedLibrary, RecoversTo, chronicle_of, AllAgreed}
 use Rattle.cc_recorded.specs.Book.{HasAgreedUnit as AgreedChange}
 use Rattle.cc_recorded.specs.Changed.{AllRecover}
-use Rattle.cc_recorded.specs.Client.{IsClient}
+use Rattle.cc_recorded.specs.Member.{IsMember}
 use Rattle.cc_recorded.specs.Answers.{IsLook}
 
 -- ---- a call that is answered with an entry
@@ -39,16 +39,16 @@ module _ {Disk : Type 0} where
   entered before library receipt = record before { library = library; history = before.history ++ receipt.entry ∷ [] }
 
   -- the entry of a call is put behind the history: with the library's new map, all is as the call leaves it
-  pub enters : RecordsKeep → (before : BookView Disk) (library : View Disk) (old : Holder) (asked : Asked) (answer : Reply) (receipt : Receipt)
+  pub enters : RecordsKeep → (before : BookView Disk) (library : View Disk) (old : MemberView) (asked : Asked) (answer : Reply) (receipt : Receipt)
       → Replays (chronicle_of before) → IsOwn old → LastStands before.history old.receipts → answer ≡ reply_of before.library.units asked
       → receipt.number ≡ length before.history + 1 → receipt.entry ≡ entry_of old asked answer → library.units ≡ after_all before.library.units (changes_of asked answer)
-      → IsRecorded (chronicle_of before) old asked answer (chronicle_of (entered before library receipt)) (holder_of old receipt) receipt
-      × Replays (chronicle_of (entered before library receipt)) × IsOwn (holder_of old receipt)
+      → IsRecorded (chronicle_of before) old asked answer (chronicle_of (entered before library receipt)) (member_of old receipt) receipt
+      × Replays (chronicle_of (entered before library receipt)) × IsOwn (member_of old receipt)
   enters keep before library old asked answer receipt replays own stood replied number entry units =
       let made = keep (chronicle_of before) old asked answer receipt replays own stood replied number entry in
       let next : next_of (chronicle_of before) asked answer receipt ≡ chronicle_of (entered before library receipt) =
       ap (λ (u : Units). record { base = before.base; units = u; history = before.history ++ receipt.entry ∷ [] }) (sym units) in
-      subst (λ (c : Chronicle). IsRecorded (chronicle_of before) old asked answer c (holder_of old receipt) receipt × Replays c × IsOwn (holder_of old receipt)) next made
+      subst (λ (c : Chronicle). IsRecorded (chronicle_of before) old asked answer c (member_of old receipt) receipt × Replays c × IsOwn (member_of old receipt)) next made
 
   -- the book's type keeps what it keeps
   pub keeps_entered : (D : Ghosts Disk) (named : Units) (total total' : ℕ) (before : BookView Disk) (library : View Disk) (receipt : Receipt)
@@ -67,8 +67,8 @@ module _ {Disk : Type 0} where
   }
 
 -- the client's type keeps what it keeps
-pub keeps_client : (old : Holder) (receipt : Receipt) (parts amount parts' amount' : ℕ) → IsClient old parts amount → parts' ≡ parts → amount' ≡ amount + 1 → IsOwn (holder_of old receipt) → IsClient (holder_of old receipt) parts' amount'
-keeps_client old receipt parts amount parts' amount' client part counted own = record {
+pub keeps_member : (old : MemberView) (receipt : Receipt) (parts amount parts' amount' : ℕ) → IsMember old parts amount → parts' ≡ parts → amount' ≡ amount + 1 → IsOwn (member_of old receipt) → IsMember (member_of old receipt) parts' amount'
+keeps_member old receipt parts amount parts' amount' client part counted own = record {
   part = part ∙ client.part;
   counted = omega (arith, counted, client.counted, length-append old.receipts (receipt ∷ []));
   own = own;
@@ -118,22 +118,22 @@ done_is_ok (Err number) is = absurd (not_done (number == 31) is)
 
 -- The book and the client after a call whose entry was put, over this library: their types keep what they keep, and the call is
 -- recorded.
-pub entering : RecordsKeep → {Disk : Type 0} (D : Ghosts Disk) (named : Units) (total total' : ℕ) (before : BookView Disk) (new_library : View Disk) (old : Holder) (parts amount parts' amount' : ℕ)
+pub entering : RecordsKeep → {Disk : Type 0} (D : Ghosts Disk) (named : Units) (total total' : ℕ) (before : BookView Disk) (new_library : View Disk) (old : MemberView) (parts amount parts' amount' : ℕ)
     (asked : Asked) (answer : Reply) (history : List Entry) (receipts : List Receipt) (receipt : Receipt)
-    → IsRecordedLibrary D named total before → IsClient old parts amount → LastStands before.history old.receipts → answer ≡ reply_of before.library.units asked → HasAgreedUnit asked
+    → IsRecordedLibrary D named total before → IsMember old parts amount → LastStands before.history old.receipts → answer ≡ reply_of before.library.units asked → HasAgreedUnit asked
     → receipt.number ≡ length before.history + 1 → receipt.entry ≡ entry_of old asked answer → history ≡ before.history ++ receipt.entry ∷ [] → receipts ≡ old.receipts ++ receipt ∷ []
     → total' ≡ total + 1 → parts' ≡ parts → amount' ≡ amount + 1
     → new_library.units ≡ after_all before.library.units (changes_of asked answer) → new_library.closed ≡ before.library.closed
     → (IsTrue D.honest → (image : List ℕ) → D.may_leave new_library.disk image → RecoversTo new_library.units before.failed image)
-    → IsRecordedLibrary D named total' (record before { library = new_library; history = history }) × IsClient (record old { receipts = receipts }) parts' amount'
+    → IsRecordedLibrary D named total' (record before { library = new_library; history = history }) × IsMember (record old { receipts = receipts }) parts' amount'
     × IsRecorded (chronicle_of before) old asked answer (record { base = before.base; units = new_library.units; history = history }) (record old { receipts = receipts }) receipt
 entering keep D named total total' before new_library old parts amount parts' amount' asked answer history receipts receipt book client stood replied agreed number entry history_is receipts_is counted part more units phase images =
     let made = enters keep before new_library old asked answer receipt book.replays client.own stood replied number entry units in
     let agreed_entry : HasAgreedUnit receipt.entry.asked = subst (λ (e : Entry). HasAgreedUnit e.asked) (sym entry) agreed in
     let kept = keeps_entered D named total total' before new_library receipt book made.1 agreed_entry counted phase images in
-    let kept_client = keeps_client old receipt parts amount parts' amount' client part more made.2 in (
+    let kept_member = keeps_member old receipt parts amount parts' amount' client part more made.2 in (
       subst (λ (h : List Entry). IsRecordedLibrary D named total' (record before { library = new_library; history = h })) (sym history_is) kept,
-      subst (λ (r : List Receipt). IsClient (record old { receipts = r }) parts' amount') (sym receipts_is) kept_client,
+      subst (λ (r : List Receipt). IsMember (record old { receipts = r }) parts' amount') (sym receipts_is) kept_member,
       subst (λ (h : List Entry). IsRecorded (chronicle_of before) old asked answer (record { base = before.base; units = new_library.units; history = h }) (record old { receipts = receipts }) receipt) (sym history_is)
           (subst (λ (r : List Receipt). IsRecorded (chronicle_of before) old asked answer (chronicle_of (entered before new_library receipt)) (record old { receipts = r }) receipt) (sym receipts_is) made.0),
     )

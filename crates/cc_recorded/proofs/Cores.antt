@@ -42,7 +42,7 @@ use Rattle.cc_history.specs.declared.entry.Receipt.{Receipt}
 use Rattle.cc_history.specs.declared.reply.Reply as history
 use Rattle.cc_history.specs.declared.reply.Reply.TheVariants as reply
 use Rattle.cc_history.specs.Calls.{change_of, changes_of, done_by, reply_of_change}
-use Rattle.cc_history.specs.History.{Holder, changes}
+use Rattle.cc_history.specs.History.{MemberView, changes}
 use Rattle.cc_history.proofs.Histories.{changes-push}
 use Rattle.cc_recorded.specs.declared.fault.BookFault.{BookFault}
 use Rattle.cc_recorded.specs.declared.fault.BookFault.TheVariants.{Exists, Absent, Full, DiskFault, Closed, Estranged, OutOfMemory}
@@ -452,7 +452,7 @@ module _ {Disk P : Type 0} (rules : Rules P) (D : Ghosts Disk) where
   }
 
   -- one that is done
-  done_shown : (before after_it : BookView Disk) (old new : Holder) (command : Command) (receipt : Receipt) (s : Contents P) (client : ClientId) → Shown before s → IsDone before old command after_it new receipt
+  done_shown : (before after_it : BookView Disk) (old new : MemberView) (command : Command) (receipt : Receipt) (s : Contents P) (client : ClientId) → Shown before s → IsDone before old command after_it new receipt
       → (IsTrue D.honest → HoldsRecords (D.seen after_it.library.disk) after_it.library.area after_it.library.bodies
       × ((area_byte : ℕ) → HasAreaByte (D.seen before.library.disk) area_byte before.library.area → IsCommitted (commit_of area_byte before.library (change_of command)) (D.seen before.library.disk) (D.seen after_it.library.disk) × LeavesAlone (D.seen after_it.library.disk) (D.may_leave after_it.library.disk)))
       → Shown after_it (done_state s client (change_of command) (stepped due.SyncGate (change_of command) (stepped due.WriteGate (change_of command) (stepped due.SyncBody (change_of command) (stepped due.WriteBody (change_of command) s.core.store)))))
@@ -488,7 +488,7 @@ module _ {Disk P : Type 0} (rules : Rules P) (D : Ghosts Disk) where
       }
 
   -- a refused call changes nothing in the history's changes
-  refused_changes : (before after_it : BookView Disk) (old new : Holder) (command : Command) (answer : history.Reply) (receipt : Receipt) → done_by command answer ≡ [] → IsRefused before old command answer after_it new receipt → changes after_it.history ≡ changes before.history
+  refused_changes : (before after_it : BookView Disk) (old new : MemberView) (command : Command) (answer : history.Reply) (receipt : Receipt) → done_by command answer ≡ [] → IsRefused before old command answer after_it new receipt → changes after_it.history ≡ changes before.history
   refused_changes before after_it old new command answer receipt nothing refused =
       ap changes refused.recorded.history ∙ changes-push before.history receipt.entry
       ∙ ap (λ (e : Entry). changes before.history ++ changes_of e.asked e.reply) refused.recorded.answered.entry
@@ -499,7 +499,7 @@ module _ {Disk P : Type 0} (rules : Rules P) (D : Ghosts Disk) where
 
   -- ---- the whole
 
-  pub commits : (now : (disk : Disk) → IsTrue D.honest → D.may_leave disk (D.seen disk)) (before after_it : BookView Disk) (old new : Holder) (command : Command) (result : Result Receipt BookFault) (s : Contents P) (client : ClientId)
+  pub commits : (now : (disk : Disk) → IsTrue D.honest → D.may_leave disk (D.seen disk)) (before after_it : BookView Disk) (old new : MemberView) (command : Command) (result : Result Receipt BookFault) (s : Contents P) (client : ClientId)
       → CommitAnswers D.failures before old command after_it new result → (IsTrue D.honest → ChangesDisk D (change_of command) before.library after_it.library result)
       → Shown before s → Has rules s client (change_of command) → IsCommitOf rules (Shown after_it) s client result
   commits now before after_it old new command (Ok receipt) s client answers disk shows has =

@@ -7,37 +7,37 @@ use Rattle.std.specs.Option.{option_map}
 use Rattle.std.proofs.lemmas.Option.{slice_get-map}
 use Rattle.cc_history.specs.declared.entry.Entry.{Entry}
 use Rattle.cc_history.specs.Closing.{AreApart, AreOwn, ReceiptsStand, receipts_of}
-use Rattle.cc_history.specs.History.{Holder}
+use Rattle.cc_history.specs.History.{MemberView}
 use Rattle.cc_history.proofs.Closings.{at_most}
 use Rattle.cc_recorded.specs.internal.Apart.{HaveOwnNumbers}
 
 -- all receipts stand, and are not as many as the entries: so the history has more
-pub more_entries : (history : List Entry) (clients : List Holder) → AreOwn clients → AreApart clients → ReceiptsStand history clients → receipts_of clients ≢ length history
+pub more_entries : (history : List Entry) (clients : List MemberView) → AreOwn clients → AreApart clients → ReceiptsStand history clients → receipts_of clients ≢ length history
     → receipts_of clients < length history
 more_entries history clients own apart stand differ = omega (arith, at_most history clients own apart stand, differ)
 
-module _ {A : Type 0} (who : A → Holder) where
+module _ {A : Type 0} (who : A → MemberView) where
   -- who stands there
-  pub holder_at : (clients : List A) (i : ℕ) (c : A) → slice_get clients i ≡ Some c → slice_get (map who clients) i ≡ Some (who c)
-  holder_at clients i c at = slice_get-map who clients i ∙ ap (option_map who) at
+  pub member_at : (clients : List A) (i : ℕ) (c : A) → slice_get clients i ≡ Some c → slice_get (map who clients) i ≡ Some (who c)
+  member_at clients i c at = slice_get-map who clients i ∙ ap (option_map who) at
 
   -- whose place it is
-  pub client_at : (clients : List A) (i : ℕ) (h : Holder) → slice_get (map who clients) i ≡ Some h → (c : A) × (slice_get clients i ≡ Some c) × (who c ≡ h)
+  pub client_at : (clients : List A) (i : ℕ) (h : MemberView) → slice_get (map who clients) i ≡ Some h → (c : A) × (slice_get clients i ≡ Some c) × (who c ≡ h)
   client_at clients i h at = by (slice_get clients i) refl
     where
       by : (o : Option A) → slice_get clients i ≡ o → (c : A) × (slice_get clients i ≡ Some c) × (who c ≡ h)
-      by None e = absurd (let none : ◌≡◌ {A = Option Holder} None (Some h) = sym (slice_get-map who clients i ∙ ap (option_map who) e) ∙ at in cc)
-      by (Some c) e = (c, e, (let some : ◌≡◌ {A = Option Holder} (Some (who c)) (Some h) = sym (holder_at clients i c e) ∙ at in cc))
+      by None e = absurd (let none : ◌≡◌ {A = Option MemberView} None (Some h) = sym (slice_get-map who clients i ∙ ap (option_map who) e) ∙ at in cc)
+      by (Some c) e = (c, e, (let some : ◌≡◌ {A = Option MemberView} (Some (who c)) (Some h) = sym (member_at clients i c e) ∙ at in cc))
 
   -- clients with numbers of their own are apart, and clients that are apart have such
   pub apart : (clients : List A) → HaveOwnNumbers who clients → AreApart (map who clients)
   apart clients own i j one other at at' same =
       let a = client_at clients i one at in
       let b = client_at clients j other at' in
-      own i j a.0 b.0 a.1 b.1 (ap (λ (h : Holder). h.number) a.2 ∙ same ∙ sym (ap (λ (h : Holder). h.number) b.2))
+      own i j a.0 b.0 a.1 b.1 (ap (λ (h : MemberView). h.number) a.2 ∙ same ∙ sym (ap (λ (h : MemberView). h.number) b.2))
 
   pub own_numbers : (clients : List A) → AreApart (map who clients) → HaveOwnNumbers who clients
-  own_numbers clients apart i j one other at at' same = apart i j (who one) (who other) (holder_at clients i one at) (holder_at clients j other at') same
+  own_numbers clients apart i j one other at at' same = apart i j (who one) (who other) (member_at clients i one at) (member_at clients j other at') same
 
   -- clients of which two have one number are not apart
   pub not_apart : (clients : List A) → (HaveOwnNumbers who clients → ⊥) → ¬ AreApart (map who clients)

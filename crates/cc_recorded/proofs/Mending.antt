@@ -7,7 +7,7 @@ use Rattle.cc_library.specs.Compact.{room_compacted}
 use Rattle.cc_history.specs.declared.command.Command.{Command}
 use Rattle.cc_history.specs.declared.entry.Receipt.{Receipt}
 use Rattle.cc_history.specs.Calls.{change_of}
-use Rattle.cc_history.specs.History.{Holder, LastStands}
+use Rattle.cc_history.specs.History.{MemberView, LastStands}
 use Rattle.cc_recorded.specs.Answers.{CommitAnswers, CompactAnswers}
 use Rattle.cc_recorded.specs.Book.{BookView}
 use Rattle.cc_recorded.specs.Compacting.{CompactingAnswers}
@@ -22,11 +22,11 @@ module _ {Disk : Type 0} (D : Ghosts Disk) where
   -- ---- without a compaction
 
   -- 34 comes only where a compaction makes no room
-  no_room : (before after_it : BookView Disk) (old new : Holder) (command : Command) → (IsMended before.library (change_of command) → ⊥) → CommitAnswers D.failures before old command after_it new (Err Full) → before.library.area < room_compacted before.library.units (change_of command)
+  no_room : (before after_it : BookView Disk) (old new : MemberView) (command : Command) → (IsMended before.library (change_of command) → ⊥) → CommitAnswers D.failures before old command after_it new (Err Full) → before.library.area < room_compacted before.library.units (change_of command)
   no_room before after_it old new command not answers =
       not_within (room_compacted before.library.units (change_of command)) before.library.area (λ fits. not ((answers.0.idle, answers.0.accepted), answers.1, fits))
 
-  pub commits_at_once : (before after_it : BookView Disk) (old new : Holder) (command : Command) (result : Result Receipt BookFault) → (IsMended before.library (change_of command) → ⊥)
+  pub commits_at_once : (before after_it : BookView Disk) (old new : MemberView) (command : Command) (result : Result Receipt BookFault) → (IsMended before.library (change_of command) → ⊥)
       → CommitAnswers D.failures before old command after_it new result → (IsTrue D.honest → ChangesDisk D (change_of command) before.library after_it.library result)
       → CompactingAnswers D before old command after_it new result
   commits_at_once before after_it old new command result not answers disk =
@@ -38,13 +38,13 @@ module _ {Disk : Type 0} (D : Ghosts Disk) where
   fits_behind : (before between : BookView Disk) (change : LibraryCommand) → IsMended before.library change → CompactAnswers {T = Unit {0}} D.failures before between (Ok tt) → room_with between.library change ≤ between.library.area
   fits_behind before between change mended (_, _, _, is) = subst (λ (b : BookView Disk). room_with b.library change ≤ b.library.area) (sym is) mended.2
 
-  not_full : (between after_it : BookView Disk) (old new : Holder) (command : Command) (result : Result Receipt BookFault) → room_with between.library (change_of command) ≤ between.library.area
+  not_full : (between after_it : BookView Disk) (old new : MemberView) (command : Command) (result : Result Receipt BookFault) → room_with between.library (change_of command) ≤ between.library.area
       → CommitAnswers D.failures between old command after_it new result → result ≢ Err Full
   not_full between after_it old new command result fits answers is =
       let full = subst (λ (r : Result Receipt BookFault). CommitAnswers D.failures between old command after_it new r) is answers in
       omega (arith, fits, full.1)
 
-  pub commits_behind : (before between after_it : BookView Disk) (old new : Holder) (command : Command) (result : Result Receipt BookFault) → IsMended before.library (change_of command) → LastStands before.history old.receipts
+  pub commits_behind : (before between after_it : BookView Disk) (old new : MemberView) (command : Command) (result : Result Receipt BookFault) → IsMended before.library (change_of command) → LastStands before.history old.receipts
       → CompactAnswers {T = Unit {0}} D.failures before between (Ok tt) → (IsTrue D.honest → CompactsDisk {T = Unit {0}} D before.library between.library (Ok tt))
       → CommitAnswers D.failures between old command after_it new result → (IsTrue D.honest → ChangesDisk D (change_of command) between.library after_it.library result)
       → CompactingAnswers D before old command after_it new result
@@ -60,7 +60,7 @@ module _ {Disk : Type 0} (D : Ghosts Disk) where
       })
 
   -- where it is refused
-  pub not_compacted : (before after_it : BookView Disk) (client : Holder) (command : Command) (fault : BookFault) → IsMended before.library (change_of command) → LastStands before.history client.receipts
+  pub not_compacted : (before after_it : BookView Disk) (client : MemberView) (command : Command) (fault : BookFault) → IsMended before.library (change_of command) → LastStands before.history client.receipts
       → CompactAnswers {T = Unit {0}} D.failures before after_it (Err fault) → (IsTrue D.honest → CompactsDisk {T = Unit {0}} D before.library after_it.library (Err fault))
       → CompactingAnswers D before client command after_it client (Err Full)
   not_compacted before after_it client command fault mended stands refused rewritten =

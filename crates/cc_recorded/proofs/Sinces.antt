@@ -11,7 +11,7 @@ use Rattle.cc_history.specs.declared.command.Asked.{Asked}
 use Rattle.cc_history.specs.declared.entry.Entry.{Entry}
 use Rattle.cc_history.specs.declared.entry.Receipt.{Receipt}
 use Rattle.cc_history.specs.Calls.{change_of}
-use Rattle.cc_history.specs.History.{Holder, Replays, units_after}
+use Rattle.cc_history.specs.History.{MemberView, Replays, units_after}
 use Rattle.cc_history.proofs.Histories.{snoc_cases}
 use Rattle.cc_recorded.specs.declared.fault.BookFault.{BookFault}
 use Rattle.cc_recorded.specs.declared.fault.BookFault.TheVariants.{Exists, Absent, Full, DiskFault, Closed, Estranged, OutOfMemory}
@@ -143,7 +143,7 @@ module _ {Disk : Type 0} (D : Ghosts Disk) where
   -- ---- each call
 
   module _ (before after_it : BookView Disk) (replays : Replays (chronicle_of before)) (replays_after : Replays (chronicle_of after_it)) (idle : before.library.closed ≡ false → before.failed ≡ []) where
-    pub commit_goes : (old new : Holder) (command : Command) (result : Result Receipt BookFault) → CommitAnswers D.failures before old command after_it new result
+    pub commit_goes : (old new : MemberView) (command : Command) (result : Result Receipt BookFault) → CommitAnswers D.failures before old command after_it new result
         → (before.library.closed ≡ false → LeavesOnly D.moment D.left_since before.library.disk after_it.library.disk (RecoversOneOf before.library.units (after before.library.units (change_of command))))
         → Goes before after_it
     commit_goes old new command (Ok receipt) answers leaves =
@@ -173,7 +173,7 @@ module _ {Disk : Type 0} (D : Ghosts Disk) where
           | inr new_map ↦ inr (c, failed, subst (λ (u : Units). RecoversAlone image (after u c)) (sym units) new_map)
         ])
 
-    pub look_goes : (old new : Holder) (asked : Asked) (result : Result Receipt BookFault) → LookAnswers before old asked after_it new result → Goes before after_it
+    pub look_goes : (old new : MemberView) (asked : Asked) (result : Result Receipt BookFault) → LookAnswers before old asked after_it new result → Goes before after_it
     look_goes old new asked (Ok receipt) (recorded, library, failed) = longer before after_it (receipt.entry ∷ []) recorded.base recorded.history library failed
     look_goes old new asked (Err (Estranged number found)) (_, stays, _) = same before after_it stays
     look_goes old new asked (Err OutOfMemory) (stays, _) = same before after_it stays

@@ -30,7 +30,7 @@ use Rattle.cc_history.specs.declared.entry.Receipt.{Receipt}
 use Rattle.cc_history.specs.Calls.{change_of, changes_of, reply_of}
 use Rattle.cc_history.specs.declared.command.Asked.{Asked}
 use Rattle.cc_history.specs.declared.entry.Entry.{Entry}
-use Rattle.cc_history.specs.History.{Holder, changes}
+use Rattle.cc_history.specs.History.{MemberView, changes}
 use Rattle.cc_history.proofs.Histories.{changes-push}
 use Rattle.cc_recorded.specs.declared.fault.BookFault.{BookFault}
 use Rattle.cc_recorded.specs.declared.fault.BookFault.TheVariants.{Exists, Absent, Full, DiskFault, Closed, Estranged, OutOfMemory}
@@ -189,7 +189,7 @@ module _ {Disk P : Type 0} (rules : Rules P) (keeps : P → Type 0) (D : Ghosts 
     disk = subst (λ (v : View Disk). ShowsDisk (honest_kind D) v s.core.store) (sym library) shows.disk;
   }
 
-  pub look_tied : (before after_it : BookView Disk) (old new : Holder) (asked : Asked) (result : Result Receipt BookFault) → IsLook asked → LookAnswers before old asked after_it new result → Tied before → Tied after_it
+  pub look_tied : (before after_it : BookView Disk) (old new : MemberView) (asked : Asked) (result : Result Receipt BookFault) → IsLook asked → LookAnswers before old asked after_it new result → Tied before → Tied after_it
   look_tied before after_it old new asked (Ok receipt) look (recorded, library, failed) tied =
       let same : changes after_it.history ≡ changes before.history =
       ap changes recorded.history ∙ changes-push before.history receipt.entry
@@ -289,7 +289,7 @@ module _ {Disk P : Type 0} (rules : Rules P) (keeps : P → Type 0) (law : TurnL
       goes_on before after_it tied base (ready_for.events ++ later) new (law.goes_on tied.now ready_for.new new ready_for.events later ready_for.run on.run) shows (tied.clients + 1)
       (λ k less. on.jobs k (ready_for.others k (λ is. absurd (omega (arith, less, is))) ∙ tied.fresh k (omega (arith, less)))) (on.workers 0 ready_for.idle)
 
-  base_same : (before after_it : BookView Disk) (old new : Holder) (command : Command) (result : Result Receipt BookFault) → CommitAnswers D.failures before old command after_it new result → after_it.base ≡ before.base
+  base_same : (before after_it : BookView Disk) (old new : MemberView) (command : Command) (result : Result Receipt BookFault) → CommitAnswers D.failures before old command after_it new result → after_it.base ≡ before.base
   base_same before after_it old new command (Ok receipt) answers = answers.0.recorded.base
   base_same before after_it old new command (Err (Exists receipt)) answers = answers.recorded.base
   base_same before after_it old new command (Err (Absent receipt)) answers = answers.recorded.base
@@ -300,7 +300,7 @@ module _ {Disk P : Type 0} (rules : Rules P) (keeps : P → Type 0) (law : TurnL
   base_same before after_it old new command (Err OutOfMemory) (_, same, _) = ap (λ (b : BookView Disk). b.base) same
 
   -- what the commit is for the core, it is for the tie
-  commit_on : (before after_it : BookView Disk) (old new : Holder) (command : Command) (result : Result Receipt BookFault) (tied : TiedSo before)
+  commit_on : (before after_it : BookView Disk) (old new : MemberView) (command : Command) (result : Result Receipt BookFault) (tied : TiedSo before)
       → CommitAnswers D.failures before old command after_it new result → (length (body_of (change_of command)) < 2 ^ 32 → IsCommand (change_of command)) → (ready_for : IsReadyFor before tied (change_of command)) → after_it.base ≡ before.base
       → IsCommitOf rules (ShownBy after_it) ready_for.new (next before tied) result → TiedSo after_it
   commit_on before after_it old new command (Ok receipt) tied answers can ready_for base made =
@@ -324,7 +324,7 @@ module _ {Disk P : Type 0} (rules : Rules P) (keeps : P → Type 0) (law : TurnL
   commit_on before after_it old new command (Err (Estranged number found)) tied (_, _, same, _) can ready_for base made = same_book rules keeps D before after_it tied same
   commit_on before after_it old new command (Err OutOfMemory) tied (_, same, _) can ready_for base made = same_book rules keeps D before after_it tied same
 
-  pub commit_tied : ((disk : Disk) → D.may_leave disk (D.seen disk)) → (before after_it : BookView Disk) (old new : Holder) (command : Command) (result : Result Receipt BookFault)
+  pub commit_tied : ((disk : Disk) → D.may_leave disk (D.seen disk)) → (before after_it : BookView Disk) (old new : MemberView) (command : Command) (result : Result Receipt BookFault)
       → CommitAnswers D.failures before old command after_it new result → ChangesDisk D (change_of command) before.library after_it.library result
       → (length (body_of (change_of command)) < 2 ^ 32 → IsCommand (change_of command)) → HasBuilt rules keeps (change_of command) → TiedSo before → TiedSo after_it
   commit_tied now before after_it old new command result answers disk can built tied =

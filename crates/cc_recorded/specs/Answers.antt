@@ -16,7 +16,7 @@ use Rattle.cc_history.specs.declared.standing.StandingFault.TheVariants as stand
 use Rattle.cc_history.specs.Calls.{change_of, reply_of}
 use Rattle.cc_library.specs.Compact.{compacted}
 use Rattle.cc_journal.specs.Format.{room_of}
-use Rattle.cc_history.specs.History.{AllStand, Holder, IsRecorded, LastStands}
+use Rattle.cc_history.specs.History.{AllStand, MemberView, IsRecorded, LastStands}
 use Rattle.cc_history.specs.declared.entry.Entry.{Entry}
 use Rattle.cc_history.specs.declared.standing.StandingFault.{StandingFault}
 use Rattle.cc_history.specs.Standing.{IsFirstAstray, IsStranger}
@@ -33,11 +33,11 @@ IsLook (Fetch name) = Unit {0}
 IsLook Names = Unit {0}
 
 -- why a service is not ended: no memory, or a receipt, the first, that does not stand, or that these are not all clients
-abbrev pub IsNotClosed : (history : List Entry) (made : ℕ) → List Holder → BookFault → Type 0
+abbrev pub IsNotClosed : (history : List Entry) (made : ℕ) → List MemberView → BookFault → Type 0
 IsNotClosed history made clients fault =
     (fault ≡ OutOfMemory)
-    ⊎ (((i : ℕ) × (client : Holder) × (why : StandingFault) × (slice_get clients i ≡ Some client) × (fault ≡ fault_of why)
-    × ((j : ℕ) (earlier : Holder) → j < i → slice_get clients j ≡ Some earlier → AllStand history earlier.receipts) × IsFirstAstray history client.receipts why)
+    ⊎ (((i : ℕ) × (client : MemberView) × (why : StandingFault) × (slice_get clients i ≡ Some client) × (fault ≡ fault_of why)
+    × ((j : ℕ) (earlier : MemberView) → j < i → slice_get clients j ≡ Some earlier → AllStand history earlier.receipts) × IsFirstAstray history client.receipts why)
     ⊎ ((fault ≡ Estranged (length history) None) × ((length clients ≢ made) ⊎ (¬ AreApart clients))))
 
 module _ {D : Type 0} where
@@ -49,13 +49,13 @@ module _ {D : Type 0} where
     pub failed : book.failed ≡ []
 
   -- the call reaches the library: the device has not failed, the client's last receipt stands, and the map accepts the command
-  pub record IsAsked (before : BookView D) (old : Holder) (command : Command) : Type 0 where
+  pub record IsAsked (before : BookView D) (old : MemberView) (command : Command) : Type 0 where
     pub idle : before.library.closed ≡ false
     pub stands : LastStands before.history old.receipts
     pub accepted : IsOk (apply before.library.units (change_of command))
 
   -- the map refuses the command: the call is in the history with that reply, and nothing else changes
-  pub record IsRefused (before : BookView D) (old : Holder) (command : Command) (answer : Reply) (after : BookView D) (new : Holder) (receipt : Receipt) : Type 0 where
+  pub record IsRefused (before : BookView D) (old : MemberView) (command : Command) (answer : Reply) (after : BookView D) (new : MemberView) (receipt : Receipt) : Type 0 where
     pub idle : before.library.closed ≡ false
     pub recorded : IsRecorded (chronicle_of before) old (Change command) answer (chronicle_of after) new receipt
     pub library : after.library ≡ before.library
@@ -67,7 +67,7 @@ module _ {D : Type 0} where
       record { disk = disk; area = library.area; bodies = library.bodies ++ body_of (change_of command) ∷ []; units = after library.units (change_of command); closed = false }
 
   -- the command is done: the call is in the history so, and the library has its record
-  pub record IsDone (before : BookView D) (old : Holder) (command : Command) (after : BookView D) (new : Holder) (receipt : Receipt) : Type 0 where
+  pub record IsDone (before : BookView D) (old : MemberView) (command : Command) (after : BookView D) (new : MemberView) (receipt : Receipt) : Type 0 where
     pub asked : IsAsked before old command
     pub fits : room_with before.library (change_of command) ≤ before.library.area
     pub recorded : IsRecorded (chronicle_of before) old (Change command) reply.Done (chronicle_of after) new receipt
@@ -79,7 +79,7 @@ module _ {D : Type 0} where
   failed_in before command disk = record before { library = record before.library { disk = disk; closed = true }; failed = change_of command ∷ [] }
 
   -- the answer to a commit, and what it leaves. The failures are those that the disk has counted
-  abbrev pub CommitAnswers : (failures : D → ℕ) (before : BookView D) (old : Holder) → Command → (after : BookView D) (new : Holder) → Result Receipt BookFault → Type 0
+  abbrev pub CommitAnswers : (failures : D → ℕ) (before : BookView D) (old : MemberView) → Command → (after : BookView D) (new : MemberView) → Result Receipt BookFault → Type 0
   CommitAnswers failures before old command after new (Ok receipt) =
       IsDone before old command after new receipt × (failures after.library.disk ≡ failures before.library.disk)
   CommitAnswers failures before old command after new (Err (Exists receipt)) = IsRefused before old command reply.Exists after new receipt
@@ -96,7 +96,7 @@ module _ {D : Type 0} where
 
   -- the answer to a look, and what it leaves: the call is in the history with the reply that one thread gets there, and nothing else
   -- changes; 39 exactly where the client's last receipt does not stand. No other fault comes
-  abbrev pub LookAnswers : (before : BookView D) (old : Holder) → Asked → (after : BookView D) (new : Holder) → Result Receipt BookFault → Type 0
+  abbrev pub LookAnswers : (before : BookView D) (old : MemberView) → Asked → (after : BookView D) (new : MemberView) → Result Receipt BookFault → Type 0
   LookAnswers before old asked after new (Ok receipt) =
       IsRecorded (chronicle_of before) old asked (reply_of before.library.units asked) (chronicle_of after) new receipt
       × (after.library ≡ before.library) × (after.failed ≡ before.failed)

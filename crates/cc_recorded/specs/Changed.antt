@@ -7,7 +7,7 @@ use Rattle.cc_library.specs.Recovered.{RecoversAlone, RecoversOneOf}
 use Rattle.cc_history.specs.declared.command.Command.{Command}
 use Rattle.cc_history.specs.declared.entry.Receipt.{Receipt}
 use Rattle.cc_history.specs.Calls.{change_of}
-use Rattle.cc_history.specs.History.{Holder}
+use Rattle.cc_history.specs.History.{MemberView}
 use Rattle.cc_recorded.specs.Answers.{CommitAnswers, CompactAnswers}
 use Rattle.cc_recorded.specs.Book.{BookView, RecoversTo}
 use Rattle.cc_recorded.specs.Disk.{ChangesDisk, CompactsDisk}
@@ -24,7 +24,7 @@ module _ {Disk : Type 0} (D : Ghosts Disk) where
       → LeavesOnly D.moment D.left_since before.library.disk after.library.disk (RecoversOneOf before.library.units (library.after before.library.units (change_of command)))
 
   -- a change
-  pub record IsBookChanged (before : BookView Disk) (old : Holder) (command : Command) (after : BookView Disk) (new : Holder) (result : Result Receipt BookFault) : Type 0 where
+  pub record IsBookChanged (before : BookView Disk) (old : MemberView) (command : Command) (after : BookView Disk) (new : MemberView) (result : Result Receipt BookFault) : Type 0 where
     pub answers : CommitAnswers D.failures before old command after new result
     -- what becomes of the disk's bytes
     pub disk : IsTrue D.honest → ChangesDisk D (change_of command) before.library after.library result

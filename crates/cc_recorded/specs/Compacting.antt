@@ -7,7 +7,7 @@ use Rattle.cc_library.specs.Compact.{room_compacted}
 use Rattle.cc_history.specs.declared.command.Command.{Command}
 use Rattle.cc_history.specs.declared.entry.Receipt.{Receipt}
 use Rattle.cc_history.specs.Calls.{change_of}
-use Rattle.cc_history.specs.History.{Holder, LastStands}
+use Rattle.cc_history.specs.History.{MemberView, LastStands}
 use Rattle.cc_recorded.specs.Answers.{CommitAnswers, CompactAnswers}
 use Rattle.cc_recorded.specs.Book.{BookView}
 use Rattle.cc_recorded.specs.Disk.{ChangesDisk, CompactsDisk}
@@ -17,14 +17,14 @@ use Rattle.cc_recorded.specs.declared.fault.BookFault.TheVariants.{Full}
 module _ {Disk : Type 0} (D : Ghosts Disk) where
   -- What comes behind a compaction: the commit, on the book that the compaction leaves, and 34 is not its answer. Where the compaction was
   -- refused nothing comes, and 34 is the answer.
-  abbrev pub CommitsBehind : Command → (between : BookView Disk) (old : Holder) (after : BookView Disk) (new : Holder) → Result (Unit {0}) BookFault → Result Receipt BookFault → Type 0
+  abbrev pub CommitsBehind : Command → (between : BookView Disk) (old : MemberView) (after : BookView Disk) (new : MemberView) → Result (Unit {0}) BookFault → Result Receipt BookFault → Type 0
   CommitsBehind command between old after new (Ok done) result =
       CommitAnswers D.failures between old command after new result × (result ≢ Err Full)
       × (IsTrue D.honest → ChangesDisk D (change_of command) between.library after.library result)
   CommitsBehind command between old after new (Err fault) result = (result ≡ Err Full) × (after ≡ between) × (new ≡ old)
 
   -- 34 would refuse the change, and would not behind a compaction: so the library is compacted, which makes no entry and leaves the map.
-  pub record IsCompactedFor (before : BookView Disk) (old : Holder) (command : Command) (after : BookView Disk) (new : Holder) (result : Result Receipt BookFault) : Type 0 where
+  pub record IsCompactedFor (before : BookView Disk) (old : MemberView) (command : Command) (after : BookView Disk) (new : MemberView) (result : Result Receipt BookFault) : Type 0 where
     pub mended : IsMended before.library (change_of command)
     pub stands : LastStands before.history old.receipts
     pub compacted : Result (Unit {0}) BookFault
@@ -34,7 +34,7 @@ module _ {Disk : Type 0} (D : Ghosts Disk) where
     pub commits : CommitsBehind command between old after new compacted result
 
   -- the answer: as a commit has it, and 34 only where a compaction would make no room; or a compaction comes first
-  abbrev pub CompactingAnswers : (before : BookView Disk) (old : Holder) → Command → (after : BookView Disk) (new : Holder) → Result Receipt BookFault → Type 0
+  abbrev pub CompactingAnswers : (before : BookView Disk) (old : MemberView) → Command → (after : BookView Disk) (new : MemberView) → Result Receipt BookFault → Type 0
   CompactingAnswers before old command after new result =
       (CommitAnswers D.failures before old command after new result
       × (result ≡ Err Full → before.library.area < room_compacted before.library.units (change_of command))

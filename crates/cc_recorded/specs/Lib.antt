@@ -2,7 +2,7 @@
 -- the numbers of the faults
 pub mod Fault
 -- what the type of a member keeps
-pub mod Client
+pub mod Member
 -- what contracts see of a book, and what the type of a library with its history keeps
 pub mod Book
 -- when a call has which answer, and what it leaves

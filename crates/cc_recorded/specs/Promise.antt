@@ -9,7 +9,7 @@ use Rattle.cc_core.specs.Run.{EachUnit, IsRightOr, Survives}
 use Rattle.cc_core.specs.Step.{commands}
 use Rattle.cc_headline.specs.Compiling.{compiling, Keeps, is_right}
 use Rattle.cc_history.specs.Closing.{AreOwn, IsClosed, IsNotWhole}
-use Rattle.cc_history.specs.History.{EachAgrees, Holder, IsLegal, changes, units_after}
+use Rattle.cc_history.specs.History.{EachAgrees, MemberView, IsLegal, changes, units_after}
 use Rattle.cc_recorded.specs.Book.{AllAgreed, BookView, RecoversTo}
 use Rattle.cc_recorded.specs.Since.{AreSince, BookSince, HoldsFrom, IsSinceOpening}
 use Rattle.cc_recorded.specs.Tie.{IsTied}
@@ -58,7 +58,7 @@ pub record IsSound {Disk : Type 0} (D : Ghosts Disk) (base : Units) (from : ℕ)
 -- What is left of a service that was given up with these clients: its book lay on this disk, and each has receipts of its own calls, in their
 -- order. Where it is said that these are all its clients, every receipt of theirs stands in its history, and every entry has one; where it is
 -- said that they are not, this shows why.
-pub record IsGivenUp {Disk : Type 0} (D : Ghosts Disk) (base : Units) (from : ℕ) (left : List ℕ → Type 0) (clients : List Holder) (are_all : Bool) (disk : Disk) : Type 0 where
+pub record IsGivenUp {Disk : Type 0} (D : Ghosts Disk) (base : Units) (from : ℕ) (left : List ℕ → Type 0) (clients : List MemberView) (are_all : Bool) (disk : Disk) : Type 0 where
   pub book : BookView Disk
   pub disk_is : book.library.disk ≡ disk
   pub sound : IsSound D base from left book

@@ -274,9 +274,9 @@ impl<N: Based, D: Disk> Book<N, D> {
     /// were made; 40 where memory ran out.
     pub fn ready<C: HasReceipts>(&self, made: u64, clients: &[C]) -> Result<(), BookFault>
         ensures many { OnOk result (length clients.now ≡ made) }
-        ensures apart { OnOk result (AreApart (map C.holder clients.now)) }
-        ensures stand { OnOk result (ReceiptsStand self.now.book.history (map C.holder clients.now)) }
-        ensures err { IfErr result (λ f. IsNotClosed self.now.book.history made (map C.holder clients.now) f) }
+        ensures apart { OnOk result (AreApart (map C.member clients.now)) }
+        ensures stand { OnOk result (ReceiptsStand self.now.book.history (map C.member clients.now)) }
+        ensures err { IfErr result (λ f. IsNotClosed self.now.book.history made (map C.member clients.now) f) }
     {
         self.recorded.ready(made, clients)
     }
@@ -297,7 +297,7 @@ impl<N: Based, D: Disk> Book<N, D> {
 
     /// The disk, and whether these are all clients of its history. It takes no memory.
     pub fn give_up<C: HasReceipts>(self, clients: &[C]) -> (D, bool)
-        ensures { IsGivenUp D.Disk N.base N.from N.left (map C.holder clients.now) result.1 result.0 }
+        ensures { IsGivenUp D.Disk N.base N.from N.left (map C.member clients.now) result.1 result.0 }
     {
         self.survives();
         let are_all = self.recorded.is_whole(clients);

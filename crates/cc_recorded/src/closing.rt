@@ -14,7 +14,7 @@ use cc_history::{SharedEntry, all_stand, receipts_count_up};
 
 // Whether no two clients have one number.
 fn are_apart<C: HasReceipts>(clients: &[C]) -> bool
-    ensures { IsTrue result ↔ HaveOwnNumbers C.holder clients.now }
+    ensures { IsTrue result ↔ HaveOwnNumbers C.member clients.now }
 {
     for i in 0..clients.len() {
         for j in 0..i {
@@ -28,9 +28,9 @@ fn are_apart<C: HasReceipts>(clients: &[C]) -> bool
 
 // That all receipts of all these clients stand.
 fn stand_in<C: HasReceipts>(history: &[SharedEntry], clients: &[C]) -> Result<(), BookFault>
-    ensures stand { OnOk result (ReceiptsStand history.now (map C.holder clients.now)) }
-    ensures err { IfErr result (λ f. (made : ℕ) → IsNotClosed history.now made (map C.holder clients.now) f) }
-    ensures astray { OnErr result (SomeoneAstray history.now (map C.holder clients.now)) }
+    ensures stand { OnOk result (ReceiptsStand history.now (map C.member clients.now)) }
+    ensures err { IfErr result (λ f. (made : ℕ) → IsNotClosed history.now made (map C.member clients.now) f) }
+    ensures astray { OnErr result (SomeoneAstray history.now (map C.member clients.now)) }
 {
     for client in clients {
         match all_stand(history, client.receipts()) {
@@ -43,9 +43,9 @@ fn stand_in<C: HasReceipts>(history: &[SharedEntry], clients: &[C]) -> Result<()
 
 // How many receipts all these clients have.
 fn count_receipts<C: HasReceipts>(clients: &[C]) -> u128
-    ensures count { result ≡ receipts_of (map C.holder clients.now) }
+    ensures count { result ≡ receipts_of (map C.member clients.now) }
     // The receipts of each are of its own calls.
-    ensures own { AreOwn (map C.holder clients.now) }
+    ensures own { AreOwn (map C.member clients.now) }
 {
     let mut count = 0;
     for client in clients {
@@ -57,9 +57,9 @@ fn count_receipts<C: HasReceipts>(clients: &[C]) -> u128
 impl<N: Based, D: Disk> RecordedLibrary<N, D> {
     // That all receipts of all these clients stand.
     fn stands<C: HasReceipts>(&self, clients: &[C]) -> Result<(), BookFault>
-        ensures stand { OnOk result (ReceiptsStand self.now.history (map C.holder clients.now)) }
-        ensures err { IfErr result (λ f. (made : ℕ) → IsNotClosed self.now.history made (map C.holder clients.now) f) }
-        ensures astray { OnErr result (SomeoneAstray self.now.history (map C.holder clients.now)) }
+        ensures stand { OnOk result (ReceiptsStand self.now.history (map C.member clients.now)) }
+        ensures err { IfErr result (λ f. (made : ℕ) → IsNotClosed self.now.history made (map C.member clients.now) f) }
+        ensures astray { OnErr result (SomeoneAstray self.now.history (map C.member clients.now)) }
     {
         stand_in(self.history.as_slice(), clients)
     }
@@ -74,9 +74,9 @@ impl<N: Based, D: Disk> RecordedLibrary<N, D> {
     // That it can be ended with these clients, as many as were made: these are all, and their receipts stand.
     pub(crate) fn ready<C: HasReceipts>(&self, made: u64, clients: &[C]) -> Result<(), BookFault>
         ensures many { OnOk result (length clients.now ≡ made) }
-        ensures apart { OnOk result (AreApart (map C.holder clients.now)) }
-        ensures stand { OnOk result (ReceiptsStand self.now.history (map C.holder clients.now)) }
-        ensures err { IfErr result (λ f. IsNotClosed self.now.history made (map C.holder clients.now) f) }
+        ensures apart { OnOk result (AreApart (map C.member clients.now)) }
+        ensures stand { OnOk result (ReceiptsStand self.now.history (map C.member clients.now)) }
+        ensures err { IfErr result (λ f. IsNotClosed self.now.history made (map C.member clients.now) f) }
     {
         match self.stands(clients) {
             Ok(()) => {}
@@ -94,9 +94,9 @@ impl<N: Based, D: Disk> RecordedLibrary<N, D> {
     // Whether these are all clients of its history: all their receipts stand, no two have one number, and the receipts are as many as the
     // entries.
     pub(crate) fn is_whole<C: HasReceipts>(&self, clients: &[C]) -> bool
-        ensures own { AreOwn (map C.holder clients.now) }
-        ensures closed { IsTrue result → IsClosed self.now.history (map C.holder clients.now) }
-        ensures why { result ≡ false → IsNotWhole self.now.history (map C.holder clients.now) }
+        ensures own { AreOwn (map C.member clients.now) }
+        ensures closed { IsTrue result → IsClosed self.now.history (map C.member clients.now) }
+        ensures why { result ≡ false → IsNotWhole self.now.history (map C.member clients.now) }
     {
         receipts_count_up();
         let receipts = count_receipts(clients);

@@ -10,7 +10,7 @@ ghost use Rattle.cc_core.specs.declared.ids.ClientId.{ClientId};
 ghost use Rattle.cc_history.specs.declared.command.Command.{Command};
 ghost use Rattle.cc_history.specs.declared.entry.Receipt.{Receipt};
 ghost use Rattle.cc_history.specs.Calls.{change_of};
-ghost use Rattle.cc_history.specs.History.{Holder};
+ghost use Rattle.cc_history.specs.History.{MemberView};
 ghost use Rattle.cc_recorded.specs.declared.fault.BookFault.{BookFault};
 ghost use Rattle.cc_recorded.specs.Book.{BookView};
 ghost use Rattle.cc_recorded.specs.Answers.{CommitAnswers, CompactAnswers};
@@ -26,7 +26,7 @@ use cc_disk::Disk;
 /// Whatever state of the core a book shows: a commit with its answer is, for a client that has a job with that command, Begin to
 /// Ack, or to a refusal or Fail; and the book afterwards shows the state that is reached.
 pub fn commits_are_steps<D: Disk, B: Build>()
-    ensures { (before after : BookView D) (old new : Holder) (command : Command) (result : Result Receipt BookFault) (s : Contents B.Piece) (client : ClientId)
+    ensures { (before after : BookView D) (old new : MemberView) (command : Command) (result : Result Receipt BookFault) (s : Contents B.Piece) (client : ClientId)
         → CommitAnswers D.failures before old command after new result
         → (IsTrue D.honest → ChangesDisk D.Disk (change_of command) before.library after.library result)
         → Shows D.Disk before s → Has B.rules s client (change_of command)

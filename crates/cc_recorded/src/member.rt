@@ -11,19 +11,19 @@ use std::sync::ledger::Share;
 
 /// Whoever has a number, and the receipts of its calls: a member, or what holds one.
 pub trait HasReceipts {
-    ghost use Rattle.cc_history.specs.History.{Holder};
+    ghost use Rattle.cc_history.specs.History.{MemberView};
 
     /// Its number with its receipts.
-    ghost holder: { Self → Holder };
+    ghost member: { Self → MemberView };
 
     /// Its number.
     fn number(&self) -> u64
-        ensures { result ≡ (holder self.now).number };
+        ensures { result ≡ (member self.now).number };
 
     /// The receipts so far, which are of its own calls, in their order. It takes no memory.
     fn receipts(&self) -> &[Receipt]
-        ensures answer { result.now ≡ (holder self.now).receipts }
-        ensures own { IsOwn (holder self.now) };
+        ensures answer { result.now ≡ (member self.now).receipts }
+        ensures own { IsOwn (member self.now) };
 }
 
 /// What the book knows of a client: its number, the receipts of its calls, and its share of the ledger, which counts them. A clause
@@ -46,14 +46,14 @@ impl<N: Based> Drop for Member<N> {
 }
 
 impl<N: Based> Model for Member<N> {
-    ghost use Rattle.cc_history.specs.History.{Holder};
-    ghost use Rattle.cc_recorded.specs.Client.{IsClient};
+    ghost use Rattle.cc_history.specs.History.{MemberView};
+    ghost use Rattle.cc_recorded.specs.Member.{IsMember};
 
-    ghost Value = { Holder };
+    ghost Value = { MemberView };
 
     ghost view = { λ c. record { number = c.number; receipts = c.receipts.items } };
 
-    ghost invariant = { λ c. IsClient (record { number = c.number; receipts = c.receipts.items }) c.share.parts c.share.amount };
+    ghost invariant = { λ c. IsMember (record { number = c.number; receipts = c.receipts.items }) c.share.parts c.share.amount };
 }
 
 impl<N: Based> Member<N> {
@@ -88,7 +88,7 @@ impl<N: Based> Member<N> {
 }
 
 impl<N: Based> HasReceipts for Member<N> {
-    ghost holder = { λ m. m };
+    ghost member = { λ m. m };
 
     fn number(&self) -> u64 {
         self.number

@@ -13,7 +13,7 @@ use Rattle.cc_history.specs.declared.entry.Entry.{Entry}
 use Rattle.cc_history.specs.declared.entry.Receipt.{Receipt}
 use Rattle.cc_history.specs.declared.reply.Reply.{Reply}
 use Rattle.cc_history.specs.declared.reply.Reply.TheVariants as reply
-use Rattle.cc_history.specs.History.{Chronicle, Holder, IsAnswered, IsRecorded}
+use Rattle.cc_history.specs.History.{Chronicle, MemberView, IsAnswered, IsRecorded}
 use Rattle.cc_recorded.specs.Answers.{CommitAnswers, LookAnswers}
 use Rattle.cc_recorded.specs.Book.{BookView, chronicle_of}
 use Rattle.cc_service.specs.Compiling.{IsCompileRefusal, IsProgram}
@@ -26,14 +26,14 @@ use Rattle.cc_service.specs.declared.fault.ServiceFault.TheVariants.{Opening, To
 
 -- ---- what the book answers to a look
 
-seen : (before : Chronicle) (old : Holder) (asked : Asked) (after : Chronicle) (new : Holder) (receipt : Receipt)
+seen : (before : Chronicle) (old : MemberView) (asked : Asked) (after : Chronicle) (new : MemberView) (receipt : Receipt)
     → IsRecorded before old asked (reply_of before.units asked) after new receipt → IsSeen asked old new receipt
 seen before old asked after new receipt look =
     let is : receipt.entry.reply ≡ reply_of before.units asked = ap (λ (e : Entry). e.reply) look.answered.entry in
     record { units = before.units; replied = is; answered = subst (λ (r : Reply). IsAnswered old asked r new receipt) (sym is) look.answered }
 
 module _ {D : Type 0} where
-  pub seen_where_ok : (before : BookView D) (old : Holder) (asked : Asked) (after : BookView D) (new : Holder) (result : Result Receipt BookFault)
+  pub seen_where_ok : (before : BookView D) (old : MemberView) (asked : Asked) (after : BookView D) (new : MemberView) (result : Result Receipt BookFault)
       → LookAnswers before old asked after new result → IfOk result (λ receipt. IsSeen asked old new receipt)
   seen_where_ok before old asked after new (Ok receipt) look = seen (chronicle_of before) old asked (chronicle_of after) new receipt look.0
   seen_where_ok before old asked after new (Err fault) look = tt
@@ -59,7 +59,7 @@ absent_is units (commands.Add name unit) is = absurd (there (contains_key units 
 absent_is units (commands.Replace name unit) is = refl
 absent_is units (commands.Withdraw name) is = refl
 
-module _ {D : Type 0} (failures : D → ℕ) (before : BookView D) (old : Holder) (command : Command) (after : BookView D) (new : Holder) where
+module _ {D : Type 0} (failures : D → ℕ) (before : BookView D) (old : MemberView) (command : Command) (after : BookView D) (new : MemberView) where
   pub entered_where_ok : (result : Result Receipt BookFault) → CommitAnswers failures before old command after new result → IfOk result (λ receipt. IsEntered (λ c. c ≡ command) old reply.Done new receipt)
   entered_where_ok (Ok receipt) answers = record { command = command; asked = refl; answered = answers.0.recorded.answered }
   entered_where_ok (Err fault) answers = tt
@@ -78,7 +78,7 @@ module _ {D : Type 0} (failures : D → ℕ) (before : BookView D) (old : Holder
 -- ---- what the service answers
 
 -- of a change that is this one, where the call asks for it
-module _ (Asks : Command → Type 0) (command : Command) (asked : Asks command) (old new : Holder) where
+module _ (Asks : Command → Type 0) (command : Command) (asked : Asks command) (old new : MemberView) where
   entered_as : (answer : Reply) (receipt : Receipt) → IsEntered (λ c. c ≡ command) old answer new receipt → IsEntered Asks old answer new receipt
   entered_as answer receipt e = record { command = command; asked = asked; answered = subst (λ (c : Command). IsAnswered old (Change c) answer new receipt) e.asked e.answered }
 
@@ -112,7 +112,7 @@ module _ (Asks : Command → Type 0) (command : Command) (asked : Asks command) 
   put name source named program (Err OutOfMemory) none = absurd none
 
 -- of a text that was not compiled
-pub not_put : (Asks : Command → Type 0) (name source : List ℕ) (old new : Holder) → IsTrue (is_name name) → new ≡ old → (fault : ServiceFault) → IsCompileRefusal source fault → PutAnswers Asks name source old new (Err fault)
+pub not_put : (Asks : Command → Type 0) (name source : List ℕ) (old new : MemberView) → IsTrue (is_name name) → new ≡ old → (fault : ServiceFault) → IsCompileRefusal source fault → PutAnswers Asks name source old new (Err fault)
 not_put Asks name source old new named same (Text f) e = (named, e, same)
 not_put Asks name source old new named same (Piece function f) e = (named, e, same)
 not_put Asks name source old new named same WorkersGone e = (named, e, same)

@@ -4,7 +4,7 @@ use Rattle.cc_disk.specs.declared.disk.Disk.{Ghosts}
 use Rattle.cc_history.specs.declared.command.Command.{Command}
 use Rattle.cc_history.specs.declared.entry.Receipt.{Receipt}
 use Rattle.cc_history.specs.declared.reply.Reply.TheVariants as reply
-use Rattle.cc_history.specs.History.{Holder}
+use Rattle.cc_history.specs.History.{MemberView}
 use Rattle.cc_recorded.specs.Book.{BookView}
 use Rattle.cc_recorded.specs.Compacting.{CommitsBehind, CompactingAnswers}
 use Rattle.cc_recorded.specs.declared.fault.BookFault.{BookFault}
@@ -12,7 +12,7 @@ use Rattle.cc_service.specs.Serving.{IsEntered, IsTurnedDown}
 use Rattle.cc_service.proofs.Answering.{entered_where_ok, turned_down_where_err}
 
 module _ {Disk : Type 0} (D : Ghosts Disk) where
-  pub compacting_entered : (before after_it : BookView Disk) (old new : Holder) (command : Command) (result : Result Receipt BookFault) → CompactingAnswers D before old command after_it new result
+  pub compacting_entered : (before after_it : BookView Disk) (old new : MemberView) (command : Command) (result : Result Receipt BookFault) → CompactingAnswers D before old command after_it new result
       → IfOk result (λ receipt. IsEntered (λ c. c ≡ command) old reply.Done new receipt)
   compacting_entered before after_it old new command result answers =
       elim answers [ inl once ↦ entered_where_ok D.failures before old command after_it new result once.0 | inr twice ↦ behind twice.between twice.compacted twice.commits ]
@@ -21,7 +21,7 @@ module _ {Disk : Type 0} (D : Ghosts Disk) where
       behind between (Ok done) commits = entered_where_ok D.failures between old command after_it new result commits.0
       behind between (Err fault) commits = subst (λ (r : Result Receipt BookFault). IfOk r (λ receipt. IsEntered (λ c. c ≡ command) old reply.Done new receipt)) (sym commits.0) tt
 
-  pub compacting_turned_down : (before after_it : BookView Disk) (old new : Holder) (command : Command) (result : Result Receipt BookFault) → CompactingAnswers D before old command after_it new result
+  pub compacting_turned_down : (before after_it : BookView Disk) (old new : MemberView) (command : Command) (result : Result Receipt BookFault) → CompactingAnswers D before old command after_it new result
       → IfErr result (λ fault. IsTurnedDown (λ c. c ≡ command) old new fault)
   compacting_turned_down before after_it old new command result answers =
       elim answers [ inl once ↦ turned_down_where_err D.failures before old command after_it new result once.0 | inr twice ↦ behind twice.between twice.compacted twice.commits ]

@@ -14,7 +14,7 @@ use Rattle.cc_history.specs.declared.entry.Entry.{Entry}
 use Rattle.cc_history.specs.declared.entry.Receipt.{Receipt}
 use Rattle.cc_history.specs.declared.reply.Reply.{Reply}
 use Rattle.cc_history.specs.declared.reply.Reply.TheVariants as reply
-use Rattle.cc_history.specs.History.{Holder, IsAnswered, IsLegal}
+use Rattle.cc_history.specs.History.{MemberView, IsAnswered, IsLegal}
 use Rattle.cc_recorded.specs.Answers.{IsNotClosed}
 use Rattle.cc_service.specs.Compiling.{IsCompileRefusal, IsProgram}
 use Rattle.cc_recorded.specs.declared.fault.BookFault.{BookFault}
@@ -59,20 +59,20 @@ refusal_of (Withdraw n) = reply.Absent
 -- ---- what is answered
 
 -- one of these changes was asked and answered so, and the receipt is the client's last
-pub record IsEntered (Asks : Command → Type 0) (old : Holder) (answer : Reply) (new : Holder) (receipt : Receipt) : Type 0 where
+pub record IsEntered (Asks : Command → Type 0) (old : MemberView) (answer : Reply) (new : MemberView) (receipt : Receipt) : Type 0 where
   pub command : Command
   pub asked : Asks command
   pub answered : IsAnswered old (Change command) answer new receipt
 
 -- the number is that of the client's last receipt, and what was found there is not its entry
-pub record IsOfAnother (old : Holder) (number : ℕ) (found : Option Entry) : Type 0 where
+pub record IsOfAnother (old : MemberView) (number : ℕ) (found : Option Entry) : Type 0 where
   pub last : Receipt
   pub is_last : slice_get old.receipts (length old.receipts - 1) ≡ Some last
   pub number_is : number ≡ last.number
   pub found_is : found ≢ Some last.entry
 
 -- how the book refuses a change: 31 and 32 with a receipt, which is the client's last; every other refusal leaves it as it was
-abbrev pub IsTurnedDown : (Asks : Command → Type 0) (old new : Holder) → BookFault → Type 0
+abbrev pub IsTurnedDown : (Asks : Command → Type 0) (old new : MemberView) → BookFault → Type 0
 IsTurnedDown Asks old new (book.Exists receipt) = IsEntered (λ c. Asks c × (refusal_of c ≡ reply.Exists)) old reply.Exists new receipt
 IsTurnedDown Asks old new (book.Absent receipt) = IsEntered (λ c. Asks c × (refusal_of c ≡ reply.Absent)) old reply.Absent new receipt
 IsTurnedDown Asks old new (book.Estranged number found) = IsOfAnother old number found × (new ≡ old)
@@ -83,7 +83,7 @@ IsTurnedDown Asks old new book.OutOfMemory = new ≡ old
 
 -- The answer to `add` or `replace`: 33 exactly where the bytes are no name; then, of a name, why the text is not compiled; then, of a
 -- program, what the book answers.
-abbrev pub PutAnswers : (Asks : Command → Type 0) (name source : List ℕ) (old new : Holder) → Result Receipt ServiceFault → Type 0
+abbrev pub PutAnswers : (Asks : Command → Type 0) (name source : List ℕ) (old new : MemberView) → Result Receipt ServiceFault → Type 0
 PutAnswers Asks name source old new (Ok receipt) = IsTrue (is_name name) × IsProgram source × IsEntered Asks old reply.Done new receipt
 PutAnswers Asks name source old new (Err BadName) = (¬ IsTrue (is_name name)) × (new ≡ old)
 PutAnswers Asks name source old new (Err (Text f)) = IsTrue (is_name name) × IsCompileRefusal source (Text f) × (new ≡ old)
@@ -95,20 +95,20 @@ PutAnswers Asks name source old new (Err (Book f)) = IsTrue (is_name name) × Is
 PutAnswers Asks name source old new (Err _) = ⊥
 
 -- the answer to `withdraw`: 33 exactly where the bytes are no name; else what the book answers
-abbrev pub WithdrawAnswers : (name : List ℕ) (old new : Holder) → Result Receipt ServiceFault → Type 0
+abbrev pub WithdrawAnswers : (name : List ℕ) (old new : MemberView) → Result Receipt ServiceFault → Type 0
 WithdrawAnswers name old new (Ok receipt) = IsTrue (is_name name) × IsEntered (Withdraws name) old reply.Done new receipt
 WithdrawAnswers name old new (Err BadName) = (¬ IsTrue (is_name name)) × (new ≡ old)
 WithdrawAnswers name old new (Err (Book f)) = IsTrue (is_name name) × IsTurnedDown (Withdraws name) old new f
 WithdrawAnswers name old new (Err _) = ⊥
 
 -- how a look is refused: 39 or 40, and the client is as it was
-abbrev pub IsTurnedAway : (old new : Holder) → BookFault → Type 0
+abbrev pub IsTurnedAway : (old new : MemberView) → BookFault → Type 0
 IsTurnedAway old new (book.Estranged number found) = IsOfAnother old number found × (new ≡ old)
 IsTurnedAway old new book.OutOfMemory = new ≡ old
 IsTurnedAway old new _ = ⊥
 
 -- so is `get`, and by 32, with a receipt, where the name has no unit
-abbrev pub IsNotFound : (name : List ℕ) (old new : Holder) → BookFault → Type 0
+abbrev pub IsNotFound : (name : List ℕ) (old new : MemberView) → BookFault → Type 0
 IsNotFound name old new (book.Absent receipt) = IsAnswered old (Fetch name) reply.Absent new receipt
 IsNotFound name old new (book.Estranged number found) = IsTurnedAway old new (book.Estranged number found)
 IsNotFound name old new book.OutOfMemory = IsTurnedAway old new book.OutOfMemory
@@ -122,14 +122,14 @@ abbrev pub HasNames : Entry → Type 0
 HasNames entry = (names : List (List ℕ)) × (entry.reply ≡ reply.Names names)
 
 -- the answer to `get`: 33 exactly where the bytes are no name
-abbrev pub GetAnswers : (name : List ℕ) (old new : Holder) → Result Receipt ServiceFault → Type 0
+abbrev pub GetAnswers : (name : List ℕ) (old new : MemberView) → Result Receipt ServiceFault → Type 0
 GetAnswers name old new (Ok receipt) = IsTrue (is_name name) × HasUnit receipt.entry × IsAnswered old (Fetch name) receipt.entry.reply new receipt
 GetAnswers name old new (Err BadName) = (¬ IsTrue (is_name name)) × (new ≡ old)
 GetAnswers name old new (Err (Book f)) = IsTrue (is_name name) × IsNotFound name old new f
 GetAnswers name old new (Err _) = ⊥
 
 -- the answer to `list`
-abbrev pub ListAnswers : (old new : Holder) → Result Receipt ServiceFault → Type 0
+abbrev pub ListAnswers : (old new : MemberView) → Result Receipt ServiceFault → Type 0
 ListAnswers old new (Ok receipt) = HasNames receipt.entry × IsAnswered old Names receipt.entry.reply new receipt
 ListAnswers old new (Err (Book f)) = IsTurnedAway old new f
 ListAnswers old new (Err _) = ⊥
@@ -154,7 +154,7 @@ IsNotOpened honest seen base before after _ = ⊥
 
 -- Why a service is not ended: 40; or 39, and there is a history, legal from the map that the service began with, by which a receipt of these
 -- clients does not stand, the first, with what stands there in place of it; or they are not all that were made.
-pub record IsNotEnded (honest : Bool) (base : Units) (clients : List Holder) (fault : ServiceFault) : Type 0 where
+pub record IsNotEnded (honest : Bool) (base : Units) (clients : List MemberView) (fault : ServiceFault) : Type 0 where
   pub found : Units
   pub found_is : IsTrue honest → found ≡ base
   pub history : List Entry

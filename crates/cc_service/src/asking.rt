@@ -21,8 +21,8 @@ impl<N: Named> Client<N> {
         book: &mut Book<N, D>,
         command: Command,
     ) -> Result<Receipt, BookFault>
-        ensures ok { IfOk result (λ receipt. IsEntered (λ c. c ≡ command) self.old.holder reply.Done self.new.holder receipt) }
-        ensures err { IfErr result (λ fault. IsTurnedDown (λ c. c ≡ command) self.old.holder self.new.holder fault) }
+        ensures ok { IfOk result (λ receipt. IsEntered (λ c. c ≡ command) self.old.member reply.Done self.new.member receipt) }
+        ensures err { IfErr result (λ fault. IsTurnedDown (λ c. c ≡ command) self.old.member self.new.member fault) }
         ensures sent { self.new.sent ≡ self.old.sent }
     {
         let Client {
@@ -44,7 +44,7 @@ impl<N: Named> Client<N> {
         asked: Asked,
     ) -> Result<Receipt, BookFault>
         requires { IsLook asked }
-        ensures answers { LookAnswers book.old.book self.old.holder asked book.new.book self.new.holder result }
+        ensures answers { LookAnswers book.old.book self.old.member asked book.new.book self.new.member result }
         ensures sent { self.new.sent ≡ self.old.sent }
     {
         book.look(alloc, &mut self.member, asked)

@@ -27,7 +27,7 @@ impl<N: Named> Model for Client<N> {
 
     ghost Value = { ClientView };
 
-    ghost view = { λ c. record { holder = c.member; sent = c.pass.sent } };
+    ghost view = { λ c. record { member = c.member; sent = c.pass.sent } };
 }
 
 impl<N: Named> Client<N> {
@@ -35,7 +35,7 @@ impl<N: Named> Client<N> {
     pub fn new(alloc: Global, number: u64, share: Share<N>, pass: Pass<N>) -> Client<N>
         requires part { share.parts ≡ 1 }
         requires none { share.amount ≡ 0 }
-        ensures holder { result.holder ≡ record { number = number; receipts = [] } }
+        ensures holder { result.member ≡ record { number = number; receipts = [] } }
         ensures sent { result.sent ≡ pass.sent }
     {
         Client::of(Member::new(alloc, number, share), pass)
@@ -43,7 +43,7 @@ impl<N: Named> Client<N> {
 
     // The client of a member and a pass, whose changes do not compact.
     pub(crate) fn of(member: Member<N>, pass: Pass<N>) -> Client<N>
-        ensures { result ≡ record { holder = member; sent = pass.sent } }
+        ensures { result ≡ record { member = member; sent = pass.sent } }
     {
         Client {
             member,
@@ -67,21 +67,21 @@ impl<N: Named> Client<N> {
 
     /// Its number.
     pub fn number(&self) -> u64
-        ensures { result ≡ self.now.holder.number }
+        ensures { result ≡ self.now.member.number }
     {
         self.member.number()
     }
 
     /// The receipts so far. It takes no memory.
     pub fn receipts(&self) -> &[Receipt]
-        ensures { result.now ≡ self.now.holder.receipts }
+        ensures { result.now ≡ self.now.member.receipts }
     {
         self.member.receipts()
     }
 
     /// The last receipt. It takes no memory.
     pub fn last(&self) -> Option<&Receipt>
-        ensures { option_map (λ r. r.now) result ≡ slice_get self.now.holder.receipts (length self.now.holder.receipts - 1) }
+        ensures { option_map (λ r. r.now) result ≡ slice_get self.now.member.receipts (length self.now.member.receipts - 1) }
     {
         self.receipts().last()
     }
@@ -89,7 +89,7 @@ impl<N: Named> Client<N> {
     /// The bytes that the entries of its receipts behind the first so many are counted to hold, as `held_by` counts them: of a caller that
     /// had seen so many, those of the new ones.
     pub fn held_since(&self, seen: usize) -> u64
-        ensures { result ≡ at_most_told (receipts_bytes (drop seen self.now.holder.receipts)) }
+        ensures { result ≡ at_most_told (receipts_bytes (drop seen self.now.member.receipts)) }
     {
         let receipts = self.receipts();
         if receipts.len() <= seen {
@@ -100,7 +100,7 @@ impl<N: Named> Client<N> {
 }
 
 impl<N: Named> HasReceipts for Client<N> {
-    ghost holder = { λ c. c.holder };
+    ghost member = { λ c. c.member };
 
     fn number(&self) -> u64 {
         self.member.number()

@@ -5,7 +5,7 @@ ghost use Rattle.std.specs.Vec.{vec_capacity};
 ghost use Rattle.cc_history.specs.Closing.{AreApart, AreOwn, IsClosed, ReceiptsStand, receipts_of};
 ghost use Rattle.cc_recorded.specs.Answers.{IsNotClosed};
 ghost use Rattle.cc_recorded.specs.Promise.{IsSound};
-ghost use Rattle.cc_service.specs.Client.{holders};
+ghost use Rattle.cc_service.specs.Client.{members};
 
 use crate::client::Client;
 use crate::named::Named;
@@ -52,10 +52,10 @@ impl<N: Named> Left<N> {
 fn gather<N: Named>(rest: &mut Share<N>, clients: Vec<Client<N>>, left: &mut Left<N>)
     requires receipts { (left.old.receipts.items ≡ []) × (vec_len left.old.receipts ≡ 0) × (length clients.items ≤ vec_capacity left.old.receipts) }
     requires passes { (vec_len left.old.passes ≡ 0) × (length clients.items ≤ vec_capacity left.old.passes) }
-    ensures receipts { map (λ v. v.items) left.new.receipts.items ≡ map (λ c. c.receipts) (holders clients.items) }
+    ensures receipts { map (λ v. v.items) left.new.receipts.items ≡ map (λ c. c.receipts) (members clients.items) }
     ensures parts { rest.new.parts ≡ rest.old.parts + length clients.items }
-    ensures amount { rest.new.amount ≡ rest.old.amount + receipts_of (holders clients.items) }
-    ensures own { AreOwn (holders clients.items) }
+    ensures amount { rest.new.amount ≡ rest.old.amount + receipts_of (members clients.items) }
+    ensures own { AreOwn (members clients.items) }
 {
     let Left {
         receipts: all,
@@ -78,9 +78,9 @@ pub(crate) fn ready<N: Named, D: Disk>(
     ensures receipts { IfOk result (λ left. (left.receipts.items ≡ []) × (vec_len left.receipts ≡ 0) × (length clients.now ≤ vec_capacity left.receipts)) }
     ensures passes { IfOk result (λ left. (vec_len left.passes ≡ 0) × (length clients.now ≤ vec_capacity left.passes)) }
     ensures many { OnOk result (length clients.now ≡ made) }
-    ensures apart { OnOk result (AreApart (holders clients.now)) }
-    ensures stand { OnOk result (ReceiptsStand book.now.book.history (holders clients.now)) }
-    ensures err { IfErr result (λ f. IsNotClosed book.now.book.history made (holders clients.now) f) }
+    ensures apart { OnOk result (AreApart (members clients.now)) }
+    ensures stand { OnOk result (ReceiptsStand book.now.book.history (members clients.now)) }
+    ensures err { IfErr result (λ f. IsNotClosed book.now.book.history made (members clients.now) f) }
 {
     let Ok(left) = Left::with_room(alloc, clients.len()) else {
         return Err(BookFault::OutOfMemory);
@@ -105,13 +105,13 @@ pub(crate) fn end<N: Named, D: Disk>(
     requires passes { (vec_len left.passes ≡ 0) × (length clients.items ≤ vec_capacity left.passes) }
     requires parts { rest.parts + length clients.items ≡ N.parts }
     requires amount { rest.amount ≡ 0 }
-    requires apart { AreApart (holders clients.items) }
-    requires stand { ReceiptsStand book.book.history (holders clients.items) }
+    requires apart { AreApart (members clients.items) }
+    requires stand { ReceiptsStand book.book.history (members clients.items) }
     ensures sound { IsSound D.Disk N.base N.from N.left (record { base = result.0.base; library = result.0.library; history = result.0.history.items; failed = result.0.failed.items }) }
-    ensures closed { IsClosed result.0.history.items (holders clients.items) }
-    ensures receipts { map (λ v. v.items) result.0.receipts.items ≡ map (λ c. c.receipts) (holders clients.items) }
+    ensures closed { IsClosed result.0.history.items (members clients.items) }
+    ensures receipts { map (λ v. v.items) result.0.receipts.items ≡ map (λ c. c.receipts) (members clients.items) }
     // The receipts of each client are of its own calls.
-    ensures own { AreOwn (holders clients.items) }
+    ensures own { AreOwn (members clients.items) }
 {
     receipts_count_up();
     gather(&mut rest, clients, &mut left);
@@ -146,12 +146,12 @@ pub fn close<N: Named, D: Disk>(
     requires parts { rest.parts + made ≡ N.parts }
     requires amount { rest.amount ≡ 0 }
     ensures sound { IfOk result (λ r. IsSound D.Disk N.base N.from N.left (record { base = r.base; library = r.library; history = r.history.items; failed = r.failed.items })) }
-    ensures closed { IfOk result (λ r. IsClosed r.history.items (holders clients.items)) }
+    ensures closed { IfOk result (λ r. IsClosed r.history.items (members clients.items)) }
     ensures all { OnOk result (length clients.items ≡ made) }
-    ensures receipts { IfOk result (λ r. map (λ v. v.items) r.receipts.items ≡ map (λ c. c.receipts) (holders clients.items)) }
-    ensures own { IfOk result (λ _. AreOwn (holders clients.items)) }
+    ensures receipts { IfOk result (λ r. map (λ v. v.items) r.receipts.items ≡ map (λ c. c.receipts) (members clients.items)) }
+    ensures own { IfOk result (λ _. AreOwn (members clients.items)) }
     ensures back { IfErr result (λ e. (e.1 ≡ book) × (e.2.parts ≡ rest.parts) × (e.2.amount ≡ rest.amount) × (e.3 ≡ clients)) }
-    ensures err { IfErr result (λ e. IsNotClosed book.book.history made (holders clients.items) e.0) }
+    ensures err { IfErr result (λ e. IsNotClosed book.book.history made (members clients.items) e.0) }
 {
     match ready(alloc, &book, made, clients.as_slice()) {
         Ok(left) => {

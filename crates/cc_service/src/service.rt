@@ -5,7 +5,7 @@ ghost use Rattle.cc_disk.specs.Images.{OnlyReads};
 ghost use Rattle.cc_library.specs.Apply.{Units};
 ghost use Rattle.cc_library.specs.Recovered.{Recovers};
 ghost use Rattle.cc_history.specs.Closing.{AreOwn, IsClosed};
-ghost use Rattle.cc_service.specs.Client.{holders};
+ghost use Rattle.cc_service.specs.Client.{members};
 ghost use Rattle.cc_service.specs.Compiling.{HasSentFor};
 ghost use Rattle.cc_recorded.specs.Promise.{IsGivenUp, IsSound};
 ghost use Rattle.cc_recorded.specs.Since.{IsPast};
@@ -123,7 +123,7 @@ impl<N: Named + Send + Sync + 'static, D: Disk> Service<N, D> {
     ///
     /// 30 where 1,024 were made.
     pub fn client<R: Wait>(&self, rt: &R, alloc: Global) -> Result<Client<N>, ServiceFault>
-        ensures ok { IfOk result (λ c. (c.holder.receipts ≡ []) × (c.sent ≡ [])) }
+        ensures ok { IfOk result (λ c. (c.member.receipts ≡ []) × (c.sent ≡ [])) }
         ensures err { IfErr result (λ fault. fault ≡ service.TooManyClients) }
     {
         // The desk's lock is let go before the pool's is taken.
@@ -152,7 +152,7 @@ impl<N: Named + Send + Sync + 'static, D: Disk> Service<N, D> {
         name: &[u8],
         source: &[u8],
     ) -> Result<Receipt, ServiceFault>
-        ensures answers { PutAnswers (Puts put name.now source.now) name.now source.now client.old.holder client.new.holder result }
+        ensures answers { PutAnswers (Puts put name.now source.now) name.now source.now client.old.member client.new.member result }
         ensures sent { HasSentFor source.now client.old.sent client.new.sent }
     {
         let Ok(name) = Name::new(name) else {
@@ -173,7 +173,7 @@ impl<N: Named + Send + Sync + 'static, D: Disk> Service<N, D> {
         name: &[u8],
         source: &[u8],
     ) -> Result<Receipt, ServiceFault>
-        ensures answers { PutAnswers (Adds name.now source.now) name.now source.now client.old.holder client.new.holder result }
+        ensures answers { PutAnswers (Adds name.now source.now) name.now source.now client.old.member client.new.member result }
         ensures sent { HasSentFor source.now client.old.sent client.new.sent }
     {
         self.put(rt, alloc, client, Put::Add, name, source)
@@ -188,7 +188,7 @@ impl<N: Named + Send + Sync + 'static, D: Disk> Service<N, D> {
         name: &[u8],
         source: &[u8],
     ) -> Result<Receipt, ServiceFault>
-        ensures answers { PutAnswers (Replaces name.now source.now) name.now source.now client.old.holder client.new.holder result }
+        ensures answers { PutAnswers (Replaces name.now source.now) name.now source.now client.old.member client.new.member result }
         ensures sent { HasSentFor source.now client.old.sent client.new.sent }
     {
         self.put(rt, alloc, client, Put::Replace, name, source)
@@ -205,7 +205,7 @@ impl<N: Named + Send + Sync + 'static, D: Disk> Service<N, D> {
         client: &mut Client<N>,
         name: &[u8],
     ) -> Result<Receipt, ServiceFault>
-        ensures answers { WithdrawAnswers name.now client.old.holder client.new.holder result }
+        ensures answers { WithdrawAnswers name.now client.old.member client.new.member result }
         ensures sent { client.new.sent ≡ client.old.sent }
     {
         let Ok(name) = Name::new(name) else {
@@ -222,7 +222,7 @@ impl<N: Named + Send + Sync + 'static, D: Disk> Service<N, D> {
         client: &mut Client<N>,
         command: Command,
     ) -> Result<Receipt, ServiceFault>
-        ensures answers { MakesAnswers command client.old.holder client.new.holder result }
+        ensures answers { MakesAnswers command client.old.member client.new.member result }
         ensures sent { client.new.sent ≡ client.old.sent }
     {
         let answer = client.change(alloc, &mut self.book.lock(rt), command);
@@ -242,7 +242,7 @@ impl<N: Named + Send + Sync + 'static, D: Disk> Service<N, D> {
         client: &mut Client<N>,
         name: &[u8],
     ) -> Result<Found, ServiceFault>
-        ensures answers { GetAnswers name.now client.old.holder client.new.holder result }
+        ensures answers { GetAnswers name.now client.old.member client.new.member result }
         ensures sent { client.new.sent ≡ client.old.sent }
     {
         let Ok(name) = Name::new(name) else {
@@ -267,7 +267,7 @@ impl<N: Named + Send + Sync + 'static, D: Disk> Service<N, D> {
         alloc: Global,
         client: &mut Client<N>,
     ) -> Result<Listing, ServiceFault>
-        ensures answers { ListAnswers client.old.holder client.new.holder result }
+        ensures answers { ListAnswers client.old.member client.new.member result }
         ensures sent { client.new.sent ≡ client.old.sent }
     {
         match self.look(rt, alloc, client, Asked::Names) {
@@ -285,8 +285,8 @@ impl<N: Named + Send + Sync + 'static, D: Disk> Service<N, D> {
         asked: Asked,
     ) -> Result<Receipt, BookFault>
         requires { IsLook asked }
-        ensures ok { IfOk result (λ receipt. IsSeen asked client.old.holder client.new.holder receipt) }
-        ensures err { IfErr result (λ fault. IsTurnedAway client.old.holder client.new.holder fault) }
+        ensures ok { IfOk result (λ receipt. IsSeen asked client.old.member client.new.member receipt) }
+        ensures err { IfErr result (λ fault. IsTurnedAway client.old.member client.new.member fault) }
         ensures sent { client.new.sent ≡ client.old.sent }
     {
         client.look(alloc, &mut self.book.lock(rt), asked)
@@ -320,12 +320,12 @@ impl<N: Named + Send + Sync + 'static, D: Disk> Service<N, D> {
         // has left at any moment since the opening holds a prefix of them.
         ensures sound { IfOk result (λ r. IsSound D.Disk N.base N.from N.left (record { base = r.base; library = r.library; history = r.history.items; failed = r.failed.items })) }
         // Every receipt of every client stands in that history, once and in its client's order.
-        ensures closed { IfOk result (λ r. IsClosed r.history.items (holders clients.items)) }
-        ensures receipts { IfOk result (λ r. map (λ v. v.items) r.receipts.items ≡ map (λ c. c.receipts) (holders clients.items)) }
-        ensures own { IfOk result (λ _. AreOwn (holders clients.items)) }
+        ensures closed { IfOk result (λ r. IsClosed r.history.items (members clients.items)) }
+        ensures receipts { IfOk result (λ r. map (λ v. v.items) r.receipts.items ≡ map (λ c. c.receipts) (members clients.items)) }
+        ensures own { IfOk result (λ _. AreOwn (members clients.items)) }
         ensures back { IfErr result (λ e. e.2 ≡ clients) }
         // 39 with an entry is of a receipt of these clients.
-        ensures refused { IfErr result (λ e. IsNotEnded D.honest N.base (holders clients.items) e.0) }
+        ensures refused { IfErr result (λ e. IsNotEnded D.honest N.base (members clients.items) e.0) }
     {
         let Service { book, desk, pool } = self;
         let book = book.into_inner();
@@ -352,7 +352,7 @@ impl<N: Named + Send + Sync + 'static, D: Disk> Service<N, D> {
     /// stands, no two have one number, and every entry of the history has a receipt. It takes no memory, so it ends a service that `finish`
     /// refuses to end, or one of whose clients is lost.
     pub fn give_up<R: Wait>(self, rt: &R, alloc: Global, clients: Vec<Client<N>>) -> (D, bool)
-        ensures { IsGivenUp D.Disk N.base N.from N.left (holders clients.items) result.1 result.0 }
+        ensures { IsGivenUp D.Disk N.base N.from N.left (members clients.items) result.1 result.0 }
     {
         let Service { book, desk, pool } = self;
         drop(desk);

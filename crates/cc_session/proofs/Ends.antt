@@ -13,7 +13,7 @@ use Rattle.cc_history.specs.declared.entry.Entry.{Entry}
 use Rattle.cc_history.specs.declared.standing.StandingFault.{StandingFault}
 use Rattle.cc_history.specs.declared.standing.StandingFault.TheVariants as standing
 use Rattle.cc_history.specs.Closing.{AreOwn, IsClosed, IsNotWhole}
-use Rattle.cc_history.specs.History.{Holder}
+use Rattle.cc_history.specs.History.{MemberView}
 use Rattle.cc_service.specs.Book.{BookView}
 use Rattle.cc_service.specs.BookFault.{book_fault_number, fault_of}
 use Rattle.cc_service.specs.Fault.{fault_number}
@@ -70,7 +70,7 @@ of_standing : (why : StandingFault) → (book_fault_number (fault_of why) ≡ 39
 of_standing (standing.Estranged number found) = inl refl
 of_standing standing.OutOfMemory = inr refl
 
-pub refusal_number : (honest : Bool) (base : Units) (clients : List Holder) (fault : ServiceFault) → IsNotEnded honest base clients fault
+pub refusal_number : (honest : Bool) (base : Units) (clients : List MemberView) (fault : ServiceFault) → IsNotEnded honest base clients fault
     → (fault_number fault ≡ 39) ⊎ (fault_number fault ≡ 40)
 refusal_number honest base clients fault it =
     subst (λ (f : ServiceFault). (fault_number f ≡ 39) ⊎ (fault_number f ≡ 40)) (sym it.fault_is) (elim it.why [
@@ -80,7 +80,7 @@ refusal_number honest base clients fault it =
     ])
 
 module _ {Disk : Type 0} (D : Ghosts Disk) (named : Units) (from : ℕ) (left : List ℕ → Type 0)
-    (bytes : List ℕ) (begun : IsTrue D.honest → Recovers bytes named) (clients : List Holder) (played : SessionEnd) where
+    (bytes : List ℕ) (begun : IsTrue D.honest → Recovers bytes named) (clients : List MemberView) (played : SessionEnd) where
   -- with all that its end says of the book
   pub kept_by : (book : BookView Disk) (after : Disk) → after ≡ book.library.disk → IsSound D named from left book → IsClosed book.history clients → AreOwn clients
       → IsEnded D bytes from left clients played played after
@@ -101,7 +101,7 @@ module _ {Disk : Type 0} (D : Ghosts Disk) (named : Units) (from : ℕ) (left : 
 -- ---- what was read before it was opened
 
 -- what is left of a service, said of the bytes that were seen before
-left_on : {Disk : Type 0} (D : Ghosts Disk) (bytes later : List ℕ) (from : ℕ) (left : List ℕ → Type 0) (Holds : List Entry → List Holder → Type 0) (clients : List Holder) (after : Disk)
+left_on : {Disk : Type 0} (D : Ghosts Disk) (bytes later : List ℕ) (from : ℕ) (left : List ℕ → Type 0) (Holds : List Entry → List MemberView → Type 0) (clients : List MemberView) (after : Disk)
     → (IsTrue D.honest → later ≡ bytes) → IsLeft D later from left Holds clients after → IsLeft D bytes from left Holds clients after
 left_on D bytes later from left Holds clients after same it =
     record {
@@ -115,7 +115,7 @@ left_on D bytes later from left Holds clients after same it =
     }
 
 -- so of one that was ended or given up
-ended_on : {Disk : Type 0} (D : Ghosts Disk) (bytes later : List ℕ) (from : ℕ) (left : List ℕ → Type 0) (clients : List Holder) (played end : SessionEnd) (after : Disk)
+ended_on : {Disk : Type 0} (D : Ghosts Disk) (bytes later : List ℕ) (from : ℕ) (left : List ℕ → Type 0) (clients : List MemberView) (played end : SessionEnd) (after : Disk)
     → (IsTrue D.honest → later ≡ bytes) → IsEnded D later from left clients played end after → IsEnded D bytes from left clients played end after
 ended_on D bytes later from left clients played end after same (inl kept) =
     inl (kept.0, left_on D bytes later from left IsClosed clients after same kept.1)
@@ -137,7 +137,7 @@ module _ {Disk : Type 0} (D : Ghosts Disk) where
   }
 
   -- how a service ended, said of the disk before it was looked at
-  on_first : (from : ℕ) (begins : List ℕ → Type 0) (Untouched : Type 0) (HaveDone : List Holder → SessionEnd → Type 0) (a b after : Disk) (end : SessionEnd)
+  on_first : (from : ℕ) (begins : List ℕ → Type 0) (Untouched : Type 0) (HaveDone : List MemberView → SessionEnd → Type 0) (a b after : Disk) (end : SessionEnd)
       → D.failures b ≡ D.failures a → (IsTrue D.honest → OnlyReads D.seen D.may_leave D.moment D.left_since a b)
       → EndsSince D from begins Untouched HaveDone b after end
       → EndsSince D from begins Untouched HaveDone a after end
@@ -152,7 +152,7 @@ module _ {Disk : Type 0} (D : Ghosts Disk) where
       inr (ended.0, ended.1, ended.2, ended_on D (D.seen a) (D.seen b) from begins ended.0 ended.1 end after (λ h. (reads h).same) ended.3)
 
   -- the disk as it was at the beginning
-  pub ends_on : (Untouched : Type 0) (HaveDone : List Holder → SessionEnd → Type 0) (first a b after : Disk) (end : SessionEnd)
+  pub ends_on : (Untouched : Type 0) (HaveDone : List MemberView → SessionEnd → Type 0) (first a b after : Disk) (end : SessionEnd)
       → first ≡ a → D.failures b ≡ D.failures a → (IsTrue D.honest → OnlyReads D.seen D.may_leave D.moment D.left_since a b)
       → EndsSince D (D.moment first) (D.may_leave first) Untouched HaveDone b after end
       → ServiceEnds D Untouched HaveDone a after end
@@ -161,7 +161,7 @@ module _ {Disk : Type 0} (D : Ghosts Disk) where
       (on_first (D.moment first) (D.may_leave first) Untouched HaveDone a b after end sound reads it)
 
   -- none was opened, for this reason, which is told
-  pub unserved_by : (from : ℕ) (begins : List ℕ → Type 0) (Untouched : Type 0) (HaveDone : List Holder → SessionEnd → Type 0) (base : Units)
+  pub unserved_by : (from : ℕ) (begins : List ℕ → Type 0) (Untouched : Type 0) (HaveDone : List MemberView → SessionEnd → Type 0) (base : Units)
       (fault : ServiceFault) (a b after : Disk) (end : SessionEnd) → after ≡ b → end ≡ Fault (fault_number fault) → IsNotOpened D.honest (D.seen a) base (D.failures a) (D.failures b) fault
       → (IsTrue D.honest → OnlyReads D.seen D.may_leave D.moment D.left_since a b) → Untouched
       → EndsSince D from begins Untouched HaveDone a after end

@@ -8,7 +8,7 @@ use Rattle.cc_script.specs.declared.command.Dialect.{Dialect}
 use Rattle.cc_script.specs.declared.fault.ScriptFault.{ScriptFault}
 use Rattle.cc_script.specs.declared.fault.ScriptFault.TheVariants.{BadLine, EndOfScript, ScriptTooLong, ReadFault, WriteFault}
 use Rattle.cc_script.specs.declared.script.NextLine.TheVariants.{End, Line, TooLong}
-use Rattle.cc_history.specs.History.{Holder}
+use Rattle.cc_history.specs.History.{MemberView}
 use Rattle.cc_session.specs.Playing.{EndsInSource, IsCutShort, IsPlayed, IsPlayedInPart, IsPlayedUpTo, IsStep, IsStopped, IsStoppedBy, IsTooLong, IsWithin, Obeys, Plays, Turn}
 use Rattle.cc_session.specs.internal.Steps.{IsNoLine, IsNotDone}
 use Rattle.cc_session.proofs.Playing.{asks_short, between_none, between_on, known, known_both, known_by, known_map, known_then, more_before, obeyed_step, played, played_up_to, plays_on, too_long, too_long_step, unread_before}
@@ -16,7 +16,7 @@ use Rattle.cc_session.proofs.Playing.{asks_short, between_none, between_on, know
 -- ---- lines that are done
 
 -- what has been played so far, by so many lines, from this client on
-pub record Played (dialect : Dialect) (most : Option ℕ) (count : ℕ) (start now : Holder) (b a : List ℕ) : Type 0 where
+pub record Played (dialect : Dialect) (most : Option ℕ) (count : ℕ) (start now : MemberView) (b a : List ℕ) : Type 0 where
   pub takes : count + length a ≤ length b
   pub few : IsWithin most count
   pub turns : List Turn
@@ -34,15 +34,15 @@ within_more (Some most) count few more =
     let apart : most ≢ count = λ same. more (ap (λ (n : ℕ). Some n) same) in
     omega (arith, few, apart)
 
-few_of : (dialect : Dialect) (most : Option ℕ) (count : ℕ) (start now : Holder) (b a : List ℕ) (it : Played dialect most count start now b a) → IsWithin most (length it.turns)
+few_of : (dialect : Dialect) (most : Option ℕ) (count : ℕ) (start now : MemberView) (b a : List ℕ) (it : Played dialect most count start now b a) → IsWithin most (length it.turns)
 few_of dialect most count start now b a it = subst (λ (n : ℕ). IsWithin most n) (sym it.many) it.few
 
 -- nothing has been played
-pub begins : (dialect : Dialect) (most : Option ℕ) (x : Ahead) (now : Holder) → Between x x (Played dialect most 0 now now)
+pub begins : (dialect : Dialect) (most : Option ℕ) (x : Ahead) (now : MemberView) → Between x x (Played dialect most 0 now now)
 begins dialect most x now = between_none x (Played dialect most 0 now now) (λ b. record { takes = omega arith; few = within_none most; turns = []; many = refl; plays = (refl, refl) })
 
 -- a step that takes a byte
-abbrev pub Steps : (dialect : Dialect) (old new : Holder) → List ℕ → List ℕ → Type 0
+abbrev pub Steps : (dialect : Dialect) (old new : MemberView) → List ℕ → List ℕ → Type 0
 Steps dialect old new b a = (length a < length b) × IsStep dialect b a old new
 
 some_length : (bytes : List ℕ) → bytes ≢ [] → 0 < length bytes
@@ -63,7 +63,7 @@ line_takes before line after some is = elim is.ends [
 ]
 
 -- one step more
-pub step_on : (dialect : Dialect) (most : Option ℕ) (x y z : Ahead) (count : ℕ) (start old new : Holder) → most ≢ Some count → Between x y (Played dialect most count start old) → Between y z (Steps dialect old new)
+pub step_on : (dialect : Dialect) (most : Option ℕ) (x y z : Ahead) (count : ℕ) (start old new : MemberView) → most ≢ Some count → Between x y (Played dialect most count start old) → Between y z (Steps dialect old new)
     → Between x z (Played dialect most (count + 1) start new)
 step_on dialect most x y z count start old new more one two =
     between_on x y z (Played dialect most count start old) (Steps dialect old new) (Played dialect most (count + 1) start new) one two
@@ -82,7 +82,7 @@ short : (n : ℕ) (line : List ℕ) → n ≤ 128 → length (take n line) ≤ 1
 short n line few = let most = length-take n line in omega (arith, most, few)
 
 -- a line is obeyed
-pub line_on : (dialect : Dialect) (most : Option ℕ) (x y m z : Ahead) (count : ℕ) (start old new : Holder) (n : ℕ) (line : List ℕ) → n ≤ 128 → most ≢ Some count → Between x y (Played dialect most count start old)
+pub line_on : (dialect : Dialect) (most : Option ℕ) (x y m z : Ahead) (count : ℕ) (start old new : MemberView) (n : ℕ) (line : List ℕ) → n ≤ 128 → most ≢ Some count → Between x y (Played dialect most count start old)
     → Between y m (λ b a. IsNext b (Line n) line a) → Between m z (λ b a. Obeys (asked_of dialect (take n line)) b a old new) → Between x z (Played dialect most (count + 1) start new)
 line_on dialect most x y m z count start old new n line few more one next obeyed =
     step_on dialect most x y z count start old new more one
@@ -92,7 +92,7 @@ line_on dialect most x y m z count start old new n line few more one next obeyed
     (omega (arith, less, second), obeyed_step dialect b k a (take n line) old new (short n line few) is.1 does)))
 
 -- a line that is too long is skipped
-pub skip_on : (dialect : Dialect) (most : Option ℕ) (x y m z : Ahead) (count : ℕ) (start old : Holder) (line : List ℕ) → most ≢ Some count → Between x y (Played dialect most count start old)
+pub skip_on : (dialect : Dialect) (most : Option ℕ) (x y m z : Ahead) (count : ℕ) (start old : MemberView) (line : List ℕ) → most ≢ Some count → Between x y (Played dialect most count start old)
     → Between y m (λ b a. IsNext b TooLong line a) → Between m z (λ b a. (rest : List ℕ) × IsLine b rest a) → Between x z (Played dialect most (count + 1) start old)
 skip_on dialect most x y m z count start old line more one next skipped =
     step_on dialect most x y z count start old old more one
@@ -105,14 +105,14 @@ skip_on dialect most x y m z count start old line more one next skipped =
 -- ---- scripts that end
 
 -- the whole script
-pub script_ends : (dialect : Dialect) (most : Option ℕ) (x y z : Ahead) (count : ℕ) (start now : Holder) (line : List ℕ) → Between x y (Played dialect most count start now)
+pub script_ends : (dialect : Dialect) (most : Option ℕ) (x y z : Ahead) (count : ℕ) (start now : MemberView) (line : List ℕ) → Between x y (Played dialect most count start now)
     → Between y z (λ b a. IsNext b End line a) → IfSome x.rest (λ b. IsPlayed dialect most b start now)
 script_ends dialect most x y z count start now line one next =
     known_then x y (Played dialect most count start now) (λ b. b ≡ []) (λ b. IsPlayed dialect most b start now) one (known_by y z (λ b a. IsNext b End line a) (λ b. b ≡ []) next (λ b a none. none))
     (λ b m it none. played dialect most b start it.turns m now (few_of dialect most count start now b m it) it.plays none)
 
 -- it stopped behind the lines so far
-up_to : (dialect : Dialect) (most : Option ℕ) (x y : Ahead) (count : ℕ) (start now : Holder) (Stops : List ℕ → ℕ → List ℕ → Type 0) → Between x y (Played dialect most count start now)
+up_to : (dialect : Dialect) (most : Option ℕ) (x y : Ahead) (count : ℕ) (start now : MemberView) (Stops : List ℕ → ℕ → List ℕ → Type 0) → Between x y (Played dialect most count start now)
     → IfSome y.rest (λ rest. (script : List ℕ) → IsWithin most count → Stops script count rest) → IfSome x.rest (λ b. IsPlayedUpTo dialect most b (Stops b) start now)
 up_to dialect most x y count start now Stops one stops =
     known_then x y (Played dialect most count start now) (λ rest. (script : List ℕ) → IsWithin most count → Stops script count rest) (λ b. IsPlayedUpTo dialect most b (Stops b) start now) one stops
@@ -124,7 +124,7 @@ up_to dialect most x y count start now Stops one stops =
       stops = subst (λ (n : ℕ). Stops b n m) (sym it.many) (why b it.few);
     })
 
-anywhere : (dialect : Dialect) (most : Option ℕ) (x y : Ahead) (count : ℕ) (start now : Holder) → Between x y (Played dialect most count start now)
+anywhere : (dialect : Dialect) (most : Option ℕ) (x y : Ahead) (count : ℕ) (start now : MemberView) → Between x y (Played dialect most count start now)
     → IfSome x.rest (λ b. IsPlayedUpTo dialect most b (λ lines rest. Unit {0}) start now)
 anywhere dialect most x y count start now one = up_to dialect most x y count start now (λ script lines rest. Unit {0}) one (known y.rest (λ b. (script : List ℕ) → IsWithin most count → Unit {0}) (λ b script few. tt))
 
@@ -133,7 +133,7 @@ by_bytes : (most : Option ℕ) (script : List ℕ) (lines : ℕ) (rest : List �
 by_bytes None script lines rest long = long
 by_bytes (Some most) script lines rest long = inl long
 
-too_long_there : (dialect : Dialect) (most : Option ℕ) (x y : Ahead) (count : ℕ) (start now : Holder) → x.left ≡ 16777216 → Between x y (Played dialect most count start now) → HasMore y
+too_long_there : (dialect : Dialect) (most : Option ℕ) (x y : Ahead) (count : ℕ) (start now : MemberView) → x.left ≡ 16777216 → Between x y (Played dialect most count start now) → HasMore y
     → IfSome x.rest (λ b. IsPlayedUpTo dialect most b (IsTooLong most b) start now)
 too_long_there dialect most x y count start now whole one more =
     let long = too_long x whole (more_before x y (Played dialect most count start now) one more) in
@@ -153,7 +153,7 @@ at_bound : (most : Option ℕ) (script : List ℕ) (lines : ℕ) (rest : List �
 at_bound most script lines rest is some = subst (λ (o : Option ℕ). IsTooLong o script lines rest) (sym is) (inr (refl, some))
 
 -- the next line could not be read
-unread_ends : (dialect : Dialect) (most : Option ℕ) (x y : Ahead) (count : ℕ) (start now : Holder) (left : ℕ) (fault : ScriptFault) → x.left ≡ 16777216 → Between x y (Played dialect most count start now)
+unread_ends : (dialect : Dialect) (most : Option ℕ) (x y : Ahead) (count : ℕ) (start now : MemberView) (left : ℕ) (fault : ScriptFault) → x.left ≡ 16777216 → Between x y (Played dialect most count start now)
     → IsNotRead y left fault → IsStopped dialect most x.rest start now fault
 unread_ends dialect most x y count start now left BadLine whole one why = absurd why
 unread_ends dialect most x y count start now left EndOfScript whole one why = absurd why
@@ -162,7 +162,7 @@ unread_ends dialect most x y count start now left ReadFault whole one why = (tt,
 unread_ends dialect most x y count start now left WriteFault whole one why = absurd why
 
 -- none came, for that reason, or since as many are done as may be
-pub no_line_ends : (dialect : Dialect) (most : Option ℕ) (x y : Ahead) (count : ℕ) (start now : Holder) (left : ℕ) (fault : ScriptFault) → x.left ≡ 16777216 → Between x y (Played dialect most count start now)
+pub no_line_ends : (dialect : Dialect) (most : Option ℕ) (x y : Ahead) (count : ℕ) (start now : MemberView) (left : ℕ) (fault : ScriptFault) → x.left ≡ 16777216 → Between x y (Played dialect most count start now)
     → IsNoLine most count y left fault → IsStopped dialect most x.rest start now fault
 no_line_ends dialect most x y count start now left fault whole one (inl why) = unread_ends dialect most x y count start now left fault whole one why
 no_line_ends dialect most x y count start now left fault whole one (inr (is, bound, some)) =
@@ -174,7 +174,7 @@ no_line_ends dialect most x y count start now left fault whole one (inr (is, bou
     )
 
 -- a line that is too long was refused, which could not be written; or it could not be skipped
-pub skip_ends : (dialect : Dialect) (most : Option ℕ) (x y m : Ahead) (count : ℕ) (start now : Holder) (line : List ℕ) (left : ℕ) (fault : ScriptFault) → x.left ≡ 16777216
+pub skip_ends : (dialect : Dialect) (most : Option ℕ) (x y m : Ahead) (count : ℕ) (start now : MemberView) (line : List ℕ) (left : ℕ) (fault : ScriptFault) → x.left ≡ 16777216
     → Between x y (Played dialect most count start now) → Between y m (λ b a. IsNext b TooLong line a) → (fault ≡ WriteFault) ⊎ IsNotRead m left fault → IsStopped dialect most x.rest start now fault
 skip_ends dialect most x y m count start now line left fault whole one next (inl unwritten) =
     subst (λ (f : ScriptFault). IsStopped dialect most x.rest start now f) (sym unwritten) (
@@ -186,7 +186,7 @@ skip_ends dialect most x y m count start now line left fault whole one next (inr
     unread_ends dialect most x y count start now left fault whole one (unread_before y m (λ b a. IsNext b TooLong line a) left fault next why)
 
 -- a line that was not obeyed, or whose answer could not be written
-pub line_ends : (dialect : Dialect) (most : Option ℕ) (x y m : Ahead) (count : ℕ) (start old new : Holder) (n : ℕ) (line : List ℕ) (fault : ScriptFault) → n ≤ 128 → most ≢ Some count → x.left ≡ 16777216
+pub line_ends : (dialect : Dialect) (most : Option ℕ) (x y m : Ahead) (count : ℕ) (start old new : MemberView) (n : ℕ) (line : List ℕ) (fault : ScriptFault) → n ≤ 128 → most ≢ Some count → x.left ≡ 16777216
     → Between x y (Played dialect most count start old) → Between y m (λ b a. IsNext b (Line n) line a)
     → IsNotDone (λ b a o w. Obeys (asked_of dialect (take n line)) b a o w) (λ rest. IsCutShort (asked_of dialect (take n line)) rest) m old new fault
     → IsStopped dialect most x.rest start new fault
@@ -203,16 +203,16 @@ line_ends dialect most x y m count start old new n line EndOfScript few more who
       },
     )) in (
       tt,
-      subst (λ (h : Holder). IfSome x.rest (λ b. IsPlayedUpTo dialect most b (λ lines rest. IsWithin most (lines + 1) × EndsInSource dialect rest) start h)) (sym ended.0)
+      subst (λ (h : MemberView). IfSome x.rest (λ b. IsPlayedUpTo dialect most b (λ lines rest. IsWithin most (lines + 1) × EndsInSource dialect rest) start h)) (sym ended.0)
           (up_to dialect most x y count start old (λ script lines rest. IsWithin most (lines + 1) × EndsInSource dialect rest) one stops),
     )
 line_ends dialect most x y m count start old new n line ScriptTooLong few more whole one next ended = (
   tt,
-  subst (λ (h : Holder). IfSome x.rest (λ b. IsPlayedUpTo dialect most b (IsTooLong most b) start h)) (sym ended.0)
+  subst (λ (h : MemberView). IfSome x.rest (λ b. IsPlayedUpTo dialect most b (IsTooLong most b) start h)) (sym ended.0)
       (too_long_there dialect most x y count start old whole one (more_before y m (λ b a. IsNext b (Line n) line a) next ended.1)),
 )
 line_ends dialect most x y m count start old new n line ReadFault few more whole one next ended =
-    (tt, subst (λ (h : Holder). IfSome x.rest (λ b. IsPlayedUpTo dialect most b (λ lines rest. Unit {0}) start h)) (sym ended) (anywhere dialect most x y count start old one))
+    (tt, subst (λ (h : MemberView). IfSome x.rest (λ b. IsPlayedUpTo dialect most b (λ lines rest. Unit {0}) start h)) (sym ended) (anywhere dialect most x y count start old one))
 line_ends dialect most x y m count start old new n line WriteFault few more whole one next ended =
     let last = known_then y m (λ b a. IsNext b (Line n) line a) (λ b. (new ≡ old) ⊎ ((a : List ℕ) × Obeys (asked_of dialect (take n line)) b a old new))
     (λ b. (new ≡ old) ⊎ ((a : List ℕ) × IsStep dialect b a old new)) next ended (λ b k is how. elim how [
@@ -228,7 +228,7 @@ line_ends dialect most x y m count start old new n line WriteFault few more whol
     )
 
 -- more lines than a script may have bytes
-pub lines_end : (dialect : Dialect) (most : Option ℕ) (x y : Ahead) (count : ℕ) (start now : Holder) → 16777216 < count → Between x y (Played dialect most count start now)
+pub lines_end : (dialect : Dialect) (most : Option ℕ) (x y : Ahead) (count : ℕ) (start now : MemberView) → 16777216 < count → Between x y (Played dialect most count start now)
     → IsStopped dialect most x.rest start now ScriptTooLong
 lines_end dialect most x y count start now many one = (
   tt,
@@ -244,10 +244,10 @@ lines_end dialect most x y count start now many one = (
 
 -- ---- the line of the fault itself
 
-part_of : (dialect : Dialect) (most : Option ℕ) (script : List ℕ) (Stops : ℕ → List ℕ → Type 0) (old new : Holder) → IsPlayedUpTo dialect most script Stops old new → IsPlayedInPart dialect most script old new
+part_of : (dialect : Dialect) (most : Option ℕ) (script : List ℕ) (Stops : ℕ → List ℕ → Type 0) (old new : MemberView) → IsPlayedUpTo dialect most script Stops old new → IsPlayedInPart dialect most script old new
 part_of dialect most script Stops old new it = played_up_to dialect most script old it.turns it.rest new new it.few it.plays (inl refl)
 
-in_part : (dialect : Dialect) (most : Option ℕ) (fault : ScriptFault) (script : List ℕ) (old new : Holder) → IsStoppedBy dialect most fault script old new → IsPlayedInPart dialect most script old new
+in_part : (dialect : Dialect) (most : Option ℕ) (fault : ScriptFault) (script : List ℕ) (old new : MemberView) → IsStoppedBy dialect most fault script old new → IsPlayedInPart dialect most script old new
 in_part dialect most BadLine script old new it = absurd it
 in_part dialect most EndOfScript script old new it = part_of dialect most script (λ lines rest. IsWithin most (lines + 1) × EndsInSource dialect rest) old new it
 in_part dialect most ScriptTooLong script old new it = part_of dialect most script (IsTooLong most script) old new it
@@ -255,7 +255,7 @@ in_part dialect most ReadFault script old new it = part_of dialect most script (
 in_part dialect most WriteFault script old new it = it
 
 -- where it could not be written the fault is that
-pub unwritten_behind : (dialect : Dialect) (most : Option ℕ) (script : Option (List ℕ)) (old new : Holder) (fault unwritten : ScriptFault) → unwritten ≡ WriteFault → IsStopped dialect most script old new fault
+pub unwritten_behind : (dialect : Dialect) (most : Option ℕ) (script : Option (List ℕ)) (old new : MemberView) (fault unwritten : ScriptFault) → unwritten ≡ WriteFault → IsStopped dialect most script old new fault
     → IsStopped dialect most script old new unwritten
 unwritten_behind dialect most script old new fault unwritten is it =
     subst (λ (f : ScriptFault). IsStopped dialect most script old new f) (sym is)

@@ -12,7 +12,7 @@ use Rattle.cc_script.specs.declared.fault.ScriptFault.{ScriptFault}
 use Rattle.cc_script.specs.declared.fault.ScriptFault.TheVariants.{BadLine, EndOfScript, ScriptTooLong, ReadFault, WriteFault}
 use Rattle.cc_script.specs.declared.script.NextLine.{NextLine}
 use Rattle.cc_script.specs.declared.script.NextLine.TheVariants.{End, Line, TooLong}
-use Rattle.cc_history.specs.History.{Holder}
+use Rattle.cc_history.specs.History.{MemberView}
 use Rattle.cc_session.specs.Playing.{IsPlayed, IsPlayedInPart, IsStep, IsWithin, Obeys, Plays, Turn, asked_by_line}
 use Rattle.cc_session.specs.internal.Steps.{HasSent, IsDone, IsNotDone, IsSentAs, IsShortOf}
 use Rattle.cc_session.specs.declared.reading.Sent.{Sent}
@@ -104,7 +104,7 @@ too_long x whole more = known_map x.rest (λ b. x.left < length b) (λ b. 167772
 
 -- ---- whether a step was done
 
-pub done_of : {T : Type 0} (answer : Result T ScriptFault) (Does : List ℕ → List ℕ → Holder → Holder → Type 0) (IsShort : List ℕ → Type 0) (x y : Ahead) (old new : Holder)
+pub done_of : {T : Type 0} (answer : Result T ScriptFault) (Does : List ℕ → List ℕ → MemberView → MemberView → Type 0) (IsShort : List ℕ → Type 0) (x y : Ahead) (old new : MemberView)
     → IfErr answer (λ fault. fault ≡ WriteFault) → Between x y (λ b a. Does b a old new) → IsDone Does IsShort x y old new answer
 done_of (Ok t) Does IsShort x y old new unwritten it = it
 done_of (Err e) Does IsShort x y old new unwritten it =
@@ -128,7 +128,7 @@ no_source x y P count left ReadFault one why = tt
 no_source x y P count left WriteFault one why = absurd why
 
 -- then nothing was done
-pub not_read : (Does : List ℕ → List ℕ → Holder → Holder → Type 0) (IsShort : List ℕ → Type 0) (x : Ahead) (left : ℕ) (h : Holder) (fault : ScriptFault)
+pub not_read : (Does : List ℕ → List ℕ → MemberView → MemberView → Type 0) (IsShort : List ℕ → Type 0) (x : Ahead) (left : ℕ) (h : MemberView) (fault : ScriptFault)
     → IsNotRead x left fault → IsNotDone Does IsShort x h h fault
 not_read Does IsShort x left h BadLine why = absurd why
 not_read Does IsShort x left h EndOfScript why = absurd why
@@ -136,7 +136,7 @@ not_read Does IsShort x left h ScriptTooLong why = (refl, why.1)
 not_read Does IsShort x left h ReadFault why = refl
 not_read Does IsShort x left h WriteFault why = absurd why
 
-pub not_sent : (Does : List ℕ → List ℕ → Holder → Holder → Type 0) (x : Ahead) (count left : ℕ) (h : Holder) (fault : ScriptFault)
+pub not_sent : (Does : List ℕ → List ℕ → MemberView → MemberView → Type 0) (x : Ahead) (count left : ℕ) (h : MemberView) (fault : ScriptFault)
     → IsNoSource x count left fault → IsNotDone Does (IsShortOf count) x h h fault
 not_sent Does x count left h BadLine why = absurd why
 not_sent Does x count left h EndOfScript why = (refl, why)
@@ -165,7 +165,7 @@ line_behind before prefix between rest after is plain line = record {
 }
 
 -- a line of more bytes than it may have is a step that does nothing
-pub too_long_step : (dialect : Dialect) (before between after line : List ℕ) (old : Holder) → IsNext before TooLong line between → ((rest : List ℕ) × IsLine between rest after) → IsStep dialect before after old old
+pub too_long_step : (dialect : Dialect) (before between after line : List ℕ) (old : MemberView) → IsNext before TooLong line between → ((rest : List ℕ) × IsLine between rest after) → IsStep dialect before after old old
 too_long_step dialect before between after line old next skipped =
     let long : 128 < length (next.0 ++ skipped.0) = let n = length-append next.0 skipped.0 in omega (arith, n, next.2) in
     record {
@@ -176,7 +176,7 @@ too_long_step dialect before between after line old next skipped =
     }
 
 -- a line that is obeyed is a step
-pub obeyed_step : (dialect : Dialect) (before between after line : List ℕ) (old new : Holder) → length line ≤ 128 → IsLine before line between → Obeys (asked_of dialect line) between after old new
+pub obeyed_step : (dialect : Dialect) (before between after line : List ℕ) (old new : MemberView) → length line ≤ 128 → IsLine before line between → Obeys (asked_of dialect line) between after old new
     → IsStep dialect before after old new
 obeyed_step dialect before between after line old new short is obeyed = record {
   line = line;
@@ -188,20 +188,20 @@ obeyed_step dialect before between after line old new short is obeyed = record {
 -- ---- scripts
 
 -- one step more
-pub plays_on : (dialect : Dialect) (before : List ℕ) (old : Holder) (turns : List Turn) (between : List ℕ) (client : Holder) (after : List ℕ) (new : Holder)
+pub plays_on : (dialect : Dialect) (before : List ℕ) (old : MemberView) (turns : List Turn) (between : List ℕ) (client : MemberView) (after : List ℕ) (new : MemberView)
     → Plays dialect before old turns between client → IsStep dialect between after client new → Plays dialect before old (turns ++ (record { rest = after; client = new }) ∷ []) after new
 plays_on dialect before old [] between client after new it step =
-    (subst (λ (l : List ℕ). IsStep dialect l after old new) it.0 (subst (λ (h : Holder). IsStep dialect between after h new) it.1 step), (refl, refl))
+    (subst (λ (l : List ℕ). IsStep dialect l after old new) it.0 (subst (λ (h : MemberView). IsStep dialect between after h new) it.1 step), (refl, refl))
 plays_on dialect before old (turn ∷ turns) between client after new it step = (it.0, plays_on dialect turn.rest turn.client turns between client after new it.1 step)
 
 -- the whole script
-pub played : (dialect : Dialect) (most : Option ℕ) (script : List ℕ) (first : Holder) (turns : List Turn) (rest : List ℕ) (last : Holder) → IsWithin most (length turns)
+pub played : (dialect : Dialect) (most : Option ℕ) (script : List ℕ) (first : MemberView) (turns : List Turn) (rest : List ℕ) (last : MemberView) → IsWithin most (length turns)
     → Plays dialect script first turns rest last → rest ≡ [] → IsPlayed dialect most script first last
 played dialect most script first turns rest last few plays over =
     record { turns = turns; few = few; plays = subst (λ (l : List ℕ). Plays dialect script first turns l last) over plays }
 
 -- a prefix of it, and perhaps the next step
-pub played_up_to : (dialect : Dialect) (most : Option ℕ) (script : List ℕ) (first : Holder) (turns : List Turn) (rest : List ℕ) (client last : Holder) → IsWithin most (length turns)
+pub played_up_to : (dialect : Dialect) (most : Option ℕ) (script : List ℕ) (first : MemberView) (turns : List Turn) (rest : List ℕ) (client last : MemberView) → IsWithin most (length turns)
     → Plays dialect script first turns rest client → (last ≡ client) ⊎ (IsWithin most (length turns + 1) × (after : List ℕ) × IsStep dialect rest after client last) → IsPlayedInPart dialect most script first last
 played_up_to dialect most script first turns rest client last few plays it = record { turns = turns; few = few; rest = rest; client = client; plays = plays; then_is = it }
 
@@ -220,7 +220,7 @@ some_left x y next line it other = known_by x y (λ b a. IsNext b next line a) (
 -- ---- lines that are refused, and sources
 
 -- a step whose line is skipped
-pub skipped : {T : Type 0} (answer : Result T ScriptFault) (Does : List ℕ → List ℕ → Holder → Holder → Type 0) (IsShort : List ℕ → Type 0) (x y z : Ahead) (left : ℕ) (h : Holder)
+pub skipped : {T : Type 0} (answer : Result T ScriptFault) (Does : List ℕ → List ℕ → MemberView → MemberView → Type 0) (IsShort : List ℕ → Type 0) (x y z : Ahead) (left : ℕ) (h : MemberView)
     (P : List ℕ → List ℕ → Type 0) → Between x y P → OnOk answer (Between y z (λ b a. (rest : List ℕ) × IsLine b rest a))
     → IfErr answer (λ fault. (fault ≡ WriteFault) ⊎ IsNotRead y left fault)
     → ((b m a : List ℕ) → P b m → ((rest : List ℕ) × IsLine m rest a) → Does b a h h) → IsDone Does IsShort x z h h answer

@@ -6,7 +6,7 @@ use Rattle.cc_script.specs.Reading.{Ahead, Between, IsLine, IsNotRead}
 use Rattle.cc_script.specs.declared.fault.ScriptFault.{ScriptFault}
 use Rattle.cc_script.specs.declared.fault.ScriptFault.TheVariants.{WriteFault}
 use Rattle.cc_history.specs.declared.command.Command.{Command}
-use Rattle.cc_history.specs.History.{Holder}
+use Rattle.cc_history.specs.History.{MemberView}
 use Rattle.cc_service.specs.Serving.{PutAnswers}
 use Rattle.cc_session.specs.Playing.{Calls, IsSent}
 use Rattle.cc_session.specs.internal.Steps.{HasSent, IsDone, IsShortOf}
@@ -15,7 +15,7 @@ use Rattle.cc_session.proofs.Playing.{between_map, done_of, line_behind, skipped
 
 -- a source that was handed to the service
 pub put_step : {T : Type 0} (answer : Result T ScriptFault) (Asks : (name source : List ℕ) → Command → Type 0) (name : List ℕ) (bytes : Vec ℕ Global) (sent : List ℕ) → sent ≡ bytes.items
-    → (count : ℕ) (x y : Ahead) (old new : Holder) → Between x y (λ b a. HasSent b count (Source bytes) a)
+    → (count : ℕ) (x y : Ahead) (old new : MemberView) → Between x y (λ b a. HasSent b count (Source bytes) a)
     → IfErr answer (λ fault. fault ≡ WriteFault) → Calls (PutAnswers (Asks name sent) name sent old new)
     → IsDone (λ b a o n. IsSent Asks name count b a o n) (IsShortOf count) x y old new answer
 put_step answer Asks name bytes sent same count x y old new read unwritten called =
@@ -29,7 +29,7 @@ put_step answer Asks name bytes sent same count x y old new read unwritten calle
     }))
 
 -- one behind which another byte stands than a newline
-pub skip_step : {T : Type 0} (answer : Result T ScriptFault) (Asks : (name source : List ℕ) → Command → Type 0) (name : List ℕ) (count : ℕ) (x y z : Ahead) (left : ℕ) (h : Holder)
+pub skip_step : {T : Type 0} (answer : Result T ScriptFault) (Asks : (name source : List ℕ) → Command → Type 0) (name : List ℕ) (count : ℕ) (x y z : Ahead) (left : ℕ) (h : MemberView)
     → Between x y (λ b a. HasSent b count Unended a) → OnOk answer (Between y z (λ b a. (rest : List ℕ) × IsLine b rest a))
     → IfErr answer (λ fault. (fault ≡ WriteFault) ⊎ IsNotRead y left fault) → IsDone (λ b a o n. IsSent Asks name count b a o n) (IsShortOf count) x z h h answer
 skip_step answer Asks name count x y z left h read skips why =
@@ -47,7 +47,7 @@ skip_step answer Asks name count x y z left h read skips why =
     })
 
 -- one for which there was no room
-pub unsent_step : {T : Type 0} (answer : Result T ScriptFault) (Asks : (name source : List ℕ) → Command → Type 0) (name : List ℕ) (count : ℕ) (x y : Ahead) (h : Holder)
+pub unsent_step : {T : Type 0} (answer : Result T ScriptFault) (Asks : (name source : List ℕ) → Command → Type 0) (name : List ℕ) (count : ℕ) (x y : Ahead) (h : MemberView)
     → Between x y (λ b a. HasSent b count NoRoom a) → IfErr answer (λ fault. fault ≡ WriteFault)
     → IsDone (λ b a o n. IsSent Asks name count b a o n) (IsShortOf count) x y h h answer
 unsent_step answer Asks name count x y h read unwritten =

@@ -9,7 +9,7 @@ use Rattle.std.proofs.lemmas.List.Elements.{All-get_or}
 use Rattle.std.proofs.lemmas.Option.{none-some, slice_get-get_or, slice_get-map, slice_get_cases}
 use Rattle.cc_script.specs.declared.command.Dialect.TheVariants.{Served}
 use Rattle.cc_script.specs.declared.fault.ScriptFault.{ScriptFault}
-use Rattle.cc_history.specs.History.{Holder}
+use Rattle.cc_history.specs.History.{MemberView}
 use Rattle.cc_session.specs.Playing.{IsPlayedBy}
 use Rattle.cc_session.specs.Spooling.{AreDoneBy, Given, HasDone, HaveDone, IsDoneBy, most_lines}
 use Rattle.cc_session.specs.internal.Ends.{EndOf}
@@ -17,7 +17,7 @@ use Rattle.cc_session.specs.internal.Ends.{EndOf}
 -- ---- one script
 
 -- a script that was played is done
-pub done_by : {T : Type 0} (played : Result T ScriptFault) (end : Option ℕ) (script : Option (List ℕ)) (old new : Holder) → EndOf played end
+pub done_by : {T : Type 0} (played : Result T ScriptFault) (end : Option ℕ) (script : Option (List ℕ)) (old new : MemberView) → EndOf played end
     → IsPlayedBy Served most_lines script old new played → IsDoneBy script end old new
 done_by (Ok t) end script old new how is = subst (λ (e : Option ℕ). IsDoneBy script e old new) (sym how) is
 done_by (Err fault) end script old new how is = subst (λ (e : Option ℕ). IsDoneBy script e old new) (sym how) (fault, refl, is)
@@ -25,7 +25,7 @@ done_by (Err fault) end script old new how is = subst (λ (e : Option ℕ). IsDo
 -- ---- scripts in turn
 
 -- nothing was done
-pub done_same : (x y : Given) (h : Holder) → y.taken ≡ x.taken → y.ended ≡ x.ended → HasDone x h y h
+pub done_same : (x y : Given) (h : MemberView) → y.taken ≡ x.taken → y.ended ≡ x.ended → HasDone x h y h
 done_same x y h taken ended = record {
   scripts = [];
   ends = [];
@@ -35,7 +35,7 @@ done_same x y h taken ended = record {
 }
 
 -- one script was
-pub done_script : (x y : Given) (old new : Holder) (script : Option (List ℕ)) (end : Option ℕ) → y.taken ≡ x.taken ++ script ∷ [] → y.ended ≡ x.ended ++ end ∷ []
+pub done_script : (x y : Given) (old new : MemberView) (script : Option (List ℕ)) (end : Option ℕ) → y.taken ≡ x.taken ++ script ∷ [] → y.ended ≡ x.ended ++ end ∷ []
     → IsDoneBy script end old new → HasDone x old y new
 done_script x y old new script end taken ended done = record {
   scripts = script ∷ [];
@@ -45,14 +45,14 @@ done_script x y old new script end taken ended done = record {
   done = (new, done, refl);
 }
 
-are_done_on : (s t : List (Option (List ℕ))) (d e : List (Option ℕ)) (a b c : Holder) → AreDoneBy s d a b → AreDoneBy t e b c → AreDoneBy (s ++ t) (d ++ e) a c
-are_done_on [] t [] e a b c one two = subst (λ (h : Holder). AreDoneBy t e h c) one two
+are_done_on : (s t : List (Option (List ℕ))) (d e : List (Option ℕ)) (a b c : MemberView) → AreDoneBy s d a b → AreDoneBy t e b c → AreDoneBy (s ++ t) (d ++ e) a c
+are_done_on [] t [] e a b c one two = subst (λ (h : MemberView). AreDoneBy t e h c) one two
 are_done_on (x ∷ s) t (y ∷ d) e a b c one two = (one.0, one.1, are_done_on s t d e one.0 b c one.2 two)
 are_done_on [] t (y ∷ d) e a b c one two = absurd one
 are_done_on (x ∷ s) t [] e a b c one two = absurd one
 
 -- some, and then some more
-pub done_on : (x y z : Given) (a b c : Holder) → HasDone x a y b → HasDone y b z c → HasDone x a z c
+pub done_on : (x y z : Given) (a b c : MemberView) → HasDone x a y b → HasDone y b z c → HasDone x a z c
 done_on x y z a b c one two = record {
   scripts = one.scripts ++ two.scripts;
   ends = one.ends ++ two.ends;
@@ -75,31 +75,31 @@ at : {P B : Type 0} (xs : List P) (f : P → B) (i : ℕ) (d : P) (b : B) → i 
 at {P} {B} xs f i d b within is =
     from_some (f (get_or xs i d)) b (sym (slice_get-map f xs i ∙ ap (λ (o : Option P). option_map f o) (slice_get-get_or xs i d within)) ∙ is)
 
-done_as : (a b c d : Given) (first last other : Holder) → a ≡ c → b ≡ d → last ≡ other → HasDone a first b last → HasDone c first d other
+done_as : (a b c d : Given) (first last other : MemberView) → a ≡ c → b ≡ d → last ≡ other → HasDone a first b last → HasDone c first d other
 done_as a b c d first last other one two three it =
-    subst (λ (h : Holder). HasDone c first d h) three
+    subst (λ (h : MemberView). HasDone c first d h) three
     (subst (λ (g : Given). HasDone c first g last) two (subst (λ (g : Given). HasDone g first b last) one it))
 
-module _ {P : Type 0} (given : P → Given) (holder : P → Holder) where
+module _ {P : Type 0} (given : P → Given) (member : P → MemberView) where
   -- each client with its spool
   abbrev pub Each : (olds news : List P) → Type 0
-  Each olds news = (i : ℕ) (d : P) → i < length olds → HasDone (given (get_or olds i d)) (holder (get_or olds i d)) (given (get_or news i d)) (holder (get_or news i d))
+  Each olds news = (i : ℕ) (d : P) → i < length olds → HasDone (given (get_or olds i d)) (member (get_or olds i d)) (given (get_or news i d)) (member (get_or news i d))
 
-  each_at : (olds news : List P) → length news ≡ length olds → All (λ p. (holder p).receipts ≡ []) olds → Each olds news
-      → (i : ℕ) (old new : Given) (last : Holder) (x : P) → i < length olds → slice_get (map given olds) i ≡ Some old → slice_get (map given news) i ≡ Some new
-      → slice_get (map holder news) i ≡ Some last → (first : Holder) × (first.receipts ≡ []) × HasDone old first new last
+  each_at : (olds news : List P) → length news ≡ length olds → All (λ p. (member p).receipts ≡ []) olds → Each olds news
+      → (i : ℕ) (old new : Given) (last : MemberView) (x : P) → i < length olds → slice_get (map given olds) i ≡ Some old → slice_get (map given news) i ≡ Some new
+      → slice_get (map member news) i ≡ Some last → (first : MemberView) × (first.receipts ≡ []) × HasDone old first new last
   each_at olds news many fresh each i old new last x within at_old at_new at_last =
       let there : i < length news = omega (arith, many, within) in (
-        holder (get_or olds i x),
-        All-get_or (λ p. (holder p).receipts ≡ []) olds i x within fresh,
-        done_as _ _ old new _ _ last (at olds given i x old within at_old) (at news given i x new there at_new) (at news holder i x last there at_last) (each i x within),
+        member (get_or olds i x),
+        All-get_or (λ p. (member p).receipts ≡ []) olds i x within fresh,
+        done_as _ _ old new _ _ last (at olds given i x old within at_old) (at news given i x new there at_new) (at news member i x last there at_last) (each i x within),
       )
 
-  pub have_done : (olds news : List P) → length news ≡ length olds → All (λ p. (holder p).receipts ≡ []) olds → Each olds news
-      → HaveDone (map given olds) (map given news) (map holder news)
+  pub have_done : (olds news : List P) → length news ≡ length olds → All (λ p. (member p).receipts ≡ []) olds → Each olds news
+      → HaveDone (map given olds) (map given news) (map member news)
   have_done olds news many fresh each = record {
     many = length-map news given ∙ (many ∙ sym (length-map olds given));
-    all = length-map news holder ∙ (many ∙ sym (length-map olds given));
+    all = length-map news member ∙ (many ∙ sym (length-map olds given));
     each = λ i old new last at_old at_new at_last.
         elim (slice_get_cases olds i).1 [
           | inl here ↦ each_at olds news many fresh each i old new last here.0 here.1 at_old at_new at_last
@@ -112,27 +112,27 @@ whole : {P : Type 0} (n : ℕ) (news rest : List P) → length news ≡ n → ta
 whole n news rest many = subst (λ (m : ℕ). take m (news ++ rest) ≡ news) many (take-append_seam news rest)
 
 -- so of clients with their spools, which are taken apart then
-module _ {P S C : Type 0} (spool : P → S) (client : P → C) (by : S → Given) (holder : C → Holder) where
+module _ {P S C : Type 0} (spool : P → S) (client : P → C) (by : S → Given) (member : C → MemberView) where
   pub have_done_by : (olds news rest : List P) (given left : List S) (clients : List C) (n : ℕ) → map spool olds ≡ given → length news ≡ n → length olds ≡ n
-      → All (λ p. (holder (client p)).receipts ≡ []) olds → Each (λ p. by (spool p)) (λ p. holder (client p)) olds news
-      → left ≡ map spool (take n (news ++ rest)) → clients ≡ map client (take n (news ++ rest)) → HaveDone (map by given) (map by left) (map holder clients)
+      → All (λ p. (member (client p)).receipts ≡ []) olds → Each (λ p. by (spool p)) (λ p. member (client p)) olds news
+      → left ≡ map spool (take n (news ++ rest)) → clients ≡ map client (take n (news ++ rest)) → HaveDone (map by given) (map by left) (map member clients)
   have_done_by olds news rest given left clients n all many many_old fresh each lefts hired =
       let posts = whole n news rest many in
-      let done = have_done (λ p. by (spool p)) (λ p. holder (client p)) olds news (many ∙ sym many_old) fresh each in
+      let done = have_done (λ p. by (spool p)) (λ p. member (client p)) olds news (many ∙ sym many_old) fresh each in
       let before = sym (map-map by spool olds) ∙ ap (λ (l : List S). map by l) all in
       let after = sym (map-map by spool news) ∙ ap (λ (l : List S). map by l) (sym (lefts ∙ ap (λ (l : List P). map spool l) posts)) in
-      let who = sym (map-map holder client news) ∙ ap (λ (l : List C). map holder l) (sym (hired ∙ ap (λ (l : List P). map client l) posts)) in
-      subst (λ (l : List Given). HaveDone l (map by left) (map holder clients)) before
-      (subst (λ (l : List Given). HaveDone (map (λ p. by (spool p)) olds) l (map holder clients)) after
-      (subst (λ (l : List Holder). HaveDone (map (λ p. by (spool p)) olds) (map (λ p. by (spool p)) news) l) who done))
+      let who = sym (map-map member client news) ∙ ap (λ (l : List C). map member l) (sym (hired ∙ ap (λ (l : List P). map client l) posts)) in
+      subst (λ (l : List Given). HaveDone l (map by left) (map member clients)) before
+      (subst (λ (l : List Given). HaveDone (map (λ p. by (spool p)) olds) l (map member clients)) after
+      (subst (λ (l : List MemberView). HaveDone (map (λ p. by (spool p)) olds) (map (λ p. by (spool p)) news) l) who done))
 
 -- clients that have made no call
-pub none_of : {C : Type 0} (holder : C → Holder) (xs : List C) → All (λ c. (holder c).receipts ≡ []) xs → (i : ℕ) (client : Holder) → slice_get (map holder xs) i ≡ Some client
+pub none_of : {C : Type 0} (member : C → MemberView) (xs : List C) → All (λ c. (member c).receipts ≡ []) xs → (i : ℕ) (client : MemberView) → slice_get (map member xs) i ≡ Some client
     → client.receipts ≡ []
-none_of {C} holder xs fresh i client is =
+none_of {C} member xs fresh i client is =
     elim (slice_get_cases xs i).1 [
       | inl here ↦
-          subst (λ (h : Holder). h.receipts ≡ []) (at xs holder i here.0 client here.1 is)
-          (All-get_or (λ c. (holder c).receipts ≡ []) xs i here.0 here.1 fresh)
-      | inr past ↦ absurd (none-some client (sym (slice_get-map holder xs i ∙ ap (λ (o : Option C). option_map holder o) past.1) ∙ is))
+          subst (λ (h : MemberView). h.receipts ≡ []) (at xs member i here.0 client here.1 is)
+          (All-get_or (λ c. (member c).receipts ≡ []) xs i here.0 here.1 fresh)
+      | inr past ↦ absurd (none-some client (sym (slice_get-map member xs i ∙ ap (λ (o : Option C). option_map member o) past.1) ∙ is))
     ]

@@ -6,7 +6,7 @@ use Rattle.cc_library.specs.Apply.{Units}
 use Rattle.cc_library.specs.Recovered.{Recovers}
 use Rattle.cc_history.specs.declared.entry.Entry.{Entry}
 use Rattle.cc_history.specs.Closing.{AreOwn, IsClosed, IsNotWhole}
-use Rattle.cc_history.specs.History.{Holder}
+use Rattle.cc_history.specs.History.{MemberView}
 use Rattle.cc_service.specs.Book.{BookView}
 use Rattle.cc_service.specs.Fault.{fault_number}
 use Rattle.cc_service.specs.Promise.{IsSound}
@@ -26,16 +26,16 @@ IsUnopened honest seen before after (Fault number) =
     (base : Units) × (fault : ServiceFault) × (number ≡ fault_number fault) × IsNotOpened honest seen base before after fault
 
 -- One client was made for the script. From no receipt on it is what the script, where its reader's bytes are known, makes of it.
-pub record HasCalled (script : Option (List ℕ)) (clients : List Holder) (Plays : List ℕ → Holder → Holder → Type 0) : Type 0 where
-  pub first : Holder
-  pub last : Holder
+pub record HasCalled (script : Option (List ℕ)) (clients : List MemberView) (Plays : List ℕ → MemberView → MemberView → Type 0) : Type 0 where
+  pub first : MemberView
+  pub last : MemberView
   pub none : first.receipts ≡ []
   pub plays : IfSome script (λ bytes. Plays bytes first last)
   pub alone : clients ≡ last ∷ []
 
 -- How the script of a session, a plain one, ended, and what it made of the clients: it was done; or the service has no client for it, 30; or one of 51 to 54
 -- ended it.
-abbrev pub HaveCalled : (script : Option (List ℕ)) (clients : List Holder) → (played : SessionEnd) → Type 0
+abbrev pub HaveCalled : (script : Option (List ℕ)) (clients : List MemberView) → (played : SessionEnd) → Type 0
 HaveCalled script clients Finished = HasCalled script clients (IsPlayed Plain None)
 HaveCalled script clients (Fault number) =
     ((number ≡ 30) × (clients ≡ []))
@@ -52,7 +52,7 @@ told_after number (Fault first) = Fault first
 -- it holds each change that was acknowledged, in order. Whatever one left since this moment it left before the opening, or it recovers to the
 -- first map with the changes of the first calls, or with that failed one. Each unit in it was there before or agrees with its source.
 pub record IsLeft {Disk : Type 0} (D : Ghosts Disk) (bytes : List ℕ) (from : ℕ) (left : List ℕ → Type 0)
-    (Holds : (history : List Entry) (clients : List Holder) → Type 0) (clients : List Holder) (after : Disk) : Type 0 where
+    (Holds : (history : List Entry) (clients : List MemberView) → Type 0) (clients : List MemberView) (after : Disk) : Type 0 where
   pub base : Units
   pub begun : IsTrue D.honest → Recovers bytes base
   pub book : BookView Disk
@@ -65,27 +65,27 @@ pub record IsLeft {Disk : Type 0} (D : Ghosts Disk) (bytes : List ℕ) (from : �
 -- entries. How the work ended is told; or 40, where it was done and the service had no memory to end.
 -- Or it was given up: a receipt does not stand in the history, or that has more entries, or two clients have one number. How the work ended is
 -- told, where a fault ended it; else 39, or 40 where there was no memory to see that.
-abbrev pub IsEnded : {Disk : Type 0} (D : Ghosts Disk) (bytes : List ℕ) (from : ℕ) (left : List ℕ → Type 0) (clients : List Holder) (played end : SessionEnd) (after : Disk) → Type 0
+abbrev pub IsEnded : {Disk : Type 0} (D : Ghosts Disk) (bytes : List ℕ) (from : ℕ) (left : List ℕ → Type 0) (clients : List MemberView) (played end : SessionEnd) (after : Disk) → Type 0
 IsEnded D bytes from left clients played end after =
     (((end ≡ played) ⊎ (end ≡ told_after 40 played)) × IsLeft D bytes from left IsClosed clients after)
     ⊎ (((end ≡ told_after 39 played) ⊎ (end ≡ told_after 40 played)) × IsLeft D bytes from left IsNotWhole clients after)
 
 -- so of clients that worked so, by how their work ended
 abbrev pub HasEnded : {Disk : Type 0} (D : Ghosts Disk) (bytes : List ℕ) (from : ℕ) (left : List ℕ → Type 0)
-    (Worked : (clients : List Holder) (played : SessionEnd) → Type 0) → SessionEnd → (after : Disk) → Type 0
+    (Worked : (clients : List MemberView) (played : SessionEnd) → Type 0) → SessionEnd → (after : Disk) → Type 0
 HasEnded D bytes from left Worked end after =
-    (clients : List Holder) × (played : SessionEnd) × Worked clients played × IsEnded D bytes from left clients played end after
+    (clients : List MemberView) × (played : SessionEnd) × Worked clients played × IsEnded D bytes from left clients played end after
 
 -- How a service ends that began with this disk, where until then a crash had left this since a moment. It was not opened, an honest disk was
 -- read at most, and `Untouched` holds; or it was ended or given up, with clients that worked so.
 abbrev pub EndsSince : {Disk : Type 0} (D : Ghosts Disk) (from : ℕ) (left : List ℕ → Type 0) (Untouched : Type 0)
-    (Worked : (clients : List Holder) (played : SessionEnd) → Type 0) (before after : Disk) → SessionEnd → Type 0
+    (Worked : (clients : List MemberView) (played : SessionEnd) → Type 0) (before after : Disk) → SessionEnd → Type 0
 EndsSince D from left Untouched Worked before after end =
     (IsUnopened D.honest (D.seen before) (D.failures before) (D.failures after) end × (IsTrue D.honest → OnlyReads D.seen D.may_leave D.moment D.left_since before after) × Untouched)
     ⊎ HasEnded D (D.seen before) from left Worked end after
 
 -- so of one that began with this disk, and what a crash at any moment of it has left, beside what it may have left at its beginning
-abbrev pub ServiceEnds : {Disk : Type 0} (D : Ghosts Disk) (Untouched : Type 0) (Worked : (clients : List Holder) (played : SessionEnd) → Type 0)
+abbrev pub ServiceEnds : {Disk : Type 0} (D : Ghosts Disk) (Untouched : Type 0) (Worked : (clients : List MemberView) (played : SessionEnd) → Type 0)
     (before after : Disk) → SessionEnd → Type 0
 ServiceEnds D Untouched Worked before after end =
     EndsSince D (D.moment before) (D.may_leave before) Untouched Worked before after end

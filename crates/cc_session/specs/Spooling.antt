@@ -1,7 +1,7 @@
 -- Many clients of one service, each of which does the scripts that its spool gives.
 use Rattle.std.specs.Prelude.{◌≡◌, ℕ, List, [], ◌∷◌, ◌++◌, length, Option, Some, None, IfSome, slice_get}
 use Rattle.cc_disk.specs.declared.disk.Disk.{Ghosts}
-use Rattle.cc_history.specs.History.{Holder}
+use Rattle.cc_history.specs.History.{MemberView}
 use Rattle.cc_script.specs.Fault as faults
 use Rattle.cc_script.specs.declared.command.Dialect.TheVariants.{Served}
 use Rattle.cc_script.specs.declared.fault.ScriptFault.{ScriptFault}
@@ -18,14 +18,14 @@ most_lines = Some 65536
 
 -- What the client made of a script of a spool, which is a served one, where its bytes are known, by how it is told that it ended: all of it is done; or a fault that ends scripts
 -- ended it, whose number is told, and it is done as far as that says.
-abbrev pub IsDoneBy : (script : Option (List ℕ)) (end : Option ℕ) (old new : Holder) → Type 0
+abbrev pub IsDoneBy : (script : Option (List ℕ)) (end : Option ℕ) (old new : MemberView) → Type 0
 IsDoneBy script None old new = IfSome script (λ bytes. IsPlayed Served most_lines bytes old new)
 IsDoneBy script (Some number) old new = (fault : ScriptFault) × (number ≡ faults.fault_number fault) × IsStopped Served most_lines script old new fault
 
 -- scripts in turn, each with how it ended
-abbrev pub AreDoneBy : (scripts : List (Option (List ℕ))) (ends : List (Option ℕ)) (old new : Holder) → Type 0
+abbrev pub AreDoneBy : (scripts : List (Option (List ℕ))) (ends : List (Option ℕ)) (old new : MemberView) → Type 0
 AreDoneBy [] [] old new = new ≡ old
-AreDoneBy (script ∷ scripts) (end ∷ ends) old new = (between : Holder) × IsDoneBy script end old between × AreDoneBy scripts ends between new
+AreDoneBy (script ∷ scripts) (end ∷ ends) old new = (between : MemberView) × IsDoneBy script end old between × AreDoneBy scripts ends between new
 AreDoneBy [] (end ∷ ends) old new = ⊥
 AreDoneBy (script ∷ scripts) [] old new = ⊥
 
@@ -38,7 +38,7 @@ abbrev pub given_by : {S : Type 0} (taken : S → List (Option (List ℕ))) (end
 given_by taken ended spool = record { taken = taken spool; ended = ended spool }
 
 -- From one moment to the next a spool gave some scripts, and was handed an answer for each, in turn. A client did them, and called nothing else.
-pub record HasDone (before : Given) (old : Holder) (after : Given) (new : Holder) : Type 0 where
+pub record HasDone (before : Given) (old : MemberView) (after : Given) (new : MemberView) : Type 0 where
   pub scripts : List (Option (List ℕ))
   pub ends : List (Option ℕ)
   pub taken : after.taken ≡ before.taken ++ scripts
@@ -48,18 +48,18 @@ pub record HasDone (before : Given) (old : Holder) (after : Given) (new : Holder
 -- ---- all clients
 
 -- Each spool has a client, the one at its place, which began without a receipt and did what its own spool gave.
-pub record HaveDone (before after : List Given) (clients : List Holder) : Type 0 where
+pub record HaveDone (before after : List Given) (clients : List MemberView) : Type 0 where
   pub many : length after ≡ length before
   pub all : length clients ≡ length before
-  pub each : (i : ℕ) (old new : Given) (last : Holder) → slice_get before i ≡ Some old → slice_get after i ≡ Some new → slice_get clients i ≡ Some last
-      → (first : Holder) × (first.receipts ≡ []) × HasDone old first new last
+  pub each : (i : ℕ) (old new : Given) (last : MemberView) → slice_get before i ≡ Some old → slice_get after i ≡ Some new → slice_get clients i ≡ Some last
+      → (first : MemberView) × (first.receipts ≡ []) × HasDone old first new last
 
 -- What the clients of the spools did, by how their work ended: all that these gave; or nothing, where the service has no client for a spool, 30:
 -- then no script was taken and no answer handed over.
-abbrev pub HaveServed : (before after : List Given) (clients : List Holder) → SessionEnd → Type 0
+abbrev pub HaveServed : (before after : List Given) (clients : List MemberView) → SessionEnd → Type 0
 HaveServed before after clients Finished = HaveDone before after clients
 HaveServed before after clients (Fault number) =
-    (number ≡ 30) × (after ≡ before) × ((i : ℕ) (client : Holder) → slice_get clients i ≡ Some client → client.receipts ≡ [])
+    (number ≡ 30) × (after ≡ before) × ((i : ℕ) (client : MemberView) → slice_get clients i ≡ Some client → client.receipts ≡ [])
 
 -- How serving ends that began with this disk and these spools: as the service ends whose clients do what the spools give, and where it was not
 -- opened no script was taken and no answer handed over.

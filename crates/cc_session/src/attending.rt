@@ -6,7 +6,7 @@ ghost use Rattle.cc_session.specs.Spooling.{HasDone, IsDoneBy, given_by};
 ghost use Rattle.cc_session.specs.internal.Ends.{EndOf};
 
 use crate::bounds::Meter;
-use crate::calls::Caller;
+use crate::calls::Player;
 use crate::reading::Reading;
 use cc_answers::Teller;
 use cc_disk::Disk;
@@ -42,15 +42,15 @@ where
     N: Named + Send + Sync + 'static,
     H: Wait,
     D: Disk,
-    ensures { IsPlayedBy dialect most (R.remaining reader.old) client.old.holder client.new.holder result }
+    ensures { IsPlayedBy dialect most (R.remaining reader.old) client.old.member client.new.member result }
 {
     let mut script = Reading::new(reader);
     let mut teller = Teller {
         answers: writer,
         explanations,
     };
-    let caller = Caller { rt, alloc, service };
-    match caller.play(client, &mut script, &mut teller, dialect, most) {
+    let player = Player { rt, alloc, service };
+    match player.play(client, &mut script, &mut teller, dialect, most) {
         Ok(()) => Ok(()),
         Err(fault) => match teller.tell_fault(fault) {
             Ok(()) => Err(fault),
@@ -86,7 +86,7 @@ where
     S: Spool,
     D: Disk,
     ensures taken { S.taken spool.new ≡ S.taken spool.old }
-    ensures done { (end : Option ℕ) × (S.ended spool.new ≡ S.ended spool.old ++ end ∷ []) × IsDoneBy (S.Script.remaining script) end client.old.holder client.new.holder }
+    ensures done { (end : Option ℕ) × (S.ended spool.new ≡ S.ended spool.old ++ end ∷ []) × IsDoneBy (S.Script.remaining script) end client.old.member client.new.member }
 {
     let played = play(
         rt,
@@ -117,7 +117,7 @@ where
     H: Wait,
     S: Spool,
     D: Disk,
-    ensures { HasDone (given_by S.taken S.ended spool.old) client.old.holder (given_by S.taken S.ended spool.new) client.new.holder }
+    ensures { HasDone (given_by S.taken S.ended spool.old) client.old.member (given_by S.taken S.ended spool.new) client.new.member }
 {
     if spool.is_over() {
         return false;
@@ -154,7 +154,7 @@ where
     H: Wait,
     S: Spool,
     D: Disk,
-    ensures { HasDone (given_by S.taken S.ended spool.old) client.old.holder (given_by S.taken S.ended spool.new) client.new.holder }
+    ensures { HasDone (given_by S.taken S.ended spool.old) client.old.member (given_by S.taken S.ended spool.new) client.new.member }
 {
     for _ in rt.forever() {
         if !attend_one(rt, alloc, service, client, spool, meter) {

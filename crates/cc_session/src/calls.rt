@@ -24,15 +24,15 @@ use std::alloc::Global;
 use std::io::{Read, Write};
 use std::sync::Wait;
 
-// What the clients of a service call it with.
+// What plays the scripts of a service's clients.
 #[derive(Drop)]
-pub(crate) struct Caller<'a, N: Named, H, D: Disk> {
+pub(crate) struct Player<'a, N: Named, H, D: Disk> {
     pub(crate) rt: &'a H,
     pub(crate) alloc: Global,
     pub(crate) service: &'a Service<N, D>,
 }
 
-impl<'a, N: Named + Send + Sync + 'static, H: Wait, D: Disk> Caller<'a, N, H, D> {
+impl<'a, N: Named + Send + Sync + 'static, H: Wait, D: Disk> Player<'a, N, H, D> {
     // Adds or replaces a unit, whose source this is.
     fn change<W: Write, E: Write>(
         &self,
@@ -43,7 +43,7 @@ impl<'a, N: Named + Send + Sync + 'static, H: Wait, D: Disk> Caller<'a, N, H, D>
         source: &[u8],
     ) -> Result<(), ScriptFault>
         ensures told { Tells result }
-        ensures called { Calls (PutAnswers (Puts put name.now source.now) name.now source.now client.old.holder client.new.holder) }
+        ensures called { Calls (PutAnswers (Puts put name.now source.now) name.now source.now client.old.member client.new.member) }
     {
         let answer = self
             .service
@@ -62,7 +62,7 @@ impl<'a, N: Named + Send + Sync + 'static, H: Wait, D: Disk> Caller<'a, N, H, D>
         length: usize,
     ) -> Result<(), ScriptFault>
         ensures { IsDone (λ before after old new. IsSent (Puts put) name.now length before after old new) (IsShortOf length) script.old script.new
-            client.old.holder client.new.holder result }
+            client.old.member client.new.member result }
     {
         match script.source(self.alloc, length)? {
             Sent::Source(source) => self.change(client, teller, put, name, source.as_slice()),
@@ -78,7 +78,7 @@ impl<'a, N: Named + Send + Sync + 'static, H: Wait, D: Disk> Caller<'a, N, H, D>
         name: &[u8],
     ) -> Result<(), ScriptFault>
         ensures told { Tells result }
-        ensures called { Calls (WithdrawAnswers name.now client.old.holder client.new.holder) }
+        ensures called { Calls (WithdrawAnswers name.now client.old.member client.new.member) }
     {
         let answer = self.service.withdraw(self.rt, self.alloc, client, name);
         tell_change(self.alloc, teller, answer, &[])
@@ -90,7 +90,7 @@ impl<'a, N: Named + Send + Sync + 'static, H: Wait, D: Disk> Caller<'a, N, H, D>
         teller: &mut Teller<W, E>,
     ) -> Result<(), ScriptFault>
         ensures told { Tells result }
-        ensures called { Calls (ListAnswers client.old.holder client.new.holder) }
+        ensures called { Calls (ListAnswers client.old.member client.new.member) }
     {
         match self.service.list(self.rt, self.alloc, client) {
             Ok(listing) => {
@@ -124,7 +124,7 @@ impl<'a, N: Named + Send + Sync + 'static, H: Wait, D: Disk> Caller<'a, N, H, D>
         steps: u64,
     ) -> Result<(), ScriptFault>
         ensures told { Tells result }
-        ensures called { Calls (GetAnswers name.now client.old.holder client.new.holder) }
+        ensures called { Calls (GetAnswers name.now client.old.member client.new.member) }
     {
         match self.service.get(self.rt, self.alloc, client, name) {
             Ok(found) => self.run_found(teller, found, steps),
@@ -141,7 +141,7 @@ impl<'a, N: Named + Send + Sync + 'static, H: Wait, D: Disk> Caller<'a, N, H, D>
         part: Part,
     ) -> Result<(), ScriptFault>
         ensures told { Tells result }
-        ensures called { Calls (GetAnswers name.now client.old.holder client.new.holder) }
+        ensures called { Calls (GetAnswers name.now client.old.member client.new.member) }
     {
         match self.service.get(self.rt, self.alloc, client, name) {
             Ok(found) => self.show_found(teller, found, part),
@@ -200,8 +200,8 @@ impl<'a, N: Named + Send + Sync + 'static, H: Wait, D: Disk> Caller<'a, N, H, D>
         name: &[u8],
     ) -> Result<bool, ScriptFault>
         ensures told { Tells result }
-        ensures called { Calls (GetAnswers name.now client.old.holder client.new.holder) }
-        ensures found { IfOk result (λ is_audited. IsTrue is_audited → (receipt : Receipt) × GetAnswers name.now client.old.holder client.new.holder (Ok receipt)) }
+        ensures called { Calls (GetAnswers name.now client.old.member client.new.member) }
+        ensures found { IfOk result (λ is_audited. IsTrue is_audited → (receipt : Receipt) × GetAnswers name.now client.old.member client.new.member (Ok receipt)) }
     {
         match self.service.get(self.rt, self.alloc, client, name) {
             Ok(found) => self.tell_audit(teller, name, found),
@@ -220,8 +220,8 @@ impl<'a, N: Named + Send + Sync + 'static, H: Wait, D: Disk> Caller<'a, N, H, D>
         names: &[Name],
     ) -> Result<bool, ScriptFault>
         ensures told { Tells result }
-        ensures whole { IfOk result (λ all. FetchesEach names.now all client.old.holder client.new.holder) }
-        ensures part { IfErr result (λ fault. FetchesEach names.now false client.old.holder client.new.holder) }
+        ensures whole { IfOk result (λ all. FetchesEach names.now all client.old.member client.new.member) }
+        ensures part { IfErr result (λ fault. FetchesEach names.now false client.old.member client.new.member) }
     {
         for name in names {
             if !self.audit_name(client, teller, name.bytes())? {
@@ -238,7 +238,7 @@ impl<'a, N: Named + Send + Sync + 'static, H: Wait, D: Disk> Caller<'a, N, H, D>
         teller: &mut Teller<W, E>,
     ) -> Result<(), ScriptFault>
         ensures told { Tells result }
-        ensures called { Audits client.old.holder client.new.holder }
+        ensures called { Audits client.old.member client.new.member }
     {
         match self.service.list(self.rt, self.alloc, client) {
             Ok(listing) => match self.audit_names(client, teller, listing.names().as_slice()) {
@@ -261,7 +261,7 @@ impl<'a, N: Named + Send + Sync + 'static, H: Wait, D: Disk> Caller<'a, N, H, D>
         line: &[u8],
     ) -> Result<(), ScriptFault>
         ensures { IsDone (λ before after old new. Obeys (asked_of dialect line.now) before after old new) (λ rest. IsCutShort (asked_of dialect line.now) rest)
-            script.old script.new client.old.holder client.new.holder result }
+            script.old script.new client.old.member client.new.member result }
     {
         match command_of(dialect, line) {
             Some(ScriptCommand::Add { name, length }) => {
@@ -291,7 +291,7 @@ impl<'a, N: Named + Send + Sync + 'static, H: Wait, D: Disk> Caller<'a, N, H, D>
         most: Option<usize>,
     ) -> Result<(), ScriptFault>
         requires { script.old.left ≡ 16777216 }
-        ensures { IsPlayedBy dialect most script.old.rest client.old.holder client.new.holder result }
+        ensures { IsPlayedBy dialect most script.old.rest client.old.member client.new.member result }
     {
         let mut line = [0u8; LINE_BYTES];
         // Each line but the last takes a byte at least.

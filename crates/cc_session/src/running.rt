@@ -7,11 +7,11 @@ ghost use Rattle.cc_library.specs.Answers.{OpenFaults};
 ghost use Rattle.cc_library.specs.Apply.{Units};
 ghost use Rattle.cc_library.specs.Recovered.{Recovers};
 ghost use Rattle.cc_service.specs.Since.{IsPast};
-ghost use Rattle.cc_service.specs.Client.{holders};
+ghost use Rattle.cc_service.specs.Client.{members};
 ghost use Rattle.cc_session.specs.Session.{EndsSince, HaveCalled, IsEnded, SessionEnds, told_after};
 ghost use Rattle.cc_session.specs.internal.Steps.{EndsFor};
 
-use crate::calls::Caller;
+use crate::calls::Player;
 use crate::end::SessionEnd;
 use crate::reading::Reading;
 use crate::telling::refused;
@@ -112,12 +112,12 @@ where
     requires room { vec_len clients.old < vec_capacity clients.old }
     requires none { clients.old.items ≡ [] }
     requires fresh { script.old.left ≡ 16777216 }
-    ensures { HaveCalled script.old.rest (holders clients.new.items) result }
+    ensures { HaveCalled script.old.rest (members clients.new.items) result }
 {
     match service.client(rt, alloc) {
         Ok(mut client) => {
-            let caller = Caller { rt, alloc, service };
-            let played = caller.play(&mut client, script, teller, Dialect::Plain, None);
+            let player = Player { rt, alloc, service };
+            let played = player.play(&mut client, script, teller, Dialect::Plain, None);
             clients.push_reserved(client);
             ended(teller, played)
         }
@@ -150,7 +150,7 @@ where
     D: Disk,
     // Whatever bytes those were that recover to the map that the service's type names.
     ensures { (bytes : List ℕ) → (IsTrue D.honest → Recovers bytes N.base)
-        → IsEnded D.Disk bytes N.from N.left (holders clients.items) played result.1 result.0 }
+        → IsEnded D.Disk bytes N.from N.left (members clients.items) played result.1 result.0 }
 {
     match service.finish(rt, alloc, clients) {
         Ok(closed) => (disk_of(closed), played),

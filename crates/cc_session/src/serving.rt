@@ -7,7 +7,7 @@ ghost use Rattle.std.specs.Prelude.{◌≡◌, ◌≤◌, ◌<◌, ℕ, All, Lis
 ghost use Rattle.std.specs.Vec.{vec_capacity};
 ghost use Rattle.cc_library.specs.Apply.{Units};
 ghost use Rattle.cc_library.specs.Recovered.{Recovers};
-ghost use Rattle.cc_service.specs.Client.{holders};
+ghost use Rattle.cc_service.specs.Client.{members};
 ghost use Rattle.cc_service.specs.Fault.{fault_number};
 ghost use Rattle.cc_service.specs.Since.{IsPast};
 ghost use Rattle.cc_service.specs.declared.fault.ServiceFault.TheVariants.{TooManyClients};
@@ -77,7 +77,7 @@ where
     D: Disk,
     requires room { count ≤ vec_capacity clients.old }
     requires none { clients.old.items ≡ [] }
-    ensures fresh { All (λ c. c.holder.receipts ≡ []) clients.new.items }
+    ensures fresh { All (λ c. c.member.receipts ≡ []) clients.new.items }
     ensures all { OnOk result (vec_len clients.new ≡ count) }
     ensures capacity { vec_capacity clients.new ≡ vec_capacity clients.old }
     ensures refused { IfErr result (λ fault. fault ≡ TooManyClients) }
@@ -95,11 +95,11 @@ fn pair<N: Named, S: Drop>(
     posts: &mut Vec<Post<N, S>>,
 )
     requires many { vec_len clients.old ≡ vec_len spools }
-    requires fresh { All (λ c. c.holder.receipts ≡ []) clients.old.items }
+    requires fresh { All (λ c. c.member.receipts ≡ []) clients.old.items }
     requires room { vec_len spools ≤ vec_capacity posts.old }
     requires none { posts.old.items ≡ [] }
     ensures spools { map (λ p. p.spool) posts.new.items ≡ spools.items }
-    ensures fresh { All (λ p. p.client.holder.receipts ≡ []) posts.new.items }
+    ensures fresh { All (λ p. p.client.member.receipts ≡ []) posts.new.items }
     ensures paired { clients.new.items ≡ [] }
     ensures capacity { vec_capacity clients.new ≡ vec_capacity clients.old }
 {
@@ -143,7 +143,7 @@ where
     H: Wait,
     S: Spool,
     D: Disk,
-    ensures { HasDone (given_by S.taken S.ended post.old.spool) post.old.client.holder (given_by S.taken S.ended post.new.spool) post.new.client.holder }
+    ensures { HasDone (given_by S.taken S.ended post.old.spool) post.old.client.member (given_by S.taken S.ended post.new.spool) post.new.client.member }
 {
     attend(rt, alloc, service, &mut post.client, &mut post.spool, meter);
 }
@@ -163,8 +163,8 @@ where
     S: Spool + Send,
     D: Disk + Send,
     ensures { (i : ℕ) (d : _) → i < length posts.old → HasDone
-        (given_by S.taken S.ended (slice_index_or posts.old i d).spool) (slice_index_or posts.old i d).client.holder
-        (given_by S.taken S.ended (slice_index_or posts.new i d).spool) (slice_index_or posts.new i d).client.holder }
+        (given_by S.taken S.ended (slice_index_or posts.old i d).spool) (slice_index_or posts.old i d).client.member
+        (given_by S.taken S.ended (slice_index_or posts.new i d).spool) (slice_index_or posts.new i d).client.member }
 {
     let count = posts.len();
     if count == 0 {
@@ -208,7 +208,7 @@ where
     requires posts { (room.posts.items ≡ []) × (vec_len spools ≤ vec_capacity room.posts) }
     requires clients { (room.clients.items ≡ []) × (vec_len spools ≤ vec_capacity room.clients) }
     requires spools { (room.spools.items ≡ []) × (vec_len spools ≤ vec_capacity room.spools) }
-    ensures { HaveServed (map (given_by S.taken S.ended) spools.items) (map (given_by S.taken S.ended) result.spools.items) (holders result.clients.items) result.end }
+    ensures { HaveServed (map (given_by S.taken S.ended) spools.items) (map (given_by S.taken S.ended) result.spools.items) (members result.clients.items) result.end }
 {
     let Room {
         mut posts,

@@ -7,7 +7,7 @@ use Rattle.cc_script.specs.declared.script.NextLine.{NextLine}
 use Rattle.cc_script.specs.declared.script.NextLine.TheVariants.{Line, TooLong, End}
 use Rattle.cc_script.specs.declared.fault.ScriptFault.{ScriptFault}
 use Rattle.cc_script.specs.declared.fault.ScriptFault.TheVariants.{BadLine, EndOfScript, ScriptTooLong, ReadFault, WriteFault}
-use Rattle.cc_history.specs.History.{Holder}
+use Rattle.cc_history.specs.History.{MemberView}
 use Rattle.cc_session.specs.declared.end.SessionEnd.{SessionEnd}
 use Rattle.cc_session.specs.declared.end.SessionEnd.TheVariants.{Finished, Fault}
 use Rattle.cc_session.specs.declared.reading.Sent.{Sent}
@@ -43,7 +43,7 @@ IsShortOf count rest = length rest < count
 
 -- Why a step was not done to its end. 51 where the bytes that its line needs are not there, 52 where more are left than the script may have, and
 -- 53: then nothing was done of it. 54: nothing was, or the step whose answer could not be written.
-abbrev pub IsNotDone : (Does : List ℕ → List ℕ → Holder → Holder → Type 0) (IsShort : List ℕ → Type 0) (before : Ahead) (old new : Holder) → ScriptFault → Type 0
+abbrev pub IsNotDone : (Does : List ℕ → List ℕ → MemberView → MemberView → Type 0) (IsShort : List ℕ → Type 0) (before : Ahead) (old new : MemberView) → ScriptFault → Type 0
 IsNotDone Does IsShort before old new BadLine = ⊥
 IsNotDone Does IsShort before old new EndOfScript = (new ≡ old) × IfSome before.rest IsShort
 IsNotDone Does IsShort before old new ScriptTooLong = (new ≡ old) × HasMore before
@@ -51,7 +51,7 @@ IsNotDone Does IsShort before old new ReadFault = new ≡ old
 IsNotDone Does IsShort before old new WriteFault = IfSome before.rest (λ b. (new ≡ old) ⊎ ((a : List ℕ) × Does b a old new))
 
 -- the step was done where it was answered
-abbrev pub IsDone : {T : Type 0} → (Does : List ℕ → List ℕ → Holder → Holder → Type 0) (IsShort : List ℕ → Type 0) (before after : Ahead) (old new : Holder) → Result T ScriptFault → Type 0
+abbrev pub IsDone : {T : Type 0} → (Does : List ℕ → List ℕ → MemberView → MemberView → Type 0) (IsShort : List ℕ → Type 0) (before after : Ahead) (old new : MemberView) → Result T ScriptFault → Type 0
 IsDone Does IsShort before after old new (Ok done) = Between before after (λ b a. Does b a old new)
 IsDone Does IsShort before after old new (Err fault) = IsNotDone Does IsShort before old new fault
 

@@ -5,8 +5,8 @@ use Rattle.std.proofs.lemmas.List.{length-map, take_all}
 use Rattle.std.proofs.lemmas.List.Sums.{sum_by_more}
 use Rattle.std.proofs.lemmas.Option.{get_or_from_slice_get, slice_get_read, slice_get_within}
 use Rattle.cc_history.specs.Closing.{receipts_of}
-use Rattle.cc_history.specs.History.{Holder, IsOwn}
-use Rattle.cc_recorded.proofs.Holding.{client_at, holder_at}
+use Rattle.cc_history.specs.History.{MemberView, IsOwn}
+use Rattle.cc_recorded.proofs.Holding.{client_at, member_at}
 use Rattle.cc_recorded.proofs.closing.count_receipts.Goals as goal
 
 pub loop-client-preserved : goal.loop-client-preserved
@@ -15,10 +15,10 @@ loop-client-preserved g c =
     let k = c.loop-client.client-index in
     let one = c.client-item.result in
     let here : slice_get all k ≡ Some one = slice_get_read all (length all) k one refl (omega arith) c.client-item.is in
-    let many : length (map g.C.HasReceipts.holder all) ≡ length all = length-map all g.C.HasReceipts.holder in
-    let its : get_or (map g.C.HasReceipts.holder all) k (g.C.HasReceipts.holder one) ≡ (g.C.HasReceipts.holder one) = get_or_from_slice_get (map g.C.HasReceipts.holder all) k (g.C.HasReceipts.holder one) (g.C.HasReceipts.holder one) (holder_at g.C.HasReceipts.holder all k one here) in
-    let more = sum_by_more (λ (h : Holder). length h.receipts) (map g.C.HasReceipts.holder all) k (g.C.HasReceipts.holder one) (omega (arith, many)) in
-    let new = ap (λ (h : Holder). length h.receipts) its in
+    let many : length (map g.C.HasReceipts.member all) ≡ length all = length-map all g.C.HasReceipts.member in
+    let its : get_or (map g.C.HasReceipts.member all) k (g.C.HasReceipts.member one) ≡ (g.C.HasReceipts.member one) = get_or_from_slice_get (map g.C.HasReceipts.member all) k (g.C.HasReceipts.member one) (g.C.HasReceipts.member one) (member_at g.C.HasReceipts.member all k one here) in
+    let more = sum_by_more (λ (h : MemberView). length h.receipts) (map g.C.HasReceipts.member all) k (g.C.HasReceipts.member one) (omega (arith, many)) in
+    let new = ap (λ (h : MemberView). length h.receipts) its in
     record {
       counted = omega (arith, c.loop-client.invariant.counted, more, new, ap length c.receipts.ensures.answer);
       below = omega (arith, c.loop-client.invariant.below);
@@ -29,18 +29,18 @@ loop-client-preserved g c =
                 let same : j ≡ k = omega arith in
                 let both : Some earlier ≡ Some one = sym at ∙ ap (slice_get all) same ∙ here in
                 let is : earlier ≡ one = cc in
-                subst (λ (h : g.row.C.Denot). IsOwn (g.C.HasReceipts.holder h)) (sym is) c.receipts.ensures.own
+                subst (λ (h : g.row.C.Denot). IsOwn (g.C.HasReceipts.member h)) (sym is) c.receipts.ensures.own
           ];
     }
 
 pub returns-clause-count : goal.returns-clause-count
 returns-clause-count g c =
     let all = c.args.clients.now in
-    let many : length (map g.C.HasReceipts.holder all) ≡ length all = length-map all g.C.HasReceipts.holder in
-    c.loop-client.invariant.counted ∙ ap receipts_of (take_all c.loop-client.client-index (map g.C.HasReceipts.holder all) (omega (arith, many)))
+    let many : length (map g.C.HasReceipts.member all) ≡ length all = length-map all g.C.HasReceipts.member in
+    c.loop-client.invariant.counted ∙ ap receipts_of (take_all c.loop-client.client-index (map g.C.HasReceipts.member all) (omega (arith, many)))
 
 pub returns-clause-own : goal.returns-clause-own
 returns-clause-own g c i client at =
     let all = c.args.clients.now in
-    let its = client_at g.C.HasReceipts.holder all i client at in
-    subst (λ (h : Holder). IsOwn h) its.2 (c.loop-client.invariant.own i its.0 (omega (arith, slice_get_within all i its.0 its.1)) its.1)
+    let its = client_at g.C.HasReceipts.member all i client at in
+    subst (λ (h : MemberView). IsOwn h) its.2 (c.loop-client.invariant.own i its.0 (omega (arith, slice_get_within all i its.0 its.1)) its.1)

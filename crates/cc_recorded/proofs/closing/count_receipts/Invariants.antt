@@ -7,7 +7,7 @@ use Rattle.cc_recorded.proofs.closing.count_receipts.Given as goal
 -- the clients so far have this many receipts, fewer than 2 ^ 64 each, of their own calls
 abbrev pub invariant-loop-client : goal.invariant-loop-client
 invariant-loop-client g l = record {
-  counted : l.count ≡ receipts_of (take l.client-index (map g.C.HasReceipts.holder l.clients));
+  counted : l.count ≡ receipts_of (take l.client-index (map g.C.HasReceipts.member l.clients));
   below : l.count ≤ l.client-index * 2 ^ 64;
-  own : (j : ℕ) (earlier : g.row.C.Denot) → j < l.client-index → slice_get l.clients j ≡ Some earlier → IsOwn (g.C.HasReceipts.holder earlier);
+  own : (j : ℕ) (earlier : g.row.C.Denot) → j < l.client-index → slice_get l.clients j ≡ Some earlier → IsOwn (g.C.HasReceipts.member earlier);
 }

@@ -5,4 +5,4 @@ use Rattle.cc_recorded.proofs.closing.stand_in.Given as goal
 
 -- the clients so far have receipts that stand
 abbrev pub invariant-loop-client : goal.invariant-loop-client
-invariant-loop-client g l = (j : ℕ) (earlier : g.row.C.Denot) → j < l.client-index → slice_get l.clients j ≡ Some earlier → AllStand l.history (g.C.HasReceipts.holder earlier).receipts
+invariant-loop-client g l = (j : ℕ) (earlier : g.row.C.Denot) → j < l.client-index → slice_get l.clients j ≡ Some earlier → AllStand l.history (g.C.HasReceipts.member earlier).receipts

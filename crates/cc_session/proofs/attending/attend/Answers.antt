@@ -9,7 +9,7 @@ pub loop-init : goal.loop-init
 loop-init g c = done_same _ _ _ refl refl
 
 pub loop-preserved : goal.loop-preserved
-loop-preserved g c = done_on _ (given_by g.S.Spool.taken g.S.Spool.ended c.loop.spool) _ _ c.loop.client.holder _ c.loop.invariant c.attend_one.ensures
+loop-preserved g c = done_on _ (given_by g.S.Spool.taken g.S.Spool.ended c.loop.spool) _ _ c.loop.client.member _ c.loop.invariant c.attend_one.ensures
 
 pub returns : goal.returns
 returns g c =
@@ -17,5 +17,5 @@ returns g c =
       | in-None w ↦ rw (w.client-is, w.spool-is) c.loop.invariant
       | in-Some+then-not-attend_one w ↦
           rw (w.client-is, w.spool-is)
-          (done_on _ (given_by g.S.Spool.taken g.S.Spool.ended c.loop.spool) _ _ c.loop.client.holder _ c.loop.invariant w.attend_one.ensures)
+          (done_on _ (given_by g.S.Spool.taken g.S.Spool.ended c.loop.spool) _ _ c.loop.client.member _ c.loop.invariant w.attend_one.ensures)
     ]

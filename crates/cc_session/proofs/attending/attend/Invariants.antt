@@ -4,4 +4,4 @@ use Rattle.cc_session.proofs.attending.attend.Given as goal
 
 abbrev pub invariant-loop : goal.invariant-loop
 invariant-loop g l =
-    HasDone (given_by g.S.Spool.taken g.S.Spool.ended l.initial.spool) l.initial.client.holder (given_by g.S.Spool.taken g.S.Spool.ended l.spool) l.client.holder
+    HasDone (given_by g.S.Spool.taken g.S.Spool.ended l.initial.spool) l.initial.client.member (given_by g.S.Spool.taken g.S.Spool.ended l.spool) l.client.member

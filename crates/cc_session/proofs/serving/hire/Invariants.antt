@@ -6,7 +6,7 @@ use Rattle.cc_session.proofs.serving.hire.Given as goal
 
 abbrev pub invariant-loop : goal.invariant-loop
 invariant-loop g l = record {
-  fresh : All (λ c. c.holder.receipts ≡ []) l.clients.items;
+  fresh : All (λ c. c.member.receipts ≡ []) l.clients.items;
   many : vec_len l.clients ≡ l.counter;
   room : vec_capacity l.clients ≡ vec_capacity l.initial.clients;
 }

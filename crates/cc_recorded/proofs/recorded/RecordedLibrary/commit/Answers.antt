@@ -12,9 +12,9 @@ use Rattle.cc_history.specs.declared.entry.Entry.{Entry}
 use Rattle.cc_history.specs.declared.entry.Receipt.{Receipt}
 use Rattle.cc_history.specs.declared.reply.Reply.TheVariants as reply
 use Rattle.cc_history.specs.Calls.{change_of, reply_of_change}
-use Rattle.cc_history.specs.History.{Holder, IsRecorded, LastStands, entry_of}
+use Rattle.cc_history.specs.History.{MemberView, IsRecorded, LastStands, entry_of}
 use Rattle.cc_recorded.specs.Book.{BookView, IsRecordedLibrary, RecoversTo}
-use Rattle.cc_recorded.specs.Client.{IsClient}
+use Rattle.cc_recorded.specs.Member.{IsMember}
 use Rattle.cc_recorded.specs.Answers.{IsDone}
 use Rattle.cc_recorded.specs.Changed.{IsBookChanged}
 use Rattle.cc_recorded.specs.Disk.{ChangesDisk}
@@ -28,12 +28,12 @@ use Rattle.cc_recorded.proofs.recorded.RecordedLibrary.commit.Goals as goal
 
 exists_facts : (g : Over) (c : goal.Joined-change-3 g)
     → IsRecordedLibrary g.D.Disk g.N.Based.base c.enter.new.calls.total (record { base = c.self.inside.base; library = c.self.inside.library; history = c.enter.new.history.items; failed = c.self.inside.failed.items })
-    × IsClient (record { number = c.client.inside.number; receipts = c.enter.new.receipts.items }) c.enter.new.share.parts c.enter.new.share.amount
+    × IsMember (record { number = c.client.inside.number; receipts = c.enter.new.receipts.items }) c.enter.new.share.parts c.enter.new.share.amount
     × IsRecorded (record { base = c.self.inside.base; units = c.self.inside.library.units; history = c.self.inside.history.items }) (record { number = c.client.inside.number; receipts = c.client.inside.receipts.items }) (Change c.args.command) reply.Exists
     (record { base = c.self.inside.base; units = c.self.inside.library.units; history = c.enter.new.history.items }) (record { number = c.client.inside.number; receipts = c.enter.new.receipts.items }) c.enter.result
 exists_facts g c =
     let before : BookView g.row.D.Denot = record { base = c.self.inside.base; library = c.self.inside.library; history = c.self.inside.history.items; failed = c.self.inside.failed.items } in
-    let old : Holder = record { number = c.client.inside.number; receipts = c.client.inside.receipts.items } in
+    let old : MemberView = record { number = c.client.inside.number; receipts = c.client.inside.receipts.items } in
     let o = c.in-Ok-prepare.owners in
     let stood : LastStands before.history old.receipts = subst (λ (r : List Receipt). LastStands before.history r) c.as_slice-2.ensures.value (subst (λ (h : List Entry). LastStands h c.as_slice-2.result.now) c.as_slice.ensures.value c.in-Ok.ensures.ok) in
     let count : c.len.result ≡ length old.receipts = c.len.ensures ∙ sym c.as_slice-2.ensures.len ∙ ap length c.as_slice-2.ensures.value in
@@ -58,11 +58,11 @@ returns-in-Exists g c =
     let D = g.D.Disk in
     let before : BookView g.row.D.Denot = record { base = c.self.inside.base; library = c.self.inside.library; history = c.self.inside.history.items; failed = c.self.inside.failed.items } in
     let after_it : BookView g.row.D.Denot = record before { history = c.enter.new.history.items } in
-    let new : Holder = record { number = c.client.inside.number; receipts = c.enter.new.receipts.items } in
+    let new : MemberView = record { number = c.client.inside.number; receipts = c.enter.new.receipts.items } in
     let answered : Result Receipt BookFault = Err (Exists c.enter.result) in
     record {
       changed = subst (λ (b : BookView g.row.D.Denot). IsBookChanged D b c.args.client.now c.args.command after_it new answered) c.self.view_is
-          (subst (λ (h : Holder). IsBookChanged D before h c.args.command after_it new answered) c.client.view_is
+          (subst (λ (h : MemberView). IsBookChanged D before h c.args.command after_it new answered) c.client.view_is
           (record {
             answers = record { idle = sym c.is_closed.ensures ∙ c.if-is_closed.false; recorded = (exists_facts g c).2; library = refl; failed = refl };
             disk = λ _. tt;
@@ -73,12 +73,12 @@ returns-in-Exists g c =
 
 absent_facts : (g : Over) (c : goal.Joined-change-4 g)
     → IsRecordedLibrary g.D.Disk g.N.Based.base c.enter-in-Absent.new.calls.total (record { base = c.self.inside.base; library = c.self.inside.library; history = c.enter-in-Absent.new.history.items; failed = c.self.inside.failed.items })
-    × IsClient (record { number = c.client.inside.number; receipts = c.enter-in-Absent.new.receipts.items }) c.enter-in-Absent.new.share.parts c.enter-in-Absent.new.share.amount
+    × IsMember (record { number = c.client.inside.number; receipts = c.enter-in-Absent.new.receipts.items }) c.enter-in-Absent.new.share.parts c.enter-in-Absent.new.share.amount
     × IsRecorded (record { base = c.self.inside.base; units = c.self.inside.library.units; history = c.self.inside.history.items }) (record { number = c.client.inside.number; receipts = c.client.inside.receipts.items }) (Change c.args.command) reply.Absent
     (record { base = c.self.inside.base; units = c.self.inside.library.units; history = c.enter-in-Absent.new.history.items }) (record { number = c.client.inside.number; receipts = c.enter-in-Absent.new.receipts.items }) c.enter-in-Absent.result
 absent_facts g c =
     let before : BookView g.row.D.Denot = record { base = c.self.inside.base; library = c.self.inside.library; history = c.self.inside.history.items; failed = c.self.inside.failed.items } in
-    let old : Holder = record { number = c.client.inside.number; receipts = c.client.inside.receipts.items } in
+    let old : MemberView = record { number = c.client.inside.number; receipts = c.client.inside.receipts.items } in
     let o = c.in-Ok-prepare.owners in
     let stood : LastStands before.history old.receipts = subst (λ (r : List Receipt). LastStands before.history r) c.as_slice-2.ensures.value (subst (λ (h : List Entry). LastStands h c.as_slice-2.result.now) c.as_slice.ensures.value c.in-Ok.ensures.ok) in
     let count : c.len.result ≡ length old.receipts = c.len.ensures ∙ sym c.as_slice-2.ensures.len ∙ ap length c.as_slice-2.ensures.value in
@@ -103,11 +103,11 @@ returns-in-Absent g c =
     let D = g.D.Disk in
     let before : BookView g.row.D.Denot = record { base = c.self.inside.base; library = c.self.inside.library; history = c.self.inside.history.items; failed = c.self.inside.failed.items } in
     let after_it : BookView g.row.D.Denot = record before { history = c.enter-in-Absent.new.history.items } in
-    let new : Holder = record { number = c.client.inside.number; receipts = c.enter-in-Absent.new.receipts.items } in
+    let new : MemberView = record { number = c.client.inside.number; receipts = c.enter-in-Absent.new.receipts.items } in
     let answered : Result Receipt BookFault = Err (Absent c.enter-in-Absent.result) in
     record {
       changed = subst (λ (b : BookView g.row.D.Denot). IsBookChanged D b c.args.client.now c.args.command after_it new answered) c.self.view_is
-          (subst (λ (h : Holder). IsBookChanged D before h c.args.command after_it new answered) c.client.view_is
+          (subst (λ (h : MemberView). IsBookChanged D before h c.args.command after_it new answered) c.client.view_is
           (record {
             answers = record { idle = sym c.is_closed.ensures ∙ c.if-is_closed.false; recorded = (absent_facts g c).2; library = refl; failed = refl };
             disk = λ _. tt;
@@ -118,12 +118,12 @@ returns-in-Absent g c =
 
 done_facts : (g : Over) (c : goal.After-enter-in-Ok-change-2 g)
     → IsRecordedLibrary g.D.Disk g.N.Based.base c.enter-in-Ok-change-2.new.calls.total (record { base = c.self.inside.base; library = c.change-in-Done.new.self; history = c.enter-in-Ok-change-2.new.history.items; failed = c.self.inside.failed.items })
-    × IsClient (record { number = c.client.inside.number; receipts = c.enter-in-Ok-change-2.new.receipts.items }) c.enter-in-Ok-change-2.new.share.parts c.enter-in-Ok-change-2.new.share.amount
+    × IsMember (record { number = c.client.inside.number; receipts = c.enter-in-Ok-change-2.new.receipts.items }) c.enter-in-Ok-change-2.new.share.parts c.enter-in-Ok-change-2.new.share.amount
     × IsRecorded (record { base = c.self.inside.base; units = c.self.inside.library.units; history = c.self.inside.history.items }) (record { number = c.client.inside.number; receipts = c.client.inside.receipts.items }) (Change c.args.command) reply.Done
     (record { base = c.self.inside.base; units = c.change-in-Done.new.self.units; history = c.enter-in-Ok-change-2.new.history.items }) (record { number = c.client.inside.number; receipts = c.enter-in-Ok-change-2.new.receipts.items }) c.enter-in-Ok-change-2.result
 done_facts g c =
     let before : BookView g.row.D.Denot = record { base = c.self.inside.base; library = c.self.inside.library; history = c.self.inside.history.items; failed = c.self.inside.failed.items } in
-    let old : Holder = record { number = c.client.inside.number; receipts = c.client.inside.receipts.items } in
+    let old : MemberView = record { number = c.client.inside.number; receipts = c.client.inside.receipts.items } in
     let o = c.in-Ok-prepare.owners in
     let stood : LastStands before.history old.receipts = subst (λ (r : List Receipt). LastStands before.history r) c.as_slice-2.ensures.value (subst (λ (h : List Entry). LastStands h c.as_slice-2.result.now) c.as_slice.ensures.value c.in-Ok.ensures.ok) in
     let count : c.len.result ≡ length old.receipts = c.len.ensures ∙ sym c.as_slice-2.ensures.len ∙ ap length c.as_slice-2.ensures.value in
@@ -147,9 +147,9 @@ pub returns-in-Ok-change-2 : goal.returns-in-Ok-change-2
 returns-in-Ok-change-2 g c =
     let D = g.D.Disk in
     let before : BookView g.row.D.Denot = record { base = c.self.inside.base; library = c.self.inside.library; history = c.self.inside.history.items; failed = c.self.inside.failed.items } in
-    let old : Holder = record { number = c.client.inside.number; receipts = c.client.inside.receipts.items } in
+    let old : MemberView = record { number = c.client.inside.number; receipts = c.client.inside.receipts.items } in
     let after_it : BookView g.row.D.Denot = record { base = c.self.inside.base; library = c.change-in-Done.new.self; history = c.enter-in-Ok-change-2.new.history.items; failed = c.self.inside.failed.items } in
-    let new : Holder = record { number = c.client.inside.number; receipts = c.enter-in-Ok-change-2.new.receipts.items } in
+    let new : MemberView = record { number = c.client.inside.number; receipts = c.enter-in-Ok-change-2.new.receipts.items } in
     let idle : before.library.closed ≡ false = sym c.is_closed.ensures ∙ c.if-is_closed.false in
     let is : c.in-Ok-change.change ≡ change_of c.args.command = c.in-Ok-change.ensures.change in
     let replied : reply.Done ≡ reply_of_change (apply before.library.units (change_of c.args.command)) = sym (ap answer_reply c.in-Done.is) ∙ c.decide-answer.ensures in
@@ -166,7 +166,7 @@ returns-in-Ok-change-2 g c =
     let library = c.change-in-Done.new.self in
     record {
       changed = subst (λ (b : BookView g.row.D.Denot). IsBookChanged D b c.args.client.now c.args.command after_it new answered) c.self.view_is
-          (subst (λ (h : Holder). IsBookChanged D before h c.args.command after_it new answered) c.client.view_is
+          (subst (λ (h : MemberView). IsBookChanged D before h c.args.command after_it new answered) c.client.view_is
           (record {
             answers = (done, answers.2);
             disk = λ h. subst (λ (k : LibraryCommand). ChangesDisk D k before.library library answered) is (c.in-Ok-change-2.ensures.changed.disk h);
@@ -187,10 +187,10 @@ pub returns-in-Err-DiskFault : goal.returns-in-Err-DiskFault
 returns-in-Err-DiskFault g c =
     let D = g.D.Disk in
     let before : BookView g.row.D.Denot = record { base = c.self.inside.base; library = c.self.inside.library; history = c.self.inside.history.items; failed = c.self.inside.failed.items } in
-    let old : Holder = record { number = c.client.inside.number; receipts = c.client.inside.receipts.items } in
+    let old : MemberView = record { number = c.client.inside.number; receipts = c.client.inside.receipts.items } in
     let library = c.change-in-Done.new.self in
     let after_it : BookView g.row.D.Denot = record { base = c.self.inside.base; library = library; history = c.prepare.new.history.items; failed = c.and-failing.result.items } in
-    let new : Holder = record { number = c.client.inside.number; receipts = c.prepare.new.receipts.items } in
+    let new : MemberView = record { number = c.client.inside.number; receipts = c.prepare.new.receipts.items } in
     let answered : Result Receipt BookFault = Err DiskFault in
     let idle : before.library.closed ≡ false = sym c.is_closed.ensures ∙ c.if-is_closed.false in
     let is : c.in-Ok-change.change ≡ change_of c.args.command = c.in-Ok-change.ensures.change in
@@ -203,7 +203,7 @@ returns-in-Err-DiskFault g c =
     c.self.invariant c.in-Ok-change.ensures.agrees c.in-Ok-prepare.ensures.history c.and-failing.ensures idle leaves is (λ h image left. c.change-in-Done.ensures.changed.images h idle image left) in
     record {
       changed = subst (λ (b : BookView g.row.D.Denot). IsBookChanged D b c.args.client.now c.args.command after_it new answered) c.self.view_is
-          (subst (λ (h : Holder). IsBookChanged D before h c.args.command after_it new answered) c.client.view_is
+          (subst (λ (h : MemberView). IsBookChanged D before h c.args.command after_it new answered) c.client.view_is
           (record {
             answers = (
               record { idle = idle; stands = stood; accepted = done_is_ok (apply before.library.units (change_of c.args.command)) (sym replied) },

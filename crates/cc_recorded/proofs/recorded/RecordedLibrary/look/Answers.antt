@@ -5,21 +5,21 @@ use Rattle.cc_library.specs.Apply.{after_all}
 use Rattle.cc_history.specs.declared.entry.Entry.{Entry}
 use Rattle.cc_history.specs.declared.entry.Receipt.{Receipt}
 use Rattle.cc_history.specs.Calls.{reply_of}
-use Rattle.cc_history.specs.History.{Holder, IsRecorded, LastStands, entry_of}
+use Rattle.cc_history.specs.History.{MemberView, IsRecorded, LastStands, entry_of}
 use Rattle.cc_recorded.specs.Book.{BookView, IsRecordedLibrary, chronicle_of}
-use Rattle.cc_recorded.specs.Client.{IsClient}
+use Rattle.cc_recorded.specs.Member.{IsMember}
 use Rattle.cc_recorded.proofs.Committing.{entering, receipt_is, look_agrees, look_changes_nothing}
 use Rattle.cc_recorded.proofs.recorded.RecordedLibrary.look.Given.{Over}
 use Rattle.cc_recorded.proofs.recorded.RecordedLibrary.look.Goals as goal
 
 facts : (g : Over) (c : goal.After-enter g)
     → IsRecordedLibrary g.D.Disk g.N.Based.base c.enter.new.calls.total (record { base = c.self.inside.base; library = c.self.inside.library; history = c.enter.new.history.items; failed = c.self.inside.failed.items })
-    × IsClient (record { number = c.client.inside.number; receipts = c.enter.new.receipts.items }) c.enter.new.share.parts c.enter.new.share.amount
+    × IsMember (record { number = c.client.inside.number; receipts = c.enter.new.receipts.items }) c.enter.new.share.parts c.enter.new.share.amount
     × IsRecorded (record { base = c.self.inside.base; units = c.self.inside.library.units; history = c.self.inside.history.items }) (record { number = c.client.inside.number; receipts = c.client.inside.receipts.items }) c.args.asked (reply_of c.self.inside.library.units c.args.asked)
     (record { base = c.self.inside.base; units = c.self.inside.library.units; history = c.enter.new.history.items }) (record { number = c.client.inside.number; receipts = c.enter.new.receipts.items }) c.enter.result
 facts g c =
     let before : BookView g.row.D.Denot = record { base = c.self.inside.base; library = c.self.inside.library; history = c.self.inside.history.items; failed = c.self.inside.failed.items } in
-    let old : Holder = record { number = c.client.inside.number; receipts = c.client.inside.receipts.items } in
+    let old : MemberView = record { number = c.client.inside.number; receipts = c.client.inside.receipts.items } in
     let o = c.in-Ok-prepare.owners in
     let answer = reply_of before.library.units c.args.asked in
     let stood : LastStands before.history old.receipts = subst (λ (r : List Receipt). LastStands before.history r) c.as_slice-2.ensures.value (subst (λ (h : List Entry). LastStands h c.as_slice-2.result.now) c.as_slice.ensures.value c.in-Ok.ensures.ok) in
@@ -42,8 +42,8 @@ invariant_of-client-2 g c = (facts g c).1
 pub returns : goal.returns
 returns g c =
     let before : BookView g.row.D.Denot = record { base = c.self.inside.base; library = c.self.inside.library; history = c.self.inside.history.items; failed = c.self.inside.failed.items } in
-    let old : Holder = record { number = c.client.inside.number; receipts = c.client.inside.receipts.items } in
+    let old : MemberView = record { number = c.client.inside.number; receipts = c.client.inside.receipts.items } in
     let after_it : BookView g.row.D.Denot = record { base = c.self.inside.base; library = c.self.inside.library; history = c.enter.new.history.items; failed = c.self.inside.failed.items } in
-    let new : Holder = record { number = c.client.inside.number; receipts = c.enter.new.receipts.items } in
-    let at = λ (b : BookView g.row.D.Denot) (h : Holder). IsRecorded (chronicle_of b) h c.args.asked (reply_of b.library.units c.args.asked) (chronicle_of after_it) new c.enter.result × (after_it.library ≡ b.library) × (after_it.failed ≡ b.failed) in
-    subst (λ (b : BookView g.row.D.Denot). at b c.args.client.now) c.self.view_is (subst (λ (h : Holder). at before h) c.client.view_is ((facts g c).2, refl, refl))
+    let new : MemberView = record { number = c.client.inside.number; receipts = c.enter.new.receipts.items } in
+    let at = λ (b : BookView g.row.D.Denot) (h : MemberView). IsRecorded (chronicle_of b) h c.args.asked (reply_of b.library.units c.args.asked) (chronicle_of after_it) new c.enter.result × (after_it.library ≡ b.library) × (after_it.failed ≡ b.failed) in
+    subst (λ (b : BookView g.row.D.Denot). at b c.args.client.now) c.self.view_is (subst (λ (h : MemberView). at before h) c.client.view_is ((facts g c).2, refl, refl))

@@ -13,13 +13,13 @@ returns-in-Err-clause-err g c = c.in-Err.ensures.err c.args.made
 pub returns-then-clients-made-clause-err : goal.returns-then-clients-made-clause-err
 returns-then-clients-made-clause-err g c =
     let clients = c.args.clients.now in
-    let sum : (length (map g.C.HasReceipts.holder clients) ≢ c.args.made) ⊎ (¬ AreApart (map g.C.HasReceipts.holder clients)) =
+    let sum : (length (map g.C.HasReceipts.member clients) ≢ c.args.made) ⊎ (¬ AreApart (map g.C.HasReceipts.member clients)) =
     elim c.then-clients-made.branch [
-      | then-clients-made-via-then-clients-made w ↦ not_all g.C.HasReceipts.holder clients c.args.made (λ many own. w.if-clients-made.true many)
+      | then-clients-made-via-then-clients-made w ↦ not_all g.C.HasReceipts.member clients c.args.made (λ many own. w.if-clients-made.true many)
       | then-clients-made-via-else-clients-made+then-not-are_apart w ↦
-          not_all g.C.HasReceipts.holder clients c.args.made (λ many own. let is = w.are_apart.ensures.1 own in let not : w.are_apart.result ≡ false = w.if-not-are_apart.true in let d : false ≡ true = sym not ∙ is in cc)
+          not_all g.C.HasReceipts.member clients c.args.made (λ many own. let is = w.are_apart.ensures.1 own in let not : w.are_apart.result ≡ false = w.if-not-are_apart.true in let d : false ≡ true = sym not ∙ is in cc)
     ] in
     inr (inr (ap (λ n. Estranged n None) c.entries.ensures, sum))
 
 pub returns-clause-apart : goal.returns-clause-apart
-returns-clause-apart g c = apart g.C.HasReceipts.holder c.args.clients.now (let own : HaveOwnNumbers g.C.HasReceipts.holder c.args.clients.now = search rules in own)
+returns-clause-apart g c = apart g.C.HasReceipts.member c.args.clients.now (let own : HaveOwnNumbers g.C.HasReceipts.member c.args.clients.now = search rules in own)

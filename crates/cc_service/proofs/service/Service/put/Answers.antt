@@ -1,6 +1,6 @@
 use Rattle.std.proofs.Common.{ℕ, List, refl, sym, ap, subst}
 use Rattle.cc_pool.specs.declared.item.Item.{Item}
-use Rattle.cc_history.specs.History.{Holder}
+use Rattle.cc_history.specs.History.{MemberView}
 use Rattle.cc_service.specs.Client.{ClientView}
 use Rattle.cc_service.specs.Compiling.{HasSentFor}
 use Rattle.cc_service.specs.Serving.{PutAnswers, Puts}
@@ -14,8 +14,8 @@ returns-in-Ok-compiled-clause-answers g c =
     let Asks = Puts c.args.put name source in
     let command = c.change_of.result in
     let asked = subst (λ (n : List ℕ). Puts c.args.put n source command) c.in-Ok.ensures.answer (c.change_of.ensures source (c.in-Ok-compiled.ensures.source, c.in-Ok-compiled.ensures.agrees)) in
-    let after_it = c.change.new.client.holder in
-    subst (λ (h : Holder). PutAnswers Asks name source h after_it c.change.result) (ap (λ (c : ClientView). c.holder) c.client.view_is)
+    let after_it = c.change.new.client.member in
+    subst (λ (h : MemberView). PutAnswers Asks name source h after_it c.change.result) (ap (λ (c : ClientView). c.member) c.client.view_is)
     (put Asks command asked c.client.inside.member after_it
     name source (c.in-Ok.ensures.answers.0 refl) c.in-Ok-compiled.ensures.program c.change.result c.change.ensures.answers)
 
@@ -33,4 +33,4 @@ pub returns-in-Err-clause-answers : goal.returns-in-Err-clause-answers
 returns-in-Err-clause-answers g c =
     let name = c.args.name.now in
     let source = c.args.source.now in
-    not_put (Puts c.args.put name source) name source c.args.client.now.holder c.client.inside.member (c.in-Ok.ensures.answers.0 refl) (ap (λ (c : ClientView). c.holder) c.client.view_is) c.in-Err.fault c.in-Err.ensures.refused
+    not_put (Puts c.args.put name source) name source c.args.client.now.member c.client.inside.member (c.in-Ok.ensures.answers.0 refl) (ap (λ (c : ClientView). c.member) c.client.view_is) c.in-Err.fault c.in-Err.ensures.refused
