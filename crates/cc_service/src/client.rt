@@ -35,7 +35,7 @@ impl<N: Named> Client<N> {
     pub fn new(alloc: Global, number: u64, share: Share<N>, pass: Pass<N>) -> Client<N>
         requires part { share.parts ≡ 1 }
         requires none { share.amount ≡ 0 }
-        ensures holder { result.member ≡ record { number = number; receipts = [] } }
+        ensures member { result.member ≡ record { number = number; receipts = [] } }
         ensures sent { result.sent ≡ pass.sent }
     {
         Client::of(Member::new(alloc, number, share), pass)
