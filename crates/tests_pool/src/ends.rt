@@ -2,13 +2,14 @@
 
 ghost use Rattle.std.specs.Prelude.{◌≡◌};
 
-use super::helpers::{TWO, one, two, unit};
+use super::helpers::{TWO, unit};
 use cc_pool::{Drained, FreshQueue, NoGate, Pool, PoolFault, Queued};
 use std::alloc::Global;
 use std::marker::Brand;
 use std::sync::Wait;
 use std::test::Fail;
 use std::thread::Threads;
+use tests_texts::lists::{alone, both};
 
 #[test]
 fn a_pass_is_missing(rt: HostRuntime) -> Result<(), Fail> {
@@ -32,8 +33,8 @@ where
     let mut other = pool.pass(rt);
     let ticket = pool.submit(rt, alloc, &mut other, unit(alloc, TWO)?)?;
     let passes = match given {
-        1 => one(alloc, pass)?,
-        _ => two(alloc, pass, other)?,
+        1 => alone(alloc, pass)?,
+        _ => both(alloc, pass, other)?,
     };
     let told = number(pool.finish(rt, passes));
     drop(ticket);

@@ -1,8 +1,8 @@
-// Units to hand in, passes, and a gate that holds a job.
+// Units to hand in, and a gate that holds a job.
 
 use cc_emit::Piece;
 use cc_link::typed_unit;
-use cc_pool::{Gate, Pass, Queued};
+use cc_pool::Gate;
 use cc_types::TypedUnit;
 use std::alloc::{AllocError, Global};
 use std::sync::Arc;
@@ -29,25 +29,6 @@ pub fn repeat(text: &mut Vec<u8>, part: &[u8], times: usize) -> Result<(), Alloc
         text.extend_from_slice(part)?;
     }
     Ok(())
-}
-
-/// One pass.
-pub fn one<N: Queued>(alloc: Global, pass: Pass<N>) -> Result<Vec<Pass<N>>, AllocError> {
-    let mut passes = Vec::with_capacity(alloc, 1)?;
-    passes.push(pass)?;
-    Ok(passes)
-}
-
-/// Two passes.
-pub fn two<N: Queued>(
-    alloc: Global,
-    first: Pass<N>,
-    second: Pass<N>,
-) -> Result<Vec<Pass<N>>, AllocError> {
-    let mut passes = Vec::with_capacity(alloc, 2)?;
-    passes.push(first)?;
-    passes.push(second)?;
-    Ok(passes)
 }
 
 /// Whether these are this many pieces of a text, one of each function in their order.

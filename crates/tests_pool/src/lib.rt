@@ -1,7 +1,8 @@
 //! Tests of the pool: what no clause says of it.
 //!
-//! `helpers` has units, passes and a gate that holds a piece; `tickets` what comes back of jobs, `held` pieces and jobs that are held while
-//! others are made, `crowds` many threads that share a pool, `ends` how a pool ends, `same` the pool beside one thread.
+//! `helpers` has units and a gate that holds a piece, `trial` starts a pool for most tests; `tickets` what comes back of jobs, `held` pieces
+//! and jobs that are held while others are made, `crowds` many threads that share a pool, `ends` how a pool ends, `same` the pool beside one
+//! thread.
 #![tactic(auto)]
 
 #[cfg(test)]
@@ -16,3 +17,5 @@ mod helpers;
 mod same;
 #[cfg(test)]
 mod tickets;
+#[cfg(test)]
+mod trial;

@@ -2,7 +2,7 @@
 
 ghost use Rattle.std.specs.Prelude.{◌≡◌};
 
-use super::helpers::{one, unit};
+use super::helpers::unit;
 use cc_link::{compile, link};
 use cc_pool::{FreshQueue, NoGate, Pass, Pool, Queued};
 use std::alloc::Global;
@@ -10,6 +10,7 @@ use std::marker::Brand;
 use std::sync::{Arc, Wait};
 use std::test::Fail;
 use std::thread::Threads;
+use tests_texts::lists::alone;
 use tests_texts::{programs, worked};
 
 #[test]
@@ -48,7 +49,7 @@ where
             same = at + 1;
         }
     }
-    drop(pool.finish(rt, one(alloc, pass)?)?);
+    drop(pool.finish(rt, alone(alloc, pass)?)?);
     Ok(same)
 }
 

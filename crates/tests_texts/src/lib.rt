@@ -1,8 +1,9 @@
 //! Texts that the tests of several crates share: `programs` has eight programs of `bench/programs`, `worked` the worked programs with the
 //! number of functions of each, `parts` makes texts of parts, `stages` has what the tests of a stage ask of it, `streams` readers and
-//! writers that fail.
+//! writers that fail, `lists` lists of one and of two.
 #![tactic(auto)]
 
+pub mod lists;
 pub mod parts;
 pub mod programs;
 pub mod stages;

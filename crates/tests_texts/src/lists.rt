@@ -1,0 +1,18 @@
+// Lists of one and of two.
+
+use std::alloc::{AllocError, Global};
+
+/// A list of one.
+pub fn alone<T: Drop>(alloc: Global, item: T) -> Result<Vec<T>, AllocError> {
+    let mut items = Vec::with_capacity(alloc, 1)?;
+    items.push(item)?;
+    Ok(items)
+}
+
+/// A list of two.
+pub fn both<T: Drop>(alloc: Global, one: T, other: T) -> Result<Vec<T>, AllocError> {
+    let mut items = Vec::with_capacity(alloc, 2)?;
+    items.push(one)?;
+    items.push(other)?;
+    Ok(items)
+}
