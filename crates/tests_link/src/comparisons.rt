@@ -1,9 +1,8 @@
 // Comparisons with a constant: how many instructions they take, as a value and in a branch, and what they give at the edges of what an
 // instruction can hold.
 
-use super::helpers::{Run, runs};
+use super::helpers::{ends_well, runs};
 use cc_link::compile;
-use cc_rv32::outcome::MachineOutcome;
 use std::alloc::Global;
 use std::test::Fail;
 use tests_texts::parts::text_of;
@@ -261,12 +260,7 @@ fn compares<'a>(
             (")r=r+32;write_word(r);n=n-1;}}", 1),
         ],
     )?;
-    let run = Run {
-        input,
-        steps: 1000,
-        words,
-        outcome: MachineOutcome::Exited(0),
-    };
+    let run = ends_well(input, 1000, words);
     let right = runs(alloc, text.as_slice(), run);
     drop(text);
     right

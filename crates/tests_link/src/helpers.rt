@@ -15,6 +15,16 @@ pub struct Run<'a> {
     pub outcome: MachineOutcome,
 }
 
+/// A run that reads these words, takes so many instructions at most, writes those, and ends with 0.
+pub fn ends_well<'a>(input: &'a [u32], steps: u64, words: &'a [i32]) -> Run<'a> {
+    Run {
+        input,
+        steps,
+        words,
+        outcome: MachineOutcome::Exited(0),
+    }
+}
+
 // Whether these are the words, as signed numbers.
 fn are_words(found: &[u32], words: &[i32]) -> bool {
     let mut same = found.len() == words.len();

@@ -1,6 +1,6 @@
 // What is at a limit, and past it.
 
-use super::helpers::{Run, image_runs, runs};
+use super::helpers::{Run, ends_well, image_runs, runs};
 use super::numbered::{deep, many};
 use super::padded::{blocks, padded};
 use super::rows::WORDS;
@@ -10,17 +10,16 @@ use cc_types::TypedUnit;
 use std::alloc::Global;
 use std::sync::Arc;
 use std::test::Fail;
-use tests_texts::parts::{Part, text_of};
+use tests_texts::parts::{Part, main_of, text_of};
 use tests_texts::worked::LONG;
 
-// A run without input that writes one word and ends with 0.
-fn writes_one(words: &[i32; 1], steps: u64) -> Run<'_> {
-    Run {
-        input: &[],
-        steps,
-        words: words.as_slice(),
-        outcome: MachineOutcome::Exited(0),
-    }
+// Whether a text writes that word alone without input, within so many instructions, and ends with 0.
+fn writes_one(alloc: Global, text: Vec<u8>, word: i32, steps: u64) -> Result<bool, Fail> {
+    let words = [word];
+    let run = ends_well(&[], steps, words.as_slice());
+    let right = runs(alloc, text.as_slice(), run);
+    drop(text);
+    right
 }
 
 // 1,023 calls of `f` within one another, and `main`: f(n) = f(n - 1) + 250 n + 31,125 and f(0) = 7, so f(1022) is
@@ -28,11 +27,7 @@ fn writes_one(words: &[i32; 1], steps: u64) -> Run<'_> {
 #[test]
 fn most_calls_with_large_frames(rt: HostRuntime) -> Result<(), Fail> {
     let text = deep(rt.alloc())?;
-    let words = [162_498_007];
-    let right = runs(rt.alloc(), text.as_slice(), writes_one(&words, 100_000_000));
-    drop(text);
-    let right = right?;
-    assert!(rt; right);
+    assert!(rt; writes_one(rt.alloc(), text, 162_498_007, 100_000_000)?);
     Ok(())
 }
 
@@ -40,11 +35,7 @@ fn most_calls_with_large_frames(rt: HostRuntime) -> Result<(), Fail> {
 #[test]
 fn most_functions(rt: HostRuntime) -> Result<(), Fail> {
     let text = many(rt.alloc())?;
-    let words = [2_016];
-    let right = runs(rt.alloc(), text.as_slice(), writes_one(&words, 100_000));
-    drop(text);
-    let right = right?;
-    assert!(rt; right);
+    assert!(rt; writes_one(rt.alloc(), text, 2_016, 100_000)?);
     Ok(())
 }
 
@@ -83,12 +74,7 @@ static MAINS: [(usize, usize); 3] = [(1_000, 0), (1_364, 0), (1_364, 1)];
 #[test]
 fn long_functions(rt: HostRuntime) -> Result<(), Fail> {
     for (writes, reads) in MAINS.iter() {
-        let parts = [
-            ("int main(void){", 1),
-            ("write_word(0);", *writes),
-            ("read_word();", *reads),
-            ("}", 1),
-        ];
+        let parts = main_of(*writes, *reads);
         let right = writes_zeros(rt.alloc(), &parts, *writes)?;
         assert!(rt; right, "{writes} {reads}");
     }
@@ -98,12 +84,7 @@ fn long_functions(rt: HostRuntime) -> Result<(), Fail> {
 // Whether the text of these parts writes this many zeros.
 fn writes_zeros(alloc: Global, parts: &[Part<'_>], count: usize) -> Result<bool, Fail> {
     let text = text_of(alloc, parts)?;
-    let run = Run {
-        input: &[],
-        steps: 1_000_000,
-        words: &ZEROS[..count.min(1_364)],
-        outcome: MachineOutcome::Exited(0),
-    };
+    let run = ends_well(&[], 1_000_000, &ZEROS[..count.min(1_364)]);
     let right = runs(alloc, text.as_slice(), run);
     drop(text);
     right
@@ -133,12 +114,7 @@ fn long_main(
     unit: &Arc<TypedUnit>,
     third: usize,
 ) -> Result<Option<(usize, bool)>, Fail> {
-    let run = Run {
-        input: WORDS,
-        steps: 1_000_000,
-        words: &[0, 300],
-        outcome: MachineOutcome::Exited(0),
-    };
+    let run = ends_well(WORDS, 1_000_000, &[0, 300]);
     let linked = padded(alloc, unit, &[(0, 60_000), (1, 60_000), (2, third)])?;
     words_of(alloc, linked, run)
 }
@@ -177,12 +153,7 @@ fn first_wrong(
     unit: &Arc<TypedUnit>,
     block: usize,
 ) -> Result<Option<(usize, usize)>, Fail> {
-    let run = Run {
-        input: &[],
-        steps: 100_000,
-        words: &[2_005],
-        outcome: MachineOutcome::Exited(0),
-    };
+    let run = ends_well(&[], 100_000, &[2_005]);
     for moves in 980..1_028 {
         let linked = padded(alloc, unit, &[(block, moves)])?;
         match words_of(alloc, linked, run)? {

@@ -1,6 +1,7 @@
 // Texts with parts that are numbered.
 
 use std::alloc::{AllocError, Global};
+use std::ops::Range;
 use tests_texts::parts::append;
 
 /// Puts a part behind a text, with a number between its halves.
@@ -17,15 +18,15 @@ fn append_number(
     done
 }
 
-// The same for each number below an end.
+// The same for each of these numbers.
 fn append_numbers(
     alloc: Global,
     text: &mut Vec<u8>,
     before: &str,
-    end: u32,
+    numbers: Range<u32>,
     after: &str,
 ) -> Result<(), AllocError> {
-    for number in 0..end {
+    for number in numbers {
         append_number(alloc, text, before, number, after)?;
     }
     Ok(())
@@ -35,9 +36,9 @@ fn append_numbers(
 pub fn deep(alloc: Global) -> Result<Vec<u8>, AllocError> {
     let mut text = Vec::new(alloc);
     append(&mut text, "int f(int n){if(n==0)return 7;", 1)?;
-    append_numbers(alloc, &mut text, "int v", 250, "=n;n++;")?;
+    append_numbers(alloc, &mut text, "int v", 0..250, "=n;n++;")?;
     append(&mut text, "n=f(n-251);return n", 1)?;
-    append_numbers(alloc, &mut text, "+v", 250, "")?;
+    append_numbers(alloc, &mut text, "+v", 0..250, "")?;
     append(&mut text, ";}int main(void){write_word(f(1022));}", 1)?;
     Ok(text)
 }
@@ -46,9 +47,9 @@ pub fn deep(alloc: Global) -> Result<Vec<u8>, AllocError> {
 pub fn many(alloc: Global) -> Result<Vec<u8>, AllocError> {
     let mut text = Vec::new(alloc);
     append(&mut text, "int x;", 1)?;
-    append_numbers(alloc, &mut text, "int f", 63, "(void){x++;return x;}")?;
+    append_numbers(alloc, &mut text, "int f", 0..63, "(void){x++;return x;}")?;
     append(&mut text, "int main(void){write_word(f62()", 1)?;
-    append_numbers(alloc, &mut text, "+f", 62, "()")?;
+    append_numbers(alloc, &mut text, "+f", 0..62, "()")?;
     append(&mut text, ");}", 1)?;
     Ok(text)
 }
@@ -57,11 +58,9 @@ pub fn many(alloc: Global) -> Result<Vec<u8>, AllocError> {
 pub fn summed(alloc: Global) -> Result<Vec<u8>, AllocError> {
     let mut text = Vec::new(alloc);
     append(&mut text, "int main(void){", 1)?;
-    append_numbers(alloc, &mut text, "int v", 250, "=read_word();")?;
+    append_numbers(alloc, &mut text, "int v", 0..250, "=read_word();")?;
     append(&mut text, "write_word(v0", 1)?;
-    for number in 1..250u32 {
-        append_number(alloc, &mut text, "+v", number, "")?;
-    }
+    append_numbers(alloc, &mut text, "+v", 1..250, "")?;
     append(&mut text, ");}", 1)?;
     Ok(text)
 }

@@ -1,6 +1,6 @@
 // The pieces of a unit, linked in every order and from wrong lists.
 
-use super::helpers::{Run, image_runs};
+use super::helpers::{Run, ends_well, image_runs};
 use super::rows::{QUOTIENTS, WORDS};
 use cc_emit::Piece;
 use cc_link::{CompiledUnit, LinkFault, compile_function, link, link_lent, typed_unit};
@@ -165,12 +165,7 @@ fn reversed(alloc: Global) -> Result<CompiledUnit, Fail> {
 #[test]
 fn function_by_function(rt: HostRuntime) -> Result<(), Fail> {
     let unit = reversed(rt.alloc())?;
-    let run = Run {
-        input: WORDS,
-        steps: 10_000,
-        words: &[0, 300],
-        outcome: MachineOutcome::Exited(0),
-    };
+    let run = ends_well(WORDS, 10_000, &[0, 300]);
     let right = image_runs(rt.alloc(), &unit, run)?;
     let kept = unit.stored().source.bytes() == LONG.as_bytes();
     drop(unit);

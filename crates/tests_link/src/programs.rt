@@ -1,7 +1,6 @@
 // The programs of `bench/programs` write what gcc's programs write.
 
-use super::helpers::{Run, runs};
-use cc_rv32::outcome::MachineOutcome;
+use super::helpers::{ends_well, runs};
 use std::test::Fail;
 use tests_texts::programs::{CRC, FIB, GCD, MATMUL, NEST, REGS, SIEVE, SORT};
 
@@ -26,12 +25,7 @@ fn words_of_gcc(rt: HostRuntime) -> Result<(), Fail> {
     for (name, text, input, word) in PROGRAMS.iter() {
         let inputs = [*input];
         let words = [*word];
-        let run = Run {
-            input: inputs.as_slice(),
-            steps: 100_000_000,
-            words: words.as_slice(),
-            outcome: MachineOutcome::Exited(0),
-        };
+        let run = ends_well(inputs.as_slice(), 100_000_000, words.as_slice());
         let right = runs(rt.alloc(), text.as_bytes(), run)?;
         assert!(rt; right, "{name} {input}");
     }

@@ -1,9 +1,8 @@
 // Values in registers and in slots, and nothing computed that nobody needs.
 
-use super::helpers::{Run, runs};
+use super::helpers::{ends_well, runs};
 use super::numbered::summed;
 use cc_link::compile;
-use cc_rv32::outcome::MachineOutcome;
 use std::alloc::{AllocError, Global};
 use std::test::Fail;
 
@@ -20,12 +19,7 @@ fn numbers(alloc: Global) -> Result<Vec<u32>, AllocError> {
 fn sums(alloc: Global) -> Result<bool, Fail> {
     let text = summed(alloc)?;
     let input = numbers(alloc)?;
-    let run = Run {
-        input: input.as_slice(),
-        steps: 100_000,
-        words: &[31_375],
-        outcome: MachineOutcome::Exited(0),
-    };
+    let run = ends_well(input.as_slice(), 100_000, &[31_375]);
     let right = runs(alloc, text.as_slice(), run);
     drop(text);
     drop(input);

@@ -3,7 +3,7 @@
 use super::helpers::{Answer, first_answer};
 use std::alloc::Global;
 use std::test::Fail;
-use tests_texts::parts::{Part, text_of};
+use tests_texts::parts::{Part, main_of, text_of};
 
 // Whether the first function of the text of these parts comes out so.
 fn comes_out(alloc: Global, parts: &[Part<'_>], answer: Answer) -> Result<bool, Fail> {
@@ -24,12 +24,7 @@ static MAINS: [(usize, usize, Answer); 5] = [
 #[test]
 fn nodes_of_main(rt: HostRuntime) -> Result<(), Fail> {
     for (writes, reads, answer) in MAINS.iter() {
-        let parts = [
-            ("int main(void){", 1),
-            ("write_word(0);", *writes),
-            ("read_word();", *reads),
-            ("}", 1),
-        ];
+        let parts = main_of(*writes, *reads);
         let right = comes_out(rt.alloc(), &parts, *answer)?;
         assert!(rt; right, "{writes} {reads}");
     }

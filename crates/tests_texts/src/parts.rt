@@ -13,6 +13,16 @@ pub fn append(text: &mut Vec<u8>, part: &str, times: usize) -> Result<(), AllocE
     Ok(())
 }
 
+/// The parts of a text whose `main` writes 0 so often and then reads so often.
+pub fn main_of(writes: usize, reads: usize) -> [Part<'static>; 4] {
+    [
+        ("int main(void){", 1),
+        ("write_word(0);", writes),
+        ("read_word();", reads),
+        ("}", 1),
+    ]
+}
+
 /// The text of these parts.
 pub fn text_of(alloc: Global, parts: &[Part<'_>]) -> Result<Vec<u8>, AllocError> {
     let mut text = Vec::new(alloc);
