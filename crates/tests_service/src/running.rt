@@ -1,7 +1,8 @@
 // A service with its workers.
 //
-// `starting` opens one, `reading` reads answers, `answers` makes each call, `calls` has one client and two in threads, `crowds` sixteen,
-// `gates` holds a worker, `devices` fails, `files` lets a service go and opens its file again, `full` fills a library, `memory` has a growth refused.
+// `starting` opens one, `trial` does what most tests ask of it, `reading` reads answers, `answers` makes each call, `calls` has one client and
+// two in threads, `crowds` sixteen, `gates` holds a worker, `devices` fails, `files` lets a service go and opens its file again, `full` fills a
+// library, `memory` has a growth refused.
 
 mod answers;
 mod calls;
@@ -13,3 +14,4 @@ mod gates;
 mod memory;
 mod reading;
 mod starting;
+mod trial;

@@ -1,38 +1,29 @@
 // What one client is answered: each call on its happy path, and each refusal of names, texts and the map.
 
-ghost use Rattle.tests_service.specs.internal.Named.{IsNamed};
-
 use super::reading::{done_at, is_found, is_listed, number};
-use super::starting::{ALL, Begun, Fused, alone, ended, opened, prepared};
+use super::starting::{ALL, Fused, Own, ended};
+use super::trial::{Trial, succeeds};
 use crate::helpers::{TEXTS, repeated};
 use crate::model::{EMPTY, replayed, shows};
 use cc_disk::Disk;
 use cc_history::Receipt;
 use cc_pool::NoGate;
-use cc_service::{Client, Closed, Named, ServiceFault};
+use cc_service::{Client, Closed, ServiceFault};
 use std::alloc::Global;
-use std::marker::Brand;
 use std::sync::Wait;
 use std::test::Fail;
-use std::thread::Threads;
+use tests_texts::lists::alone;
 
 // The map after the changes.
 const AFTER: [Option<usize>; 3] = [Some(2), Some(0), None];
 
 #[test]
 fn one_client_makes_each_call(rt: HostRuntime) -> Result<(), Fail> {
-    let begun = prepared(rt.alloc(), ALL)?;
-    assert!(rt; each_call::<Brand, HostRuntime>(&rt, rt.alloc(), begun)?);
-    Ok(())
+    succeeds(&rt, rt.alloc(), ALL, 2, NoGate, Trial::EachCall)
 }
 
-fn each_call<N, R>(rt: &R, alloc: Global, begun: Begun) -> Result<bool, Fail>
-where
-    N: Named + Send + Sync + 'static,
-    R: Threads + Wait + Copy + Send + 'static,
-    requires { IsNamed begun.fresh begun.base N.name N.parts N.queue N.base N.from N.left }
-{
-    let service = opened::<N, R, NoGate>(rt, alloc, begun, 2, NoGate)?;
+/// Changes, looks and refusals, and the end.
+pub fn each_call<N: Own, R: Wait>(rt: &R, alloc: Global, service: Fused<N>) -> Result<bool, Fail> {
     let mut client = service.client(rt, alloc)?;
     let changed = are_changed(rt, alloc, &service, &mut client);
     let seen = are_seen(rt, alloc, &service, &mut client);
@@ -47,11 +38,12 @@ where
 }
 
 // Looks at no names, adds two, the later one first, puts another unit in place of the other: entries 1 to 4.
-fn are_changed<N, R>(rt: &R, alloc: Global, service: &Fused<N>, client: &mut Client<N>) -> bool
-where
-    N: Named + Send + Sync + 'static,
-    R: Wait,
-{
+fn are_changed<N: Own, R: Wait>(
+    rt: &R,
+    alloc: Global,
+    service: &Fused<N>,
+    client: &mut Client<N>,
+) -> bool {
     is_listed(service.list(rt, alloc, client), 1, &EMPTY)
         && done_at(service.add(rt, alloc, client, b"b", TEXTS[0])) == 2
         && done_at(service.add(rt, alloc, client, b"a", TEXTS[1])) == 3
@@ -59,11 +51,12 @@ where
 }
 
 // Looks at one name and at all, before and after a compaction, which is no entry: entries 5 to 7.
-fn are_seen<N, R>(rt: &R, alloc: Global, service: &Fused<N>, client: &mut Client<N>) -> bool
-where
-    N: Named + Send + Sync + 'static,
-    R: Wait,
-{
+fn are_seen<N: Own, R: Wait>(
+    rt: &R,
+    alloc: Global,
+    service: &Fused<N>,
+    client: &mut Client<N>,
+) -> bool {
     is_listed(service.list(rt, alloc, client), 5, &AFTER)
         && number(service.compact(rt, alloc)) == 0
         && is_found(service.get(rt, alloc, client, b"a"), 6, TEXTS[2])
@@ -71,16 +64,12 @@ where
 }
 
 // Names that are none, texts that are none, and names that have a unit or none: the last four are entries 8 to 11.
-fn are_refused<N, R>(
+fn are_refused<N: Own, R: Wait>(
     rt: &R,
     alloc: Global,
     service: &Fused<N>,
     client: &mut Client<N>,
-) -> Result<bool, Fail>
-where
-    N: Named + Send + Sync + 'static,
-    R: Wait,
-{
+) -> Result<bool, Fail> {
     let long = [b'a'; 33];
     let names = number(service.withdraw(rt, alloc, client, b"A")) == 33
         && number(service.add(rt, alloc, client, b"", TEXTS[0])) == 33
@@ -116,7 +105,7 @@ fn is_refused_at(answer: Result<Receipt, ServiceFault>, number: u32, column: usi
 
 // Texts with an unclosed comment, another token than is expected, and an unknown name; one that is too long for a text, one with too many
 // nodes for a function, and one that is too long for the area.
-fn are_texts_refused<N: Named + Send + Sync + 'static, R: Wait>(
+fn are_texts_refused<N: Own, R: Wait>(
     rt: &R,
     alloc: Global,
     service: &Fused<N>,

@@ -3,7 +3,8 @@
 ghost use Rattle.tests_service.specs.internal.Named.{IsNamed};
 
 use super::reading::{absent_at, done_at, is_found, number};
-use super::starting::{ALL, Begun, Fused, SMALL, adds, alone, both, ended, opened, prepared};
+use super::starting::{ALL, Begun, Fused, Own, SMALL, adds, begin, ended, opened, prepared};
+use super::trial::{Trial, succeeds};
 use crate::helpers::opened as opened_library;
 use cc_pool::NoGate;
 use cc_service::{BookFault, Client, MOST_CLIENTS, Named, ServiceFault};
@@ -14,22 +15,15 @@ use std::sync::Wait;
 use std::test::Fail;
 use std::thread;
 use std::thread::Threads;
+use tests_texts::lists::{alone, both};
 
 #[test]
 fn one_client(rt: HostRuntime) -> Result<(), Fail> {
-    let begun = prepared(rt.alloc(), ALL)?;
-    assert!(rt; four_calls::<Brand, HostRuntime>(&rt, rt.alloc(), begun)?);
-    Ok(())
+    succeeds(&rt, rt.alloc(), ALL, 1, NoGate, Trial::FourCalls)
 }
 
-// Adds, gets, withdraws and gets again; ends without the client, then with it.
-fn four_calls<N, R>(rt: &R, alloc: Global, begun: Begun) -> Result<bool, Fail>
-where
-    N: Named + Send + Sync + 'static,
-    R: Threads + Wait + Copy + Send + 'static,
-    requires { IsNamed begun.fresh begun.base N.name N.parts N.queue N.base N.from N.left }
-{
-    let service = opened::<N, R, NoGate>(rt, alloc, begun, 1, NoGate)?;
+/// Adds, gets, withdraws and gets again; ends without the client, then with it.
+pub fn four_calls<N: Own, R: Wait>(rt: &R, alloc: Global, service: Fused<N>) -> Result<bool, Fail> {
     let mut client = service.client(rt, alloc)?;
     let right = are_answered(rt, alloc, &service, &mut client);
     let (service, refused) = ended_without(rt, alloc, service)?;
@@ -43,11 +37,12 @@ where
     )
 }
 
-fn are_answered<N, R>(rt: &R, alloc: Global, service: &Fused<N>, client: &mut Client<N>) -> bool
-where
-    N: Named + Send + Sync + 'static,
-    R: Wait,
-{
+fn are_answered<N: Own, R: Wait>(
+    rt: &R,
+    alloc: Global,
+    service: &Fused<N>,
+    client: &mut Client<N>,
+) -> bool {
     done_at(service.add(rt, alloc, client, b"a", SMALL)) == 1
         && is_found(service.get(rt, alloc, client, b"a"), 2, SMALL)
         && done_at(service.withdraw(rt, alloc, client, b"a")) == 3
@@ -55,11 +50,11 @@ where
 }
 
 // The service, whose end is refused without its client, and whether it is as it has to be.
-fn ended_without<N, R>(rt: &R, alloc: Global, service: Fused<N>) -> Result<(Fused<N>, bool), Fail>
-where
-    N: Named + Send + Sync + 'static,
-    R: Wait,
-{
+fn ended_without<N: Own, R: Wait>(
+    rt: &R,
+    alloc: Global,
+    service: Fused<N>,
+) -> Result<(Fused<N>, bool), Fail> {
     match service.finish(rt, alloc, Vec::new(alloc)) {
         Ok(closed) => {
             drop(closed);
@@ -99,7 +94,7 @@ where
     R: Threads + Wait + Copy + Send + Sync + 'static,
     requires { IsNamed begun.fresh begun.base N.name N.parts N.queue N.base N.from N.left }
 {
-    let service = opened::<N, R, NoGate>(rt, alloc, begun, 2, NoGate)?;
+    let service = opened(begin::<N, R, NoGate>(rt, alloc, begun, 2, NoGate))?;
     let one = service.client(rt, alloc)?;
     let other = service.client(rt, alloc)?;
     let shared = &service;
@@ -121,19 +116,11 @@ where
 
 #[test]
 fn the_last_client(rt: HostRuntime) -> Result<(), Fail> {
-    let begun = prepared(rt.alloc(), ALL)?;
-    assert!(rt; many_clients::<Brand, HostRuntime>(&rt, rt.alloc(), begun)?);
-    Ok(())
+    succeeds(&rt, rt.alloc(), ALL, 1, NoGate, Trial::AllMade)
 }
 
-// Whether 1,024 clients are made and no more, and the service ends with all.
-fn many_clients<N, R>(rt: &R, alloc: Global, begun: Begun) -> Result<bool, Fail>
-where
-    N: Named + Send + Sync + 'static,
-    R: Threads + Wait + Copy + Send + 'static,
-    requires { IsNamed begun.fresh begun.base N.name N.parts N.queue N.base N.from N.left }
-{
-    let service = opened::<N, R, NoGate>(rt, alloc, begun, 1, NoGate)?;
+/// Whether 1,024 clients are made and no more, and the service ends with all.
+pub fn all_made<N: Own, R: Wait>(rt: &R, alloc: Global, service: Fused<N>) -> Result<bool, Fail> {
     let mut clients = Vec::new(alloc);
     for _ in 0..MOST_CLIENTS {
         clients.push(service.client(rt, alloc)?)?;
@@ -145,26 +132,35 @@ where
 
 #[test]
 fn given_up_with_its_client(rt: HostRuntime) -> Result<(), Fail> {
-    let begun = prepared(rt.alloc(), ALL)?;
-    assert!(rt; gives_up::<Brand, HostRuntime>(&rt, rt.alloc(), begun, false)?);
-    Ok(())
+    succeeds(
+        &rt,
+        rt.alloc(),
+        ALL,
+        1,
+        NoGate,
+        Trial::GivesUp { is_lost: false },
+    )
 }
 
 #[test]
 fn given_up_without_its_client(rt: HostRuntime) -> Result<(), Fail> {
-    let begun = prepared(rt.alloc(), ALL)?;
-    assert!(rt; gives_up::<Brand, HostRuntime>(&rt, rt.alloc(), begun, true)?);
-    Ok(())
+    succeeds(
+        &rt,
+        rt.alloc(),
+        ALL,
+        1,
+        NoGate,
+        Trial::GivesUp { is_lost: true },
+    )
 }
 
-// Adds a unit and gives the service up, without its client where that is lost: whether it says so, and the disk has the unit.
-fn gives_up<N, R>(rt: &R, alloc: Global, begun: Begun, is_lost: bool) -> Result<bool, Fail>
-where
-    N: Named + Send + Sync + 'static,
-    R: Threads + Wait + Copy + Send + 'static,
-    requires { IsNamed begun.fresh begun.base N.name N.parts N.queue N.base N.from N.left }
-{
-    let service = opened::<N, R, NoGate>(rt, alloc, begun, 1, NoGate)?;
+/// Adds a unit and gives the service up, without its client where that is lost: whether it says so, and the disk has the unit.
+pub fn gives_up<N: Own, R: Wait>(
+    rt: &R,
+    alloc: Global,
+    service: Fused<N>,
+    is_lost: bool,
+) -> Result<bool, Fail> {
     let mut client = service.client(rt, alloc)?;
     let added = number(service.add(rt, alloc, &mut client, b"a", SMALL));
     let mut clients = Vec::with_capacity(alloc, 1)?;

@@ -1,15 +1,13 @@
 // Sixteen clients in threads of their own, whose history is replayed against the model.
 
-ghost use Rattle.tests_service.specs.internal.Named.{IsNamed};
-
 use super::reading::number;
-use super::starting::{ALL, Begun, Fused, ended, opened, prepared};
+use super::starting::{ALL, Fused, ended};
+use super::trial::{Trial, succeeds};
 use crate::helpers::{NAMES, TEXTS, bytes_at};
 use crate::model::{replayed, shows};
 use cc_pool::NoGate;
 use cc_service::{Client, Named};
 use std::alloc::Global;
-use std::marker::Brand;
 use std::sync::Wait;
 use std::test::Fail;
 use std::thread;
@@ -22,19 +20,15 @@ const CALLS: u64 = 500;
 
 #[test]
 fn sixteen_clients(rt: HostRuntime) -> Result<(), Fail> {
-    let begun = prepared(rt.alloc(), ALL)?;
-    assert!(rt; are_replayed::<Brand, HostRuntime>(&rt, rt.alloc(), begun)?);
-    Ok(())
+    succeeds(&rt, rt.alloc(), ALL, 4, NoGate, Trial::SixteenClients)
 }
 
-// Whether the calls of all clients stand in one history, which the model makes too, and the library is the model's at its end.
-fn are_replayed<N, R>(rt: &R, alloc: Global, begun: Begun) -> Result<bool, Fail>
+/// Whether the calls of all clients stand in one history, which the model makes too, and the library is the model's at its end.
+pub fn are_replayed<N, R>(rt: &R, alloc: Global, service: Fused<N>) -> Result<bool, Fail>
 where
     N: Named + Send + Sync + 'static,
     R: Threads + Wait + Copy + Send + Sync + 'static,
-    requires { IsNamed begun.fresh begun.base N.name N.parts N.queue N.base N.from N.left }
 {
-    let service = opened::<N, R, NoGate>(rt, alloc, begun, 4, NoGate)?;
     let mut clients = Vec::new(alloc);
     for _ in 0..CLIENTS {
         clients.push(service.client(rt, alloc)?)?;

@@ -2,35 +2,27 @@
 
 ghost use Rattle.tests_service.specs.internal.Named.{IsNamed};
 
-use super::reading::{absent_at, is_listed, number};
-use super::starting::{
-    Begun, Device, Fused, OPENING, SMALL, alone, ended, holds, opened, prepared,
-};
+use super::reading::{absent_at, is_listed, number, refused_with};
+use super::starting::{Begun, Device, Fused, OPENING, Own, SMALL, begin, ended, holds, prepared};
+use super::trial::{Trial, is_right, succeeds};
 use crate::helpers::TEXTS;
 use crate::model::{EMPTY, Model};
 use cc_pool::NoGate;
-use cc_service::{Client, Named, Service};
+use cc_service::{Client, Named};
 use std::alloc::Global;
 use std::marker::Brand;
 use std::sync::Wait;
 use std::test::Fail;
 use std::thread::Threads;
+use tests_texts::lists::alone;
 
 #[test]
 fn a_failed_add(rt: HostRuntime) -> Result<(), Fail> {
-    let begun = prepared(rt.alloc(), OPENING + 2)?;
-    assert!(rt; fails_at_first::<Brand, HostRuntime>(&rt, rt.alloc(), begun)?);
-    Ok(())
+    succeeds(&rt, rt.alloc(), OPENING + 2, 1, NoGate, Trial::FailsOnce)
 }
 
-// The first change fails, the next is refused, a look is answered; the disk has nothing.
-fn fails_at_first<N, R>(rt: &R, alloc: Global, begun: Begun) -> Result<bool, Fail>
-where
-    N: Named + Send + Sync + 'static,
-    R: Threads + Wait + Copy + Send + 'static,
-    requires { IsNamed begun.fresh begun.base N.name N.parts N.queue N.base N.from N.left }
-{
-    let service = opened::<N, R, NoGate>(rt, alloc, begun, 1, NoGate)?;
+/// The first change fails, the next is refused, a look is answered; the disk has nothing.
+pub fn fails_once<N: Own, R: Wait>(rt: &R, alloc: Global, service: Fused<N>) -> Result<bool, Fail> {
     let mut client = service.client(rt, alloc)?;
     let right = number(service.add(rt, alloc, &mut client, b"a", SMALL)) == 35
         && number(service.add(rt, alloc, &mut client, b"b", SMALL)) == 36
@@ -50,17 +42,13 @@ const MAPS: [Model; 6] = [
 ];
 
 // The five calls, by their places.
-fn call<N, R>(
+fn call<N: Own, R: Wait>(
     rt: &R,
     alloc: Global,
     service: &Fused<N>,
     client: &mut Client<N>,
     place: usize,
-) -> u32
-where
-    N: Named + Send + Sync + 'static,
-    R: Wait,
-{
+) -> u32 {
     match place {
         0 => number(service.add(rt, alloc, client, b"a", TEXTS[0])),
         1 => number(service.add(rt, alloc, client, b"b", TEXTS[0])),
@@ -76,16 +64,12 @@ fn map_at(place: usize) -> Model {
 }
 
 // The place of the call that was answered 35, or 5; an error where one before it was not Ok, or one behind it not answered 36.
-fn failed_at<N, R>(
+fn failed_at<N: Own, R: Wait>(
     rt: &R,
     alloc: Global,
     service: &Fused<N>,
     client: &mut Client<N>,
-) -> Result<usize, Fail>
-where
-    N: Named + Send + Sync + 'static,
-    R: Wait,
-{
+) -> Result<usize, Fail> {
     let mut failed = 5usize;
     for place in 0..5 {
         let answer = call(rt, alloc, service, client, place);
@@ -98,15 +82,14 @@ where
     Ok(failed)
 }
 
-// Makes the five calls, looks, and ends: the place of the one that failed, and whether the look, the end, and the disk after crashes are
-// as they should be.
-fn five_calls<N, R>(rt: &R, alloc: Global, begun: Begun) -> Result<(usize, bool), Fail>
-where
-    N: Named + Send + Sync + 'static,
-    R: Threads + Wait + Copy + Send + 'static,
-    requires { IsNamed begun.fresh begun.base N.name N.parts N.queue N.base N.from N.left }
-{
-    let service = opened::<N, R, NoGate>(rt, alloc, begun, 1, NoGate)?;
+/// Makes the five calls, looks, and ends: whether the one at this place failed, or none where it is 5, and the look, the end, and the disk
+/// after crashes are as they should be.
+pub fn five_calls<N: Own, R: Wait>(
+    rt: &R,
+    alloc: Global,
+    service: Fused<N>,
+    wanted: usize,
+) -> Result<bool, Fail> {
     let mut client = service.client(rt, alloc)?;
     let failed = failed_at(rt, alloc, &service, &mut client)?;
     let before = map_at(failed);
@@ -119,17 +102,18 @@ where
     let listed = is_listed(service.list(rt, alloc, &mut client), next, &before);
     let closed = ended(rt, alloc, service, alone(alloc, client)?)?;
     let right = holds(alloc, closed.library.into_disk(), &before, &later)?;
-    Ok((failed, listed && right))
+    Ok(failed == wanted && listed && right)
 }
 
 #[test]
 fn a_device_that_fails_once(rt: HostRuntime) -> Result<(), Fail> {
     for passes in 0..21 {
-        let begun = prepared(rt.alloc(), OPENING + passes)?;
-        let (failed, right) = five_calls::<Brand, HostRuntime>(&rt, rt.alloc(), begun)?;
+        let trial = Trial::FiveCalls {
+            failed: passes as usize / 4,
+        };
         assert!(rt;
-            right && failed == passes as usize / 4,
-            "{passes}: {failed}"
+            is_right(&rt, rt.alloc(), OPENING + passes, 1, NoGate, trial)?,
+            "{passes}"
         );
     }
     Ok(())
@@ -142,27 +126,7 @@ where
     R: Threads + Wait + Copy + Send + 'static,
     requires { IsNamed begun.fresh begun.base N.name N.parts N.queue N.base N.from N.left }
 {
-    let Begun {
-        device,
-        base,
-        fresh,
-    } = begun;
-    drop(base);
-    match Service::<N, Device>::open(rt, alloc, fresh, device, 1, NoGate) {
-        Ok(service) => {
-            drop(service);
-            Err(Fail::from("opened"))
-        }
-        Err((fault, device)) => {
-            let number = fault.number();
-            drop(fault);
-            if number != 35 {
-                drop(device);
-                return Err(Fail::from("another fault"));
-            }
-            Ok(device)
-        }
-    }
+    refused_with(begin::<N, R, NoGate>(rt, alloc, begun, 1, NoGate), 35)
 }
 
 #[test]

@@ -2,20 +2,21 @@
 
 ghost use Rattle.tests_service.specs.internal.Named.{AreNamed};
 
-use super::reading::{done_at, is_found};
-use super::starting::alone;
+use super::reading::{done_at, is_found, refused_with};
+use super::starting::{Own, opened};
 use crate::helpers::{AREA, SIZE, TEXTS};
 use crate::model::shows;
 use cc_disk::FileDisk;
 use cc_journal::format;
 use cc_pool::NoGate;
-use cc_service::{Fresh, Named, Service};
+use cc_service::{Client, Fresh, Service};
 use std::alloc::Global;
 use std::fs;
 use std::marker::Brand;
 use std::sync::Wait;
 use std::test::Fail;
 use std::thread::Threads;
+use tests_texts::lists::alone;
 
 #[test]
 fn a_service_that_is_let_go(rt: HostRuntime) -> Result<(), Fail> {
@@ -39,69 +40,50 @@ fn not_a_library<N, R>(
     disk: FileDisk,
 ) -> Result<FileDisk, Fail>
 where
-    N: Named + Send + Sync + 'static,
+    N: Own,
     R: Threads + Wait + Copy + Send + 'static,
     requires { AreNamed fresh N.name N.parts N.queue }
 {
-    match Service::<N, FileDisk>::open(rt, alloc, fresh, disk, 1, NoGate) {
-        Ok(service) => {
-            drop(service);
-            Err(Fail::from("opened"))
-        }
-        Err((fault, disk)) => {
-            let number = fault.number();
-            drop(fault);
-            if number != 38 {
-                drop(disk);
-                return Err(Fail::from("another fault"));
-            }
-            Ok(disk)
-        }
-    }
+    refused_with(
+        Service::<N, FileDisk>::open(rt, alloc, fresh, disk, 1, NoGate),
+        38,
+    )
 }
 
-// The service on a file, with one worker.
-fn opened<N, R>(
+// The service on a file, with one worker, and a client.
+fn begun<N, R>(
     rt: &R,
     alloc: Global,
     fresh: Fresh,
     disk: FileDisk,
-) -> Result<Service<N, FileDisk>, Fail>
+) -> Result<(Service<N, FileDisk>, Client<N>), Fail>
 where
-    N: Named + Send + Sync + 'static,
+    N: Own,
     R: Threads + Wait + Copy + Send + 'static,
     requires { AreNamed fresh N.name N.parts N.queue }
 {
-    match Service::open(rt, alloc, fresh, disk, 1, NoGate) {
-        Ok(service) => Ok(service),
-        Err(back) => {
-            drop(back);
-            Err(Fail::from("not opened"))
-        }
-    }
+    let service = opened(Service::open(rt, alloc, fresh, disk, 1, NoGate))?;
+    let client = service.client(rt, alloc)?;
+    Ok((service, client))
 }
 
 // Adds, and lets the service go once the receipt is there.
-fn adds<N, R>(rt: &R, alloc: Global, fresh: Fresh, disk: FileDisk) -> Result<bool, Fail>
+fn adds<N: Own, R>(rt: &R, alloc: Global, fresh: Fresh, disk: FileDisk) -> Result<bool, Fail>
 where
-    N: Named + Send + Sync + 'static,
     R: Threads + Wait + Copy + Send + 'static,
     requires { AreNamed fresh N.name N.parts N.queue }
 {
-    let service = opened::<N, R>(rt, alloc, fresh, disk)?;
-    let mut client = service.client(rt, alloc)?;
+    let (service, mut client) = begun::<N, R>(rt, alloc, fresh, disk)?;
     Ok(done_at(service.add(rt, alloc, &mut client, b"a", TEXTS[2])) == 1)
 }
 
 // Finds what the other one added: it is in the base, and in no entry of the new history.
-fn finds<N, R>(rt: &R, alloc: Global, fresh: Fresh, disk: FileDisk) -> Result<bool, Fail>
+fn finds<N: Own, R>(rt: &R, alloc: Global, fresh: Fresh, disk: FileDisk) -> Result<bool, Fail>
 where
-    N: Named + Send + Sync + 'static,
     R: Threads + Wait + Copy + Send + 'static,
     requires { AreNamed fresh N.name N.parts N.queue }
 {
-    let service = opened::<N, R>(rt, alloc, fresh, disk)?;
-    let mut client = service.client(rt, alloc)?;
+    let (service, mut client) = begun::<N, R>(rt, alloc, fresh, disk)?;
     let found = is_found(service.get(rt, alloc, &mut client, b"a"), 1, TEXTS[2]);
     match service.finish(rt, alloc, alone(alloc, client)?) {
         Ok(closed) => Ok(

@@ -4,7 +4,7 @@ ghost use Rattle.tests_service.specs.internal.Named.{IsNamed};
 
 use super::reading::number;
 use super::starting::{
-    ALL, Begun, Device, Fused, OPENING, SMALL, both, ended, holds, opened, prepared,
+    ALL, Begun, Device, Fused, OPENING, SMALL, begin, ended, holds, opened, prepared,
 };
 use crate::helpers::TEXTS;
 use crate::model::Model;
@@ -16,6 +16,7 @@ use std::marker::Brand;
 use std::sync::Wait;
 use std::test::Fail;
 use std::thread::Threads;
+use tests_texts::lists::both;
 
 // How many device calls a change makes, and a compaction.
 const CALLS: u64 = 4;
@@ -51,7 +52,7 @@ where
     R: Threads + Wait + Copy + Send + 'static,
     requires { IsNamed begun.fresh begun.base N.name N.parts N.queue N.base N.from N.left }
 {
-    let service = opened::<N, R, NoGate>(rt, alloc, begun, 1, NoGate)?;
+    let service = opened(begin::<N, R, NoGate>(rt, alloc, begun, 1, NoGate))?;
     let mut plain = service.client(rt, alloc)?;
     let mut client = service.client(rt, alloc)?.compacting();
     let made = refill(rt, alloc, &service, &mut plain);
@@ -118,7 +119,7 @@ where
     R: Threads + Wait + Copy + Send + 'static,
     requires { IsNamed begun.fresh begun.base N.name N.parts N.queue N.base N.from N.left }
 {
-    let service = opened::<N, R, NoGate>(rt, alloc, begun, 1, NoGate)?;
+    let service = opened(begin::<N, R, NoGate>(rt, alloc, begun, 1, NoGate))?;
     let mut client = service.client(rt, alloc)?.compacting();
     let plain = service.client(rt, alloc)?;
     let made = fill(rt, alloc, &service, &mut client);

@@ -1,25 +1,24 @@
 // A worker that a gate holds: the other one works, and other clients are answered.
 
-ghost use Rattle.tests_service.specs.internal.Named.{IsNamed};
-
 use super::reading::number;
-use super::starting::{ALL, Begun, Fused, adds, alone, both, ended, opened, prepared};
+use super::starting::{ALL, Fused, Own, adds, ended};
+use super::trial::{Trial, succeeds};
 use cc_pool::Gate;
 use cc_service::{Client, Named};
 use std::alloc::Global;
-use std::marker::Brand;
 use std::sync::atomic::{AtomicU64, Ordering};
 use std::sync::{Arc, Wait};
 use std::test::Fail;
 use std::thread;
 use std::thread::Threads;
+use tests_texts::lists::{alone, both};
 use tests_texts::worked::LONG;
 
 // How often a gate that holds lets others go on, at most.
 const TURNS: u64 = 20_000_000;
 
-// What a gate and its test tell each other.
-struct Signs {
+/// What a gate and its test tell each other.
+pub struct Signs {
     // How many calls the gate has had.
     calls: AtomicU64,
     // At how many of these, or of other signs, the first call is let go.
@@ -67,7 +66,8 @@ impl Drop for Signs {
     }
 }
 
-fn two_signs(alloc: Global, wanted: u64) -> Result<(Arc<Signs>, Arc<Signs>), Fail> {
+// What a gate tells that holds until this many signs have come, of which each of its calls is one or is none; and the gate.
+fn held_until(alloc: Global, wanted: u64, calls_count: bool) -> Result<(Arc<Signs>, Holds), Fail> {
     let signs = Arc::new(
         alloc,
         Signs {
@@ -77,66 +77,52 @@ fn two_signs(alloc: Global, wanted: u64) -> Result<(Arc<Signs>, Arc<Signs>), Fai
             ended: AtomicU64::new(0),
         },
     )?;
-    let theirs = Arc::try_clone(&signs)?;
-    Ok((signs, theirs))
+    let gate = Holds {
+        signs: Arc::try_clone(&signs)?,
+        calls_count,
+    };
+    Ok((signs, gate))
 }
 
 #[test]
 fn two_pieces_at_once(rt: HostRuntime) -> Result<(), Fail> {
-    let begun = prepared(rt.alloc(), ALL)?;
-    let (mine, theirs) = two_signs(rt.alloc(), 2)?;
-    let gate = Holds {
-        signs: theirs,
-        calls_count: true,
-    };
-    let number = held_by_a_piece::<Brand, HostRuntime>(&rt, rt.alloc(), begun, gate)?;
-    assert_eq!(rt; number, 0);
-    assert_eq!(rt; mine.ended.load(Ordering::SeqCst), 1);
-    Ok(())
+    let (signs, gate) = held_until(rt.alloc(), 2, true)?;
+    let trial = Trial::HeldByAPiece { signs: &signs };
+    succeeds(&rt, rt.alloc(), ALL, 2, gate, trial)
 }
 
-// The answer to an `add` whose first piece is held until the other one is begun.
-fn held_by_a_piece<N, R>(rt: &R, alloc: Global, begun: Begun, gate: Holds) -> Result<u32, Fail>
-where
-    N: Named + Send + Sync + 'static,
-    R: Threads + Wait + Copy + Send + 'static,
-    requires { IsNamed begun.fresh begun.base N.name N.parts N.queue N.base N.from N.left }
-{
-    let service = opened::<N, R, Holds>(rt, alloc, begun, 2, gate)?;
+/// Whether an `add` is answered with Ok whose first piece is held until the other one is begun, and the hold ended below its limit.
+pub fn held_by_a_piece<N: Own, R: Wait>(
+    rt: &R,
+    alloc: Global,
+    service: Fused<N>,
+    signs: &Signs,
+) -> Result<bool, Fail> {
     let mut client = service.client(rt, alloc)?;
     let answer = number(service.add(rt, alloc, &mut client, b"a", LONG.as_bytes()));
     drop(ended(rt, alloc, service, alone(alloc, client)?)?);
-    Ok(answer)
+    Ok(answer == 0 && signs.ended.load(Ordering::SeqCst) == 1)
 }
 
 #[test]
 fn another_client_is_answered(rt: HostRuntime) -> Result<(), Fail> {
-    let begun = prepared(rt.alloc(), ALL)?;
-    let (mine, theirs) = two_signs(rt.alloc(), 1)?;
-    let gate = Holds {
-        signs: theirs,
-        calls_count: false,
-    };
-    let numbers = held_by_a_client::<Brand, HostRuntime>(&rt, rt.alloc(), begun, gate, &mine)?;
-    assert_eq!(rt; numbers, (0, 0));
-    assert_eq!(rt; mine.ended.load(Ordering::SeqCst), 1);
-    Ok(())
+    let (signs, gate) = held_until(rt.alloc(), 1, false)?;
+    let trial = Trial::HeldByAClient { signs: &signs };
+    succeeds(&rt, rt.alloc(), ALL, 2, gate, trial)
 }
 
-// The numbers of two answers: of an `add` that is held, and of one that is begun and answered during the hold.
-fn held_by_a_client<N, R>(
+/// Whether two adds are answered with Ok, of which one is held and the other one is begun and answered during the hold, and that ended below
+/// its limit.
+pub fn held_by_a_client<N, R>(
     rt: &R,
     alloc: Global,
-    begun: Begun,
-    gate: Holds,
+    service: Fused<N>,
     signs: &Signs,
-) -> Result<(u32, u32), Fail>
+) -> Result<bool, Fail>
 where
     N: Named + Send + Sync + 'static,
     R: Threads + Wait + Copy + Send + Sync + 'static,
-    requires { IsNamed begun.fresh begun.base N.name N.parts N.queue N.base N.from N.left }
 {
-    let service = opened::<N, R, Holds>(rt, alloc, begun, 2, gate)?;
     let one = service.client(rt, alloc)?;
     let other = service.client(rt, alloc)?;
     let shared = &service;
@@ -148,7 +134,7 @@ where
     let (one, first) = a;
     let (other, second) = b;
     drop(ended(rt, alloc, service, both(alloc, one, other)?)?);
-    Ok((first, second))
+    Ok(first == 0 && second == 0 && signs.ended.load(Ordering::SeqCst) == 1)
 }
 
 // Adds once the gate holds, and then gives the sign.

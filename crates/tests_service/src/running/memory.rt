@@ -1,23 +1,19 @@
 // An `add` of which a growth is refused. `bench/memory.sh service` refuses each allocation of this test in turn, so one in all.
 
-ghost use Rattle.tests_service.specs.internal.Named.{IsNamed};
-
 use super::reading::number;
-use super::starting::{ALL, Begun, Fused, alone, ended, opened, prepared};
+use super::starting::{ALL, Fused, Own, ended};
+use super::trial::{Trial, succeeds};
 use cc_pool::NoGate;
-use cc_service::{Client, Named};
+use cc_service::Client;
 use std::alloc::Global;
-use std::marker::Brand;
 use std::sync::Wait;
 use std::test::Fail;
-use std::thread::Threads;
+use tests_texts::lists::alone;
 use tests_texts::worked::LONG;
 
 #[test]
 fn every_growth_of_an_add(rt: HostRuntime) -> Result<(), Fail> {
-    let begun = prepared(rt.alloc(), ALL)?;
-    assert!(rt; is_added::<Brand, HostRuntime>(&rt, rt.alloc(), begun)?);
-    Ok(())
+    succeeds(&rt, rt.alloc(), ALL, 1, NoGate, Trial::IsAdded)
 }
 
 // Whether memory ran out.
@@ -27,16 +23,12 @@ fn is_out(number: u32) -> bool {
 
 // Adds one unit twice, where the first call was refused by 40 or 41 as if it had not been made: how many entries there are, or none
 // where it was not so.
-fn adds_twice<N, R>(
+fn adds_twice<N: Own, R: Wait>(
     rt: &R,
     alloc: Global,
     service: &Fused<N>,
     client: &mut Client<N>,
-) -> Option<usize>
-where
-    N: Named + Send + Sync + 'static,
-    R: Wait,
-{
+) -> Option<usize> {
     let first = number(service.add(rt, alloc, client, b"a", LONG.as_bytes()));
     if first != 0 && (!is_out(first) || client.receipts().len() != 0) {
         return None;
@@ -53,14 +45,8 @@ where
     if right { Some(entries) } else { None }
 }
 
-// Whether the unit is there at the end, and the calls that were answered are all that is in the history.
-fn is_added<N, R>(rt: &R, alloc: Global, begun: Begun) -> Result<bool, Fail>
-where
-    N: Named + Send + Sync + 'static,
-    R: Threads + Wait + Copy + Send + 'static,
-    requires { IsNamed begun.fresh begun.base N.name N.parts N.queue N.base N.from N.left }
-{
-    let service = opened::<N, R, NoGate>(rt, alloc, begun, 1, NoGate)?;
+/// Whether the unit is there at the end, and the calls that were answered are all that is in the history.
+pub fn is_added<N: Own, R: Wait>(rt: &R, alloc: Global, service: Fused<N>) -> Result<bool, Fail> {
     let mut client = service.client(rt, alloc)?;
     let Some(entries) = adds_twice(rt, alloc, &service, &mut client) else {
         return Ok(false);

@@ -1,8 +1,10 @@
 // Reads answers.
 
 use crate::model::{Model, are_names};
+use cc_disk::Disk;
 use cc_history::Receipt;
-use cc_service::{BookFault, Found, Listing, ServiceFault};
+use cc_service::{BookFault, Found, Listing, Named, Service, ServiceFault};
+use std::test::Fail;
 
 /// The number of an answer, 0 for Ok.
 pub fn number<T: Drop>(answer: Result<T, ServiceFault>) -> u32 {
@@ -15,6 +17,28 @@ pub fn number<T: Drop>(answer: Result<T, ServiceFault>) -> u32 {
             let number = fault.number();
             drop(fault);
             number
+        }
+    }
+}
+
+/// The disk that an opening gives back with the fault of this number.
+pub fn refused_with<N: Named, D: Disk + Drop>(
+    answer: Result<Service<N, D>, (ServiceFault, D)>,
+    wanted: u32,
+) -> Result<D, Fail> {
+    match answer {
+        Ok(service) => {
+            drop(service);
+            Err(Fail::from("opened"))
+        }
+        Err((fault, disk)) => {
+            let number = fault.number();
+            drop(fault);
+            if number != wanted {
+                drop(disk);
+                return Err(Fail::from("another fault"));
+            }
+            Ok(disk)
         }
     }
 }

@@ -9,11 +9,12 @@ ghost use Rattle.tests_service.specs.internal.Named.{IsNamed};
 use super::reading::number;
 use crate::helpers::{SIZE, formatted, found, opened as opened_library};
 use crate::model::{Model, shows};
-use cc_disk::{FuseDisk, FuseMode, MemoryDisk};
+use cc_disk::{Disk, FuseDisk, FuseMode, MemoryDisk};
 use cc_library::UnitMap;
 use cc_pool::Gate;
-use cc_service::{Client, Closed, Fresh, Named, Service};
+use cc_service::{Client, Closed, Fresh, Named, Service, ServiceFault};
 use std::alloc::Global;
+use std::marker::Brand;
 use std::sync::Wait;
 use std::test::Fail;
 use std::thread::Threads;
@@ -23,6 +24,11 @@ pub type Device = FuseDisk<MemoryDisk>;
 
 /// A service on such a device.
 pub type Fused<N> = Service<N, Device>;
+
+/// The names of a test's own service.
+pub trait Own: Named + Send + Sync + 'static {}
+
+impl Own for Brand {}
 
 /// How many calls of a device pass where none is to fail.
 pub const ALL: u64 = 1 << 40;
@@ -54,14 +60,14 @@ pub fn prepared(alloc: Global, passes: u64) -> Result<Begun, Fail> {
     })
 }
 
-/// The service, open.
-pub fn opened<N, R, G>(
+/// The service, open; or why it is not, and the device.
+pub fn begin<N, R, G>(
     rt: &R,
     alloc: Global,
     begun: Begun,
     workers: usize,
     gate: G,
-) -> Result<Fused<N>, Fail>
+) -> Result<Fused<N>, (ServiceFault, Device)>
 where
     N: Named + Send + Sync + 'static,
     R: Threads + Wait + Copy + Send + 'static,
@@ -76,10 +82,17 @@ where
         fresh,
     } = begun;
     drop(base);
-    match Service::open(rt, alloc, fresh, device, workers, gate) {
+    Service::open(rt, alloc, fresh, device, workers, gate)
+}
+
+/// The service that an opening gives.
+pub fn opened<N: Named, D: Disk + Drop>(
+    answer: Result<Service<N, D>, (ServiceFault, D)>,
+) -> Result<Service<N, D>, Fail> {
+    match answer {
         Ok(service) => Ok(service),
-        Err((fault, device)) => {
-            drop(device);
+        Err((fault, disk)) => {
+            drop(disk);
             let number = fault.number();
             drop(fault);
             Err(Fail::from(if number == 41 {
@@ -125,25 +138,6 @@ where
             Err(Fail::from("not finished"))
         }
     }
-}
-
-/// A list of one client.
-pub fn alone<N: Named>(alloc: Global, client: Client<N>) -> Result<Vec<Client<N>>, Fail> {
-    let mut clients = Vec::with_capacity(alloc, 1)?;
-    clients.push(client)?;
-    Ok(clients)
-}
-
-/// A list of two.
-pub fn both<N: Named>(
-    alloc: Global,
-    one: Client<N>,
-    other: Client<N>,
-) -> Result<Vec<Client<N>>, Fail> {
-    let mut clients = Vec::with_capacity(alloc, 2)?;
-    clients.push(one)?;
-    clients.push(other)?;
-    Ok(clients)
 }
 
 /// Whether the library on the disk has these units, after a crash that leaves 0x00, 0xa5 or 0xff wherever it may.

@@ -1,6 +1,6 @@
 -- The map that was found is the one that the parameter names. It names the first moment, and nothing of what was left then.
 use Rattle.std.proofs.Common.{◌∙◌, arith}
-use Rattle.tests_service.proofs.running.starting.opened.Goals as goal
+use Rattle.tests_service.proofs.running.starting.begin.Goals as goal
 
 pub open-requires-clause-named : goal.open-requires-clause-named
 open-requires-clause-named g c = λ _ _ h units recovers. c.args.begun.base_is units recovers ∙ c.requires.names.1

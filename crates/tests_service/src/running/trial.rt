@@ -1,0 +1,125 @@
+// What the tests do with a service on a formatted device, and whether it is answered as it should be.
+
+ghost use Rattle.std.specs.Prelude.{◌≤◌};
+ghost use Rattle.tests_service.specs.internal.Named.{IsNamed};
+
+use super::answers::each_call;
+use super::calls::{all_made, four_calls, gives_up};
+use super::crowds::are_replayed;
+use super::devices::{fails_once, five_calls};
+use super::gates::{Signs, held_by_a_client, held_by_a_piece};
+use super::memory::is_added;
+use super::starting::{Begun, Fused, Own, begin, opened, prepared};
+use cc_pool::Gate;
+use std::alloc::Global;
+use std::marker::Brand;
+use std::sync::{Arc, Wait};
+use std::test::Fail;
+use std::thread::Threads;
+
+/// What a test does with a service that is open. Each is a function of the module that has its test.
+#[derive(Clone, Copy)]
+pub enum Trial<'a> {
+    /// One client makes each call.
+    EachCall,
+    /// One client makes four.
+    FourCalls,
+    /// As many clients are made as may be.
+    AllMade,
+    /// The service is given up, with its client or without.
+    GivesUp { is_lost: bool },
+    /// Sixteen clients call at once.
+    SixteenClients,
+    /// The device fails at the first change.
+    FailsOnce,
+    /// The device fails at one of five calls.
+    FiveCalls { failed: usize },
+    /// A piece is held until another one is begun.
+    HeldByAPiece { signs: &'a Arc<Signs> },
+    /// A client is held while another one is answered.
+    HeldByAClient { signs: &'a Arc<Signs> },
+    /// An `add` is made twice, of which a growth may be refused.
+    IsAdded,
+}
+
+// Whether what it looks at is as it should be, on this service.
+fn is_right_on<N, R>(rt: &R, alloc: Global, service: Fused<N>, trial: Trial) -> Result<bool, Fail>
+where
+    N: Own,
+    R: Threads + Wait + Copy + Send + Sync + 'static,
+{
+    match trial {
+        Trial::EachCall => each_call(rt, alloc, service),
+        Trial::FourCalls => four_calls(rt, alloc, service),
+        Trial::AllMade => all_made(rt, alloc, service),
+        Trial::GivesUp { is_lost } => gives_up(rt, alloc, service, is_lost),
+        Trial::SixteenClients => are_replayed(rt, alloc, service),
+        Trial::FailsOnce => fails_once(rt, alloc, service),
+        Trial::FiveCalls { failed } => five_calls(rt, alloc, service, failed),
+        Trial::HeldByAPiece { signs } => held_by_a_piece(rt, alloc, service, signs),
+        Trial::HeldByAClient { signs } => held_by_a_client(rt, alloc, service, signs),
+        Trial::IsAdded => is_added(rt, alloc, service),
+    }
+}
+
+// The same on the service that begins with this.
+fn begins_right<N, R, G>(
+    rt: &R,
+    alloc: Global,
+    begun: Begun,
+    workers: usize,
+    gate: G,
+    trial: Trial,
+) -> Result<bool, Fail>
+where
+    N: Own,
+    R: Threads + Wait + Copy + Send + Sync + 'static,
+    G: Gate + Drop + Send + Sync + 'static,
+    requires names { IsNamed begun.fresh begun.base N.name N.parts N.queue N.base N.from N.left }
+    requires some { 1 ≤ workers }
+    requires few { workers ≤ 8 }
+{
+    let service = opened(begin::<N, R, G>(rt, alloc, begun, workers, gate))?;
+    is_right_on(rt, alloc, service, trial)
+}
+
+/// The same on a device of which this many calls pass before one fails, with this many workers, which pass this gate.
+pub fn is_right<R, G>(
+    rt: &R,
+    alloc: Global,
+    passes: u64,
+    workers: usize,
+    gate: G,
+    trial: Trial,
+) -> Result<bool, Fail>
+where
+    R: Threads + Wait + Copy + Send + Sync + 'static,
+    G: Gate + Drop + Send + Sync + 'static,
+    requires some { 1 ≤ workers }
+    requires few { workers ≤ 8 }
+{
+    let begun = prepared(alloc, passes)?;
+    begins_right::<Brand, R, G>(rt, alloc, begun, workers, gate, trial)
+}
+
+/// The failure of a test where it is not.
+pub fn succeeds<R, G>(
+    rt: &R,
+    alloc: Global,
+    passes: u64,
+    workers: usize,
+    gate: G,
+    trial: Trial,
+) -> Result<(), Fail>
+where
+    R: Threads + Wait + Copy + Send + Sync + 'static,
+    G: Gate + Drop + Send + Sync + 'static,
+    requires some { 1 ≤ workers }
+    requires few { workers ≤ 8 }
+{
+    if is_right(rt, alloc, passes, workers, gate, trial)? {
+        Ok(())
+    } else {
+        Err(Fail::from("it is not answered as it should be"))
+    }
+}
