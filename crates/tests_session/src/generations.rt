@@ -14,6 +14,24 @@ use std::thread::Threads;
 // A bound that nothing reaches.
 const NEVER: u64 = u64::MAX;
 
+// A generation ends behind this many scripts alone.
+fn by_scripts(scripts: u64) -> Bounds {
+    Bounds {
+        ends: NEVER,
+        most: NEVER,
+        scripts,
+    }
+}
+
+// It ends by these two bounds of bytes alone.
+fn by_bytes(ends: u64, most: u64) -> Bounds {
+    Bounds {
+        ends,
+        most,
+        scripts: NEVER,
+    }
+}
+
 /// Keeps what it is told, and writes a line each time.
 #[derive(Drop)]
 struct Keeper {
@@ -153,13 +171,8 @@ fn generations_that_end_by_bytes(rt: HostRuntime) -> Result<(), Fail> {
     let scripts = [b"list\nlist\nwithdraw x\n".as_slice(), b"list\n".as_slice()];
     let first = b"ok 1\nok 2\nfault 32 Absent\n".as_slice();
     for (ends, most) in [(768, NEVER), (NEVER, 768)] {
-        let bounds = Bounds {
-            ends,
-            most,
-            scripts: NEVER,
-        };
         let spools = one_spool(alloc, scripts.as_slice())?;
-        let done = served_in_memory(&rt, alloc, spools, 4096, bounds)?;
+        let done = served_in_memory(&rt, alloc, spools, 4096, by_bytes(ends, most))?;
         assert!(rt; done.left.end == SessionEnd::Finished && done.written.is_empty());
         assert!(rt;
             are_lines(
@@ -176,13 +189,8 @@ fn generations_that_end_by_bytes(rt: HostRuntime) -> Result<(), Fail> {
         assert!(rt; done.told.as_slice() == told);
     }
     // A byte more, and there is one generation.
-    let bounds = Bounds {
-        ends: 769,
-        most: 769,
-        scripts: NEVER,
-    };
     let spools = one_spool(alloc, scripts.as_slice())?;
-    let done = served_in_memory(&rt, alloc, spools, 4096, bounds)?;
+    let done = served_in_memory(&rt, alloc, spools, 4096, by_bytes(769, 769))?;
     assert!(rt;
         are_lines(
             done.left.spools.as_slice(),
@@ -206,13 +214,8 @@ fn what_a_generation_counts(rt: HostRuntime) -> Result<(), Fail> {
         b"run a 9\n".as_slice(),
         b"withdraw a\n".as_slice(),
     ];
-    let bounds = Bounds {
-        ends: NEVER,
-        most: NEVER,
-        scripts: 1,
-    };
     let spools = one_spool(alloc, scripts.as_slice())?;
-    let done = served_in_memory(&rt, alloc, spools, 4096, bounds)?;
+    let done = served_in_memory(&rt, alloc, spools, 4096, by_scripts(1))?;
     let told = done.generations.as_slice();
     assert!(rt; done.left.end == SessionEnd::Finished && told.len() == 5);
     // 256, the 16 bytes of its source, and what was made of it.
@@ -268,13 +271,8 @@ fn a_meter_that_clients_share(rt: HostRuntime) -> Result<(), Fail> {
 fn generations_that_end_by_scripts(rt: HostRuntime) -> Result<(), Fail> {
     let alloc = rt.alloc();
     let scripts = [b"list\n".as_slice(); 5];
-    let two = Bounds {
-        ends: NEVER,
-        most: NEVER,
-        scripts: 2,
-    };
     let spools = one_spool(alloc, scripts.as_slice())?;
-    let done = served_in_memory(&rt, alloc, spools, 4096, two)?;
+    let done = served_in_memory(&rt, alloc, spools, 4096, by_scripts(2))?;
     let one = b"ok 1\n".as_slice();
     let next = b"ok 2\n".as_slice();
     assert!(rt;
@@ -306,18 +304,13 @@ fn generations_that_end_by_scripts(rt: HostRuntime) -> Result<(), Fail> {
 fn three_clients_over_four_generations(rt: HostRuntime) -> Result<(), Fail> {
     let alloc = rt.alloc();
     let spools = spools_of_all(alloc)?;
-    let bounds = Bounds {
-        ends: NEVER,
-        most: NEVER,
-        scripts: 10,
-    };
     let Told {
         left,
         generations,
         opened,
         written,
         ..
-    } = served_in_memory(&rt, alloc, spools, 65536, bounds)?;
+    } = served_in_memory(&rt, alloc, spools, 65536, by_scripts(10))?;
     assert!(rt; left.end == SessionEnd::Finished && written.is_empty());
     for ((letter, count), spool) in CLIENTS.iter().zip(left.spools.as_slice()) {
         assert!(rt; is_right(alloc, *letter, *count, spool)?, "for {letter}");
@@ -343,15 +336,10 @@ fn a_disk_that_fails_in_a_later_generation(rt: HostRuntime) -> Result<(), Fail> 
         b"add b 16\nint main(void){}\n".as_slice(),
         b"add c 16\nint main(void){}\n".as_slice(),
     ];
-    let bounds = Bounds {
-        ends: NEVER,
-        most: NEVER,
-        scripts: 1,
-    };
     let mut in_second = 0u32;
     for passes in 6..20 {
         let spools = one_spool(alloc, scripts.as_slice())?;
-        let done = served_until(&rt, alloc, spools, passes, bounds)?;
+        let done = served_until(&rt, alloc, spools, passes, by_scripts(1))?;
         assert!(rt; done.left.end == SessionEnd::Fault(35));
         assert!(rt; done.written.as_slice() == b"fault 35 DiskFault\n".as_slice());
         assert!(rt; done.opened == done.generations.len());

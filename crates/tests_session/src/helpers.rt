@@ -1,6 +1,8 @@
 // Scripts on formatted disks.
 
-use cc_disk::MemoryDisk;
+ghost use Rattle.std.specs.Prelude.{◌≤◌};
+
+use cc_disk::{Disk, MemoryDisk};
 use cc_journal::{Journal, format};
 use cc_session::{SessionEnd, session};
 use std::alloc::Global;
@@ -44,6 +46,27 @@ where
     Ok(end == wanted && disk.is_some())
 }
 
+/// What a session with this many workers writes to a script on this disk, how it ends, and whether it gives the disk back.
+pub fn played<H, D: Disk + Drop>(
+    rt: &H,
+    alloc: Global,
+    script: &[u8],
+    disk: D,
+    workers: usize,
+) -> (Vec<u8>, SessionEnd, bool)
+where
+    H: Threads + Wait + Copy + Send + 'static,
+    requires some { 1 ≤ workers }
+    requires few { workers ≤ 8 }
+{
+    let mut reader = script;
+    let mut written = Vec::new(alloc);
+    let (disk, end) = session(rt, alloc, &mut reader, &mut written, disk, workers);
+    let is_back = disk.is_some();
+    drop(disk);
+    (written, end, is_back)
+}
+
 /// Whether a script on this disk is answered by these lines, and ends so.
 pub fn answers_on<H>(
     rt: &H,
@@ -56,11 +79,8 @@ pub fn answers_on<H>(
 where
     H: Threads + Wait + Copy + Send + 'static,
 {
-    let mut reader = script;
-    let mut written = Vec::new(alloc);
-    let (disk, end) = session(rt, alloc, &mut reader, &mut written, disk, 1);
-    let right = end == wanted && disk.is_some();
-    Ok(right && written.as_slice() == lines.as_bytes())
+    let (written, end, is_back) = played(rt, alloc, script, disk, 1);
+    Ok(end == wanted && is_back && written.as_slice() == lines.as_bytes())
 }
 
 /// The same on a formatted disk with this area.
@@ -108,11 +128,7 @@ pub fn written_on<H>(
 where
     H: Threads + Wait + Copy + Send + 'static,
 {
-    let mut reader = script;
-    let mut written = Vec::new(alloc);
-    let (disk, end) = session(rt, alloc, &mut reader, &mut written, disk, 1);
-    let is_back = disk.is_some();
-    drop(disk);
+    let (written, end, is_back) = played(rt, alloc, script, disk, 1);
     if end != SessionEnd::Finished || !is_back {
         return Err(Fail::from("not finished"));
     }

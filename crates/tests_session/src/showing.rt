@@ -74,16 +74,12 @@ fn an_image_and_a_source(rt: HostRuntime) -> Result<(), Fail> {
 #[test]
 fn refused_lines(rt: HostRuntime) -> Result<(), Fail> {
     let alloc = rt.alloc();
-    let right = is_served(
-        &rt,
-        alloc,
-        b"image A\nsource A\nimage a\nsource a\nimage\nsource \nimage a b\nsource a 1\nlist\n",
-        ROOM,
-        b"fault 33 BadName\nfault 33 BadName\nfault 32 Absent\nfault 32 Absent\n\
-          fault 50 BadLine\nfault 50 BadLine\nfault 50 BadLine\nfault 50 BadLine\nok 3\n",
-        None,
-    )?;
-    assert!(rt; right);
+    let script =
+        b"image A\nsource A\nimage a\nsource a\nimage\nsource \nimage a b\nsource a 1\nlist\n".as_slice();
+    let lines = b"fault 33 BadName\nfault 33 BadName\nfault 32 Absent\nfault 32 Absent\n\
+                  fault 50 BadLine\nfault 50 BadLine\nfault 50 BadLine\nfault 50 BadLine\nok 3\n"
+        .as_slice();
+    assert!(rt; is_served(&rt, alloc, script, ROOM, lines, None)?);
     Ok(())
 }
 
@@ -91,15 +87,10 @@ fn refused_lines(rt: HostRuntime) -> Result<(), Fail> {
 #[test]
 fn no_lines_of_a_session(rt: HostRuntime) -> Result<(), Fail> {
     let alloc = rt.alloc();
-    let right = answers(
-        &rt,
-        alloc,
-        b"add a 16\nint main(void){}\nimage a\nsource a\nlist\n",
-        4096,
-        "ok 1\nfault 50 BadLine\nfault 50 BadLine\nunit a\nok 2\n",
-        SessionEnd::Finished,
-    )?;
-    assert!(rt; right);
+    let script = b"add a 16\nint main(void){}\nimage a\nsource a\nlist\n".as_slice();
+    let lines = "ok 1\nfault 50 BadLine\nfault 50 BadLine\nunit a\nok 2\n";
+    let wanted = SessionEnd::Finished;
+    assert!(rt; answers(&rt, alloc, script, 4096, lines, wanted)?);
     Ok(())
 }
 
