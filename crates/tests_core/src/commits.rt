@@ -3,8 +3,8 @@
 use crate::played::{ONE, TWO, begins, goes_on};
 use crate::script::Line;
 use crate::script::Line::{
-    Ack, Add, Begin, Commit, Crash, Done, Make, Recover, Refuse, Replace, Rewrite, SyncBody, Take,
-    Withdraw, Write,
+    Ack, Add, Begin, Commit, Crash, Done, Make, Put, Recover, Refuse, Replace, Rewrite, SyncBody,
+    Take, Withdraw, Write,
 };
 use cc_core::fault::{BuildRefusal, CoreFault};
 use cc_core::sequence::Sequence;
@@ -148,13 +148,9 @@ fn two_pieces(rt: HostRuntime) -> Result<(), Fail> {
 
 // The record of a name of one byte and a source of three takes 28 bytes: gate, length, 4 bytes up to the name, 7 of the source,
 // 8 of the one code word, 4 of no globals. An area of 64 bytes has room for two and their closed gate, and not for three.
-const FULL: [(Line, u32); 9] = [
-    (Add(1, b'a', ONE), 0),
-    (Make(3, 1, ONE), 0),
-    (Commit(1), 1),
-    (Add(2, b'b', TWO), 0),
-    (Make(3, 2, TWO), 0),
-    (Commit(2), 1),
+const FULL: [(Line, u32); 5] = [
+    (Put(3, 1, b'a', ONE), 1),
+    (Put(3, 2, b'b', TWO), 1),
     (Add(7, b'c', ONE), 0),
     (Make(3, 7, ONE), 0),
     (Begin(7), 34),
@@ -172,13 +168,11 @@ const ROOM: &str = "c\x1fx";
 
 const NO_ROOM: &str = "c\x20x";
 
-const CERTIFIED: [(Line, u32); 9] = [
+const CERTIFIED: [(Line, u32); 7] = [
     (Add(7, b'a', NO_ROOM), 0),
     (Make(3, 7, NO_ROOM), 0),
     (Begin(7), 34),
-    (Add(1, b'a', ROOM), 0),
-    (Make(3, 1, ROOM), 0),
-    (Commit(1), 1),
+    (Put(3, 1, b'a', ROOM), 1),
     (Rewrite, 0),
     (Crash(0), 0),
     (Recover, 0),

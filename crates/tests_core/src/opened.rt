@@ -10,9 +10,7 @@ ghost use Rattle.tests_core.specs.Builds.{is_right};
 use crate::builds::{FewPieces, Nothing};
 use crate::piece::compiled;
 use crate::played::{Held, ONE, TWO, leaves};
-use crate::script::Line::{
-    Add, Begin, Commit, Crash, Make, Recover, SyncBody, Withdraw, WriteBody, WriteGate,
-};
+use crate::script::Line::{Add, Begin, Commit, Crash, Make, Recover, UpToGate, Withdraw};
 use crate::script::{Line, answers, name_of};
 use cc_core::laws::units_law;
 use cc_core::state::State;
@@ -81,11 +79,8 @@ const MADE: [(Line, u32); 5] = [
 const ACKNOWLEDGED: [(Line, u32); 3] = [(Commit(1), 1), (Crash(0x00), 0), (Recover, 0)];
 
 // A crash within the write of the gate leaves it open, and then it is settled.
-const TORN: [(Line, u32); 9] = [
-    (Begin(1), 0),
-    (WriteBody, 0),
-    (SyncBody, 0),
-    (WriteGate, 0),
+const TORN: [(Line, u32); 6] = [
+    (UpToGate(1), 0),
     (Crash(0xa5), 0),
     (Recover, 0),
     (Begin(1), 29),
@@ -94,14 +89,7 @@ const TORN: [(Line, u32); 9] = [
 ];
 
 // A crash leaves it closed.
-const LOST: [(Line, u32); 6] = [
-    (Begin(1), 0),
-    (WriteBody, 0),
-    (SyncBody, 0),
-    (WriteGate, 0),
-    (Crash(0x00), 0),
-    (Recover, 0),
-];
+const LOST: [(Line, u32); 3] = [(UpToGate(1), 0), (Crash(0x00), 0), (Recover, 0)];
 
 // Whether the unit is made on that state, these events answer so behind that, and leave these.
 fn goes_on(alloc: Global, last: &[(Line, u32)], wanted: &Held) -> Result<bool, Fail> {

@@ -3,17 +3,15 @@
 use crate::played::{ONE, TWO, begins, goes_on};
 use crate::script::Line;
 use crate::script::Line::{
-    Ack, Add, Begin, Commit, Crash, Done, Fails, Make, Recover, Replace, Rewrite, RewriteAll,
+    Ack, Add, Begin, Commit, Crash, Done, Fails, Make, Put, Recover, Replace, Rewrite, RewriteAll,
     SyncAll, SyncArea, Take, Withdraw, Write, WriteArea, WriteBody,
 };
 use std::alloc::Global;
 use std::test::Fail;
 
 // Two records of one name.
-const TWICE: [Line; 6] = [
-    Add(1, b'a', ONE),
-    Make(3, 1, ONE),
-    Commit(1),
+const TWICE: [Line; 4] = [
+    Put(3, 1, b'a', ONE),
     Replace(1, b'a', TWO),
     Make(3, 1, TWO),
     Commit(1),
@@ -64,7 +62,7 @@ const MAKES_ROOM: [(Line, u32); 36] = [
 // What the events of those two records answer.
 fn expected(line: Line) -> u32 {
     match line {
-        Commit(_) => 1,
+        Commit(_) | Put(..) => 1,
         _ => 0,
     }
 }
@@ -119,13 +117,7 @@ fn a_failure_closes(rt: HostRuntime) -> Result<(), Fail> {
 const STEPS: [Line; 4] = [RewriteAll, SyncAll, WriteArea, SyncArea];
 
 // One commit more, in whichever area is in use then, and a crash.
-const ANOTHER: [Line; 5] = [
-    Add(7, b'b', ONE),
-    Make(3, 7, ONE),
-    Commit(7),
-    Crash(0xa5),
-    Recover,
-];
+const ANOTHER: [Line; 3] = [Put(3, 7, b'b', ONE), Crash(0xa5), Recover];
 
 // Adds the two records, this many steps of a rewrite, the failure of the next one where it is to fail, and a crash that leaves this
 // byte.

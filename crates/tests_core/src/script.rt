@@ -40,14 +40,18 @@ pub enum Line {
     Write,
     /// A client's commit begins, is written, and is acknowledged.
     Commit(u64),
+    /// A client's commit begins, and is written up to its gate.
+    UpToGate(u64),
+    /// A worker, a client: it adds a name with a source of one piece, which the worker makes, and its commit is acknowledged.
+    Put(u64, u64, u8, &'static str),
     /// The four events of a rewrite.
     Rewrite,
 }
 
 use Line::{
-    Ack, Add, Begin, Commit, Crash, Done, Fails, Make, Recover, Refuse, Replace, Rewrite,
-    RewriteAll, SyncAll, SyncArea, SyncBody, SyncGate, Take, Withdraw, Write, WriteArea, WriteBody,
-    WriteGate,
+    Ack, Add, Begin, Commit, Crash, Done, Fails, Make, Put, Recover, Refuse, Replace, Rewrite,
+    RewriteAll, SyncAll, SyncArea, SyncBody, SyncGate, Take, UpToGate, Withdraw, Write, WriteArea,
+    WriteBody, WriteGate,
 };
 
 /// A build of whose sources a script makes pieces.
@@ -83,15 +87,29 @@ fn worker(number: u64) -> WorkerId {
     WorkerId { number }
 }
 
+// Puts the events of a commit behind these.
+fn append_commit(lines: &mut Vec<Line>, of: u64) -> Result<(), AllocError> {
+    lines.extend_from_slice(&[Begin(of), WriteBody, SyncBody])?;
+    lines.extend_from_slice(&[WriteGate, SyncGate, Ack(of)])
+}
+
 // The lines of the events, one each, that a line stands for.
 fn lines_of(alloc: Global, line: Line) -> Result<Vec<Line>, AllocError> {
     match line {
         Make(by, of, source) => Vec::from_slice(alloc, &[Take(by, of, 0), Done(by, source, 0)]),
         Write => Vec::from_slice(alloc, &[WriteBody, SyncBody, WriteGate, SyncGate]),
-        Commit(of) => Vec::from_slice(
-            alloc,
-            &[Begin(of), WriteBody, SyncBody, WriteGate, SyncGate, Ack(of)],
-        ),
+        Commit(of) => {
+            let mut lines = Vec::new(alloc);
+            append_commit(&mut lines, of)?;
+            Ok(lines)
+        }
+        UpToGate(of) => Vec::from_slice(alloc, &[Begin(of), WriteBody, SyncBody, WriteGate]),
+        Put(by, of, name, source) => {
+            let mut lines = Vec::from_slice(alloc, &[Add(of, name, source)])?;
+            lines.extend_from_slice(&[Take(by, of, 0), Done(by, source, 0)])?;
+            append_commit(&mut lines, of)?;
+            Ok(lines)
+        }
         Rewrite => Vec::from_slice(alloc, &[RewriteAll, SyncAll, WriteArea, SyncArea]),
         _ => Vec::from_slice(alloc, &[line]),
     }
@@ -125,7 +143,9 @@ fn event<B: Scripted>(alloc: Global, line: Line) -> Result<Event<B::Piece>, Fail
         Ack(of) => Ok(Event::Ack(client(of))),
         Crash(byte) => Ok(Event::Crash(Sequence::new(vec![in alloc; byte; 4000]?))),
         Recover => Ok(Event::Recover),
-        Make(..) | Write | Commit(_) | Rewrite => Err(Fail::from("several events")),
+        Make(..) | Write | Commit(_) | UpToGate(_) | Put(..) | Rewrite => Err(Fail::from(
+            "several events",
+        )),
     }
 }
 

@@ -2,8 +2,8 @@
 
 use crate::compiled::leaves;
 use crate::script::Line::{
-    Ack, Add, Begin, Commit, Crash, Done, Make, Recover, Refuse, Replace, SyncBody, SyncGate, Take,
-    Withdraw, WriteBody, WriteGate,
+    Ack, Add, Begin, Commit, Crash, Done, Make, Put, Recover, Refuse, Replace, SyncBody, SyncGate,
+    Take, Withdraw, WriteBody, WriteGate,
 };
 use crate::script::{Line, events};
 use cc_core::state::State;
@@ -56,7 +56,7 @@ fn two_clients_add_one_name(rt: HostRuntime) -> Result<(), Fail> {
 }
 
 // A source's own fault, a function's, and the map's; then one unit in another's place, and none.
-const REFUSED: [(Line, u32); 19] = [
+const REFUSED: [(Line, u32); 17] = [
     (Add(1, b'a', BROKEN), 0),
     (Begin(1), 5),
     (Add(1, b'a', UNKNOWN), 0),
@@ -70,9 +70,7 @@ const REFUSED: [(Line, u32); 19] = [
     (Done(1, FACTORIAL, 1), 0),
     (Refuse(2, 22), 0),
     (Begin(1), 22),
-    (Add(1, b'a', SEVEN), 0),
-    (Make(1, 1, SEVEN), 0),
-    (Commit(1), 1),
+    (Put(1, 1, b'a', SEVEN), 1),
     (Add(2, b'a', SEVEN), 0),
     (Make(1, 2, SEVEN), 0),
     (Begin(2), 31),
@@ -87,10 +85,8 @@ fn refused(rt: HostRuntime) -> Result<(), Fail> {
 }
 
 // The unit is acknowledged; then another is to take its place.
-const REPLACED: [Line; 10] = [
-    Add(1, b'a', SEVEN),
-    Make(1, 1, SEVEN),
-    Commit(1),
+const REPLACED: [Line; 8] = [
+    Put(1, 1, b'a', SEVEN),
     Replace(1, b'a', FACTORIAL),
     Take(1, 1, 0),
     Take(2, 1, 1),
@@ -140,7 +136,7 @@ fn crash_in_the_gate(rt: HostRuntime) -> Result<(), Fail> {
 #[test]
 fn withdrawn(rt: HostRuntime) -> Result<(), Fail> {
     let alloc = rt.alloc();
-    let state = played(alloc, &REPLACED[..3])?;
+    let state = played(alloc, &REPLACED[..1])?;
     let last = [
         (Withdraw(1, b'a'), 0),
         (Commit(1), 1),
