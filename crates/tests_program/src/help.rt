@@ -1,6 +1,6 @@
 // The texts of `--help` and `--version`. The script `cclib` prints the same without the program: `.ci/run` compares them.
 
-use cc_command_line::line;
+use crate::words::printed;
 use std::alloc::Global;
 
 static VERSION: &str = "cclib 0.1.0
@@ -59,20 +59,9 @@ Exit status: 0 for an answer, 1 for a fault, 2 for a command line that is refuse
 
 // Whether the command line is answered by that text, with status 0.
 fn is_answered_by(alloc: Global, words: &'static [&'static str], wanted: &str) -> bool {
-    match line(alloc, words) {
-        Ok(task) => {
-            drop(task);
-            false
-        }
-        Err(error) => {
-            let is_help = error.exit_code() == 0;
-            let text = error.to_string(alloc);
-            drop(error);
-            match text {
-                Ok(text) => is_help && text.as_str() == wanted,
-                Err(_) => false,
-            }
-        }
+    match printed(alloc, words) {
+        Some((status, text)) => status == 0 && text.as_str() == wanted,
+        None => false,
     }
 }
 

@@ -79,6 +79,11 @@ fn is_refusal(shown: Shown, end: &str, told: &str) -> bool {
     is_right
 }
 
+// Whether what is told begins so.
+fn is_told(shown: &Shown, start: &str) -> bool {
+    shown.told.as_slice().starts_with(start.as_bytes())
+}
+
 #[test]
 fn one_function(rt: HostRuntime) {
     assert!(rt; is_answer(show_stages(&rt, TWO.as_bytes(), Some(b"f")), OF_F));
@@ -148,13 +153,7 @@ fn texts_that_are_refused(rt: HostRuntime) {
 #[test]
 fn a_warning(rt: HostRuntime) {
     let found = show_stages(&rt, b"int a[4];\nint main(void){return a[4];}", None);
-    assert!(rt;
-        found.status == 0
-            && found
-                .told
-                .as_slice()
-                .starts_with(b"-:2:23: warning: index 4".as_slice())
-    );
+    assert!(rt; found.status == 0 && is_told(&found, "-:2:23: warning: index 4"));
     drop(found);
 }
 
@@ -169,12 +168,7 @@ fn a_function_that_is_too_large(rt: HostRuntime) {
     drop(text);
     let end = "== main: RTL\nrefused: more than 4096 nodes\nfault 22 FunctionTooLarge in main\n";
     assert!(rt; found.status == 1 && found.written.as_slice().ends_with(end.as_bytes()));
-    assert!(rt;
-        found
-            .told
-            .as_slice()
-            .starts_with(b"-:1:5: 'main' is too large to be compiled".as_slice())
-    );
+    assert!(rt; is_told(&found, "-:1:5: 'main' is too large to be compiled"));
     drop(found);
 }
 

@@ -1,6 +1,6 @@
 // The command lines of what is shown of a text, and of what is taken out of a library.
 
-use crate::words::is_refused;
+use crate::words::are_refused;
 use cc_command_line::{Wanted, Work, line};
 use cc_task::{Part, Task};
 use std::alloc::Global;
@@ -87,7 +87,5 @@ static REFUSED: [&[&str]; 9] = [
 
 #[test]
 fn refused_parts(rt: HostRuntime) {
-    for words in REFUSED.iter() {
-        assert!(rt; is_refused(rt.alloc(), words));
-    }
+    assert!(rt; are_refused(rt.alloc(), REFUSED.as_slice()));
 }

@@ -100,7 +100,7 @@ fn tasks(rt: HostRuntime) {
 }
 
 // Refused with status 2, the text on standard error.
-pub fn is_refused(alloc: Global, words: &'static [&'static str]) -> bool {
+fn is_refused(alloc: Global, words: &'static [&'static str]) -> bool {
     match line(alloc, words) {
         Ok(task) => {
             drop(task);
@@ -112,6 +112,15 @@ pub fn is_refused(alloc: Global, words: &'static [&'static str]) -> bool {
             refused
         }
     }
+}
+
+/// Whether each of these command lines is.
+pub fn are_refused(alloc: Global, lists: &[&'static [&'static str]]) -> bool {
+    let mut right = true;
+    for words in lists {
+        right = right && is_refused(alloc, words);
+    }
+    right
 }
 
 static REFUSED: [&[&str]; 20] = [
@@ -139,9 +148,7 @@ static REFUSED: [&[&str]; 20] = [
 
 #[test]
 fn refused_words(rt: HostRuntime) {
-    for words in REFUSED.iter() {
-        assert!(rt; is_refused(rt.alloc(), words));
-    }
+    assert!(rt; are_refused(rt.alloc(), REFUSED.as_slice()));
 }
 
 // Command lines, and whether each asks for quiet.
@@ -200,20 +207,29 @@ static PRINTED: [(&[&str], &str); 12] = [
     (&["cclib", "stages", "--help"], "cclib stages main <"),
 ];
 
-fn prints(alloc: Global, words: &'static [&'static str], part: &str) -> bool {
+/// What a command line prints that asks for nothing to be done, with its exit status.
+pub fn printed(alloc: Global, words: &'static [&'static str]) -> Option<(i32, String)> {
     match line(alloc, words) {
         Ok(task) => {
             drop(task);
-            false
+            None
         }
         Err(error) => {
+            let status = error.exit_code();
             let text = error.to_string(alloc);
             drop(error);
             match text {
-                Ok(text) => text.as_str().contains(part),
-                Err(_) => false,
+                Ok(text) => Some((status, text)),
+                Err(_) => None,
             }
         }
+    }
+}
+
+fn prints(alloc: Global, words: &'static [&'static str], part: &str) -> bool {
+    match printed(alloc, words) {
+        Some((_, text)) => text.as_str().contains(part),
+        None => false,
     }
 }
 
