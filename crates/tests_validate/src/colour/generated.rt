@@ -2,6 +2,7 @@
 
 use super::functions::all_are_accepted;
 use std::alloc::{AllocError, Global};
+use std::ops::Range;
 use std::test::Fail;
 
 fn put(text: &mut Vec<u8>, part: &str) -> Result<(), AllocError> {
@@ -18,20 +19,28 @@ fn put_name(text: &mut Vec<u8>, number: usize) -> Result<(), AllocError> {
     Ok(())
 }
 
+// Each of these variables, with this before it and that behind it.
+fn put_each(
+    text: &mut Vec<u8>,
+    before: &str,
+    variables: Range<usize>,
+    after: &str,
+) -> Result<(), AllocError> {
+    for number in variables {
+        put(text, before)?;
+        put_name(text, number)?;
+        put(text, after)?;
+    }
+    Ok(())
+}
+
 // So many variables, read one after the other and then added up.
 fn many_alive(alloc: Global, count: usize) -> Result<Vec<u8>, AllocError> {
     let mut text = Vec::new(alloc);
     put(&mut text, "int main(void){")?;
-    for number in 0..count {
-        put(&mut text, "int ")?;
-        put_name(&mut text, number)?;
-        put(&mut text, "=read_word();")?;
-    }
+    put_each(&mut text, "int ", 0..count, "=read_word();")?;
     put(&mut text, "write_word(v000")?;
-    for number in 1..count {
-        put(&mut text, "+")?;
-        put_name(&mut text, number)?;
-    }
+    put_each(&mut text, "+", 1..count, "")?;
     put(&mut text, ");}")?;
     Ok(text)
 }
@@ -49,11 +58,7 @@ fn more_values_than_registers_are_accepted(rt: HostRuntime) -> Result<(), Fail> 
 fn turning(alloc: Global, count: usize) -> Result<Vec<u8>, AllocError> {
     let mut text = Vec::new(alloc);
     put(&mut text, "int main(void){int t=0;")?;
-    for number in 0..count {
-        put(&mut text, "int ")?;
-        put_name(&mut text, number)?;
-        put(&mut text, "=read_word();")?;
-    }
+    put_each(&mut text, "int ", 0..count, "=read_word();")?;
     put(&mut text, "while(t>=0){t=v000;")?;
     for number in 1..count {
         put_name(&mut text, number.saturating_sub(1))?;
@@ -82,11 +87,7 @@ fn nested(alloc: Global, depth: usize) -> Result<Vec<u8>, AllocError> {
         &mut text,
         "int g(int a,int b){return a-b;}int main(void){int s=0;",
     )?;
-    for number in 0..depth {
-        put(&mut text, "int ")?;
-        put_name(&mut text, number)?;
-        put(&mut text, ";")?;
-    }
+    put_each(&mut text, "int ", 0..depth, ";")?;
     for number in 0..depth {
         put(&mut text, "for(")?;
         put_name(&mut text, number)?;
@@ -97,10 +98,7 @@ fn nested(alloc: Global, depth: usize) -> Result<Vec<u8>, AllocError> {
         put(&mut text, "++)")?;
     }
     put(&mut text, "s=s+g(s,0")?;
-    for number in 0..depth {
-        put(&mut text, "+")?;
-        put_name(&mut text, number)?;
-    }
+    put_each(&mut text, "+", 0..depth, "")?;
     put(&mut text, ");write_word(s);}")?;
     Ok(text)
 }
