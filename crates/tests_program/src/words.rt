@@ -1,6 +1,8 @@
 // The command line.
 
-use cc_command_line::{Invocation, Session, Work, line, read_invocation, refused_bytes};
+use cc_command_line::{
+    Invocation, Session, Work, line, read_invocation, read_or_tell, refused_bytes,
+};
 use cc_task::Task;
 use std::alloc::Global;
 
@@ -238,6 +240,27 @@ fn printed_texts(rt: HostRuntime) {
     for (words, part) in PRINTED.iter() {
         assert!(rt; prints(rt.alloc(), words, part), "for {part}");
     }
+}
+
+// What is read where nothing is to be told; a refusal would be printed.
+fn reads_quiet_check(rt: &HostRuntime, words: &'static [&'static str]) -> bool {
+    match read_or_tell(rt, rt.alloc(), words) {
+        Ok(
+            Invocation {
+                work: Work::One(Task::Check),
+                is_quiet,
+            },
+        ) => is_quiet,
+        other => {
+            drop(other);
+            false
+        }
+    }
+}
+
+#[test]
+fn a_line_of_which_nothing_is_told(rt: HostRuntime) {
+    assert!(rt; reads_quiet_check(&rt, &["cclib", "--quiet", "check"]));
 }
 
 fn is_a_refused_line(alloc: Global) -> bool {
