@@ -10,11 +10,15 @@ that. A program in which an operation goes wrong is passed over, once it is seen
 
 import os
 import random
+import shutil
+import signal
 import subprocess
 import sys
 import tempfile
 
 PROGRAM = os.environ.get("CCLIB") or os.path.join(os.path.dirname(os.path.abspath(__file__)), "../crates/cclib/out/cclib")
+# gcc 12 folds -(-2147483648 / (x + 1)) into -2147483648 / ~x, in spite of -fwrapv, and so ends by a signal where x is 0: then clang is asked.
+PEERS = [it for it in ("gcc", "clang") if shutil.which(it)]
 MOST = "1000000000"
 WORDS = "0 1 7 4294967295 2147483648 2147483647 12345678 3000000000".split()
 SERVICES = """#include <stdio.h>
@@ -138,8 +142,12 @@ def gcc_lines(text, room):
     """What gcc's program writes, and the last eight bits of what its main returns."""
     with open(f"{room}/program.c", "w", encoding="utf-8") as it:
         it.write(SERVICES + text)
-    subprocess.run(["gcc", "-std=c99", "-w", "-fwrapv", "-O0", "-o", f"{room}/program", f"{room}/program.c"], check=True)
-    return lines_of([f"{room}/program"])
+    for compiler in PEERS:
+        subprocess.run([compiler, "-std=c99", "-w", "-fwrapv", "-O0", "-o", f"{room}/program", f"{room}/program.c"], check=True)
+        lines, status = lines_of([f"{room}/program"])
+        if status != -signal.SIGFPE:
+            break
+    return lines, status
 
 
 def judged(text, room):
