@@ -100,7 +100,9 @@ class Writer:
         kind = self.random.randrange(11)
         s = lambda: self.statement(depth - 1)
         if kind < 4:
-            return f"{self.target()}{self.one_of('=', '+=', '-=', '*=', '&=', '|=', '^=')}{self.expression(2)};"
+            name, right = self.one_of("=", "=", "+=", "-=", "*=", "&=", "|=", "^=", "/=", "%=", "<<=", ">>="), self.expression(2)
+            guard = {"/": "(({})&1023)+1", "%": "(({})&1023)+1", "<": "({})&31", ">": "({})&31"}.get(name[0], "{}")
+            return f"{self.target()}{name}{guard.format(right)};"
         if kind == 4:
             return f"{self.target()}{self.one_of('++', '--')};"
         if kind == 5:
