@@ -18,7 +18,7 @@ import tempfile
 
 PROGRAM = os.environ.get("CCLIB") or os.path.join(os.path.dirname(os.path.abspath(__file__)), "../crates/cclib/out/cclib")
 # gcc 12 folds -(-2147483648 / (x + 1)) into -2147483648 / ~x, in spite of -fwrapv, and so ends by a signal where x is 0: then clang is asked.
-PEERS = [it for it in ("gcc", "clang") if shutil.which(it)]
+PEERS = ["gcc", *filter(shutil.which, ["clang"])]
 MOST = "1000000000"
 WORDS = "0 1 7 4294967295 2147483648 2147483647 12345678 3000000000".split()
 SERVICES = """#include <stdio.h>
