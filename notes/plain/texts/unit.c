@@ -1,0 +1,1 @@
+int f(int x){return x*3;}int main(void){write_word(f(5));return f(2);}
