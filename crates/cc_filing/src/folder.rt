@@ -1,7 +1,7 @@
 // The folder of a server: taken with the library's disk, and cleaned of what an earlier server left; what is told of it, and what its clients
 // begin with.
 
-ghost use Rattle.std.specs.Prelude.{◌≡◌, ◌≢◌};
+ghost use Rattle.std.specs.Prelude.{◌≡◌, ◌≢◌, IfErr, IfOk};
 
 use crate::filing::{disk_to_serve, no_disk};
 use cc_command_line::Server;
@@ -17,15 +17,15 @@ use std::process;
 /// Why a folder can't be served.
 #[derive(Drop)]
 pub enum NoFolder {
-    /// The system refused a call.
+    /// 56: the system refused a call.
     Refused(io::Error),
-    /// Another server works in it.
+    /// 57: another server works in it.
     InUse,
-    /// It could be used at the start, and not any more.
+    /// 56: it could be used at the start, and not any more.
     Lost,
 }
 
-/// Writes why a folder can't be served; the status.
+/// Writes the fault of a folder that can't be served, 56 or 57, and tells why; the status.
 pub fn no_folder<W: Write, E: Write>(
     reason: NoFolder,
     folder: &str,
@@ -141,42 +141,38 @@ pub struct Taken {
     pub held: Held,
 }
 
-/// Takes a folder and a library's disk for a server, and answers what an earlier server had begun. `None` where a fault was written, for
-/// which the status is 1; nothing is taken then. The error is lack of memory.
+/// Takes a folder and a library's disk for a server, and answers what an earlier server had begun. Where either can't be had, the line of the
+/// fault is written (56 or 57 for the folder, else as `no_disk` has it), and the status stands in place of the two; nothing is held then. The
+/// error is lack of memory, before anything was taken or written.
 pub fn take_to_serve<W: Write, E: Write>(
     files: &HostRuntime,
     alloc: Global,
     asked: &Server,
     writer: &mut W,
     told: &mut E,
-) -> Result<Option<Taken>, AllocError> {
+) -> Result<Result<Taken, u8>, AllocError>
+    ensures { IfOk result (λ taken. IfErr taken (λ status. status ≡ 1)) }
+{
     let folder = asked.folder.as_str();
     let mut layout = FolderLayout::new(*files, alloc, folder)?;
     let held = match take(&mut layout, process::id(files.process())) {
         Ok(held) => held,
-        Err(reason) => {
-            let _ = no_folder(reason, folder, writer, told);
-            return Ok(None);
-        }
+        Err(reason) => return Ok(Err(no_folder(reason, folder, writer, told))),
     };
     // The disk's lock comes before what an earlier server left is answered.
     let path = asked.disk.as_str();
     let disk = match disk_to_serve(files, path, asked.area, told) {
         Ok(disk) => disk,
-        Err(reason) => {
-            let _ = no_disk(reason, path, writer, told);
-            return Ok(None);
-        }
+        Err(reason) => return Ok(Err(no_disk(reason, path, writer, told))),
     };
     let kept = match clean_folder(&layout, asked, told) {
         Ok(kept) => kept,
         Err(why) => {
             drop(disk);
-            let _ = no_folder(NoFolder::Refused(why), folder, writer, told);
-            return Ok(None);
+            return Ok(Err(no_folder(NoFolder::Refused(why), folder, writer, told)));
         }
     };
-    Ok(Some(Taken {
+    Ok(Ok(Taken {
         layout,
         disk,
         kept,
@@ -203,7 +199,7 @@ fn tell_uncleared<E: Write>(folder: &str, why: &io::Error, told: &mut E) -> io::
     told.flush()
 }
 
-/// Tells what a generation did, and why it ended.
+/// Tells what a generation did, and why it ended; the error is that of `told`, as in `tell_kept`.
 pub fn tell_generation<E: Write>(
     scripts: u64,
     entries: u64,
@@ -234,7 +230,7 @@ pub struct Keeper {
 }
 
 impl Keeper {
-    /// The keeper of the folder that is asked for.
+    /// The keeper of the folder that is asked for. The error is lack of memory.
     pub fn new(alloc: Global, layout: &FolderLayout, asked: &Server) -> Result<Keeper, AllocError> {
         Ok(Keeper {
             layout: layout.again()?,
@@ -258,7 +254,8 @@ impl Keeper {
     }
 }
 
-/// A spool for each of so many clients, the first of which tries again what the start could not answer.
+/// A spool for each of so many clients, 1 at least, the first of which tries again what the start could not answer. The error is lack of memory;
+/// what was to be tried again stays in the folder then.
 pub fn spools_of(
     alloc: Global,
     layout: &FolderLayout,
@@ -277,7 +274,7 @@ pub fn spools_of(
 
 /// What became of the answers.
 #[derive(Clone, Copy, Drop)]
-pub struct Counts {
+pub struct AnswerCounts {
     /// How many were handed over.
     pub answered: u64,
     /// How many could not be.
@@ -286,9 +283,9 @@ pub struct Counts {
     pub has_failed: bool,
 }
 
-/// Counts over all spools.
-pub fn count_all(spools: &[FolderSpool]) -> Counts {
-    let mut counts = Counts {
+/// Counts over all spools, each as far as 64 bits go.
+pub fn count_all(spools: &[FolderSpool]) -> AnswerCounts {
+    let mut counts = AnswerCounts {
         answered: 0,
         kept: 0,
         has_failed: false,

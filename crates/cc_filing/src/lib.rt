@@ -3,7 +3,7 @@
 //! `filing` opens the file or makes it, and tells why it is none; `device` says whether a block device in its place may be overwritten;
 //! `taking` prints a part of a unit that it keeps; `folder` takes a server's folder with it, and tells of that. It knows no session, so it is
 //! proved beside `cc_session`.
-//! Hands out `disk_of`, `no_disk`, `NoDisk` and `take_out_of_file`, and what a server does but for its service.
+//! Hands out `disk_of`, `no_disk`, `NoDisk` and `take_out_of_file`, and what takes a server's folder, tidies it and tells of it.
 #![tactic(auto)]
 
 mod device;
@@ -14,7 +14,7 @@ mod taking;
 pub use device::NoDisk;
 pub use filing::{disk_of, no_disk};
 pub use folder::{
-    Counts, Keeper, NoFolder, Taken, count_all, no_folder, spools_of, take_to_serve,
+    AnswerCounts, Keeper, NoFolder, Taken, count_all, no_folder, spools_of, take_to_serve,
     tell_generation, tell_kept,
 };
 pub use taking::take_out_of_file;

@@ -6,7 +6,7 @@ ghost use Rattle.cc_session.specs.declared.end.SessionEnd.TheVariants.{Finished}
 use cc_answers::Telling;
 use cc_command_line::Server;
 use cc_filing::{
-    Counts, Keeper, NoFolder, Taken, count_all, no_folder, spools_of, take_to_serve,
+    AnswerCounts, Keeper, NoFolder, Taken, count_all, no_folder, spools_of, take_to_serve,
     tell_generation, tell_kept,
 };
 use cc_session::{BOUNDS, Generation, GenerationEnd, Served, SessionEnd, Steward, serve_on};
@@ -45,7 +45,7 @@ impl Steward for Serving {
 // Writes how serving ended, where no line of a fault was written; the status.
 fn ended<W: Write, E: Write>(
     end: SessionEnd,
-    counts: Counts,
+    counts: AnswerCounts,
     folder: &str,
     writer: &mut W,
     told: &mut E,
@@ -147,7 +147,7 @@ where
     };
     let mut told = Telling { errors, is_quiet };
     match take_to_serve(files, alloc, asked, &mut writer, &mut told)? {
-        Some(taken) => serve_taken(rt, taken, asked, &mut writer, &mut told),
-        None => Ok(1),
+        Ok(taken) => serve_taken(rt, taken, asked, &mut writer, &mut told),
+        Err(status) => Ok(status),
     }
 }
