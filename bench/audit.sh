@@ -4,7 +4,7 @@
 # its text: at most 1 is asked for.
 # Then certificates that somebody hostile might hand in (bench/hostile.py), and how many bytes the record of a unit has on the disk, for the
 # programs of bench/programs and for the unit of 64 functions: before there were certificates, and with its own.
-# The programs have to be built (rt run in crates/bench, ./cclib), or BENCH and CCLIB name some that are.
+# The programs have to be built (./prove-below bench, ./cclib), or BENCH and CCLIB name some that are.
 set -eu
 # shellcheck source=bench/words.sh
 . "$(dirname "$0")/words.sh"

@@ -6,7 +6,7 @@
 # it. The exponent is log(ratio of times) / log(ratio of nodes): 1 is linear; the goal is 1.3 at most, and less than a second for the allocator
 # and the validator at 4,096 nodes each.
 # Each is run ROUNDS times (3), in turn, and the best time counts. Shorter texts are done more often in one process, WORK (200,000)
-# nodes in all. The program of crates/bench has to be built (rt run there), or BENCH names one that is.
+# nodes in all. The program of crates/bench has to be built (./prove-below bench), or BENCH names one that is.
 set -eu
 # shellcheck source=bench/words.sh
 . "$(dirname "$0")/words.sh"

@@ -10,7 +10,7 @@ hostile.py audit       certificates of half a million bytes, a million and two, 
 
 The LTL is what the compiler makes of a text, with a slot in place of each register, and then changed; FORMATS.md has its bytes. What judging a
 function once takes is the time of `bench judge` (from making its RTL on), what an audit takes that of `cclib library`, without their starts:
-the processor's seconds, the least of ROUNDS rounds (3). The programs have to be built (rt run in crates/bench, ./cclib), or BENCH and
+the processor's seconds, the least of ROUNDS rounds (3). The programs have to be built (./prove-below bench, ./cclib), or BENCH and
 CCLIB name some that are. Needs a C compiler, for peak.c."""
 
 import os

@@ -2,7 +2,7 @@
 # What a pool of workers gains, by clock: `add`s of a unit of 64 functions of about 250 tokens each in a session of `cclib library` with 1, 2 and
 # 4 workers, beside what the machine itself gains when as many processes compile the same text at once, on one thread each.
 # Each is the mean of TIMES turns (10) without a start that does none, and the best of ROUNDS rounds (5) counts, in which all are done in turn.
-# The programs have to be built (rt run in crates/bench, ./cclib), or BENCH and CCLIB name some that are.
+# The programs have to be built (./prove-below bench, ./cclib), or BENCH and CCLIB name some that are.
 # That no thread waits for ever where memory is refused, with one client and with more: bench/memory.sh session and server.
 set -eu
 # shellcheck source=bench/words.sh

@@ -8,7 +8,7 @@
 # nodes in all.
 # Then the most memory of the whole program where 256 locals and 8 parameters are live, with everything spilled (the goal is 64 MB), without
 # the validator and with it; and LTL that somebody hostile might hand in (bench/hostile.py).
-# The programs have to be built (rt run in crates/bench, ./cclib), or BENCH and CCLIB name some that are. Needs a C compiler, for bench/peak.c.
+# The programs have to be built (./prove-below bench, ./cclib), or BENCH and CCLIB name some that are. Needs a C compiler, for bench/peak.c.
 set -eu
 # shellcheck source=bench/words.sh
 . "$(dirname "$0")/words.sh"

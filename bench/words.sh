@@ -10,7 +10,7 @@ cclib() {
 }
 bench() {
     bench=${BENCH:-$top/crates/bench/out/bench}
-    [ -x "$bench" ] || fail "build the program first: (cd crates/bench && rt run)"
+    [ -x "$bench" ] || fail "build the program first: ./prove-below bench"
 }
 
 # fail WORD..: says why there is no figure
