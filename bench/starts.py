@@ -1,0 +1,162 @@
+#!/usr/bin/env python3
+"""Tries the first start (./cclib, ./prove-below) over a toolchain that proves nothing and only sleeps: what is proved anew behind a change, and
+that nothing is called proved which was not. It takes a minute, and a folder of its own.
+
+    bench/starts.py
+"""
+import os
+import pty
+import shutil
+import signal
+import subprocess
+import sys
+import tempfile
+import time
+
+TOP = os.path.dirname(os.path.dirname(os.path.realpath(__file__)))
+RATTLE = """#!/usr/bin/env python3
+import os, sys, time
+crate, made, kit = sys.argv[sys.argv.index("--crate-name") + 1], sys.argv[-1], os.path.dirname(os.path.dirname(os.path.realpath(__file__)))
+open(kit + "/log", "a").write(crate + "\\n")
+time.sleep(float(open(kit + "/seconds").read()))
+if crate in open(kit + "/fails").read().split():
+    sys.exit(1)
+os.makedirs(made, exist_ok=True) if made.endswith(".rlib") else open(made, "w").close()
+"""
+LINK = """#!/bin/sh
+while [ "$1" != -o ]; do shift; done
+printf '#!/bin/sh\\necho answer\\n' > "$2"; chmod +x "$2"
+"""
+WORDS = ["./cclib", "check"]
+
+
+class Trial:
+    """A clone and a toolchain of its own."""
+
+    def __init__(self, work):
+        self.kit, self.clone = f"{work}/kit", f"{work}/a clone[1]"
+        os.makedirs(f"{self.kit}/bin")
+        for name, text in (("rattle", RATTLE), ("rattle-link", LINK), ("rt", "#!/bin/sh\n")):
+            self.write(f"bin/{name}", text)
+            os.chmod(f"{self.kit}/bin/{name}", 0o755)
+        self.write("WHAT", "a toolchain that sleeps")
+        subprocess.check_call(["git", "clone", "-q", TOP, self.clone])
+        for name in ("cclib", "prove-below"):
+            shutil.copy(f"{TOP}/{name}", self.clone)
+        self.how = {"cwd": self.clone, "env": {**os.environ, "PATH": f"{self.kit}/bin:{os.environ['PATH']}"}, "stdin": subprocess.DEVNULL}
+        self.how |= {"stdout": subprocess.PIPE, "stderr": subprocess.PIPE, "text": True}
+
+    def write(self, name, text):
+        with open(f"{self.kit}/{name}", "w", encoding="utf-8") as file:
+            file.write(text)
+
+    def edit(self, *names):
+        """Adds a line to the text of these crates."""
+        for name in names:
+            with open(f"{self.clone}/crates/{name}/src/lib.rt", "a", encoding="utf-8") as file:
+                file.write("// A comment.\n")
+
+    def revert(self):
+        subprocess.check_call(["git", "checkout", "-q", "crates"], cwd=self.clone)
+
+    def set(self, seconds=0.05, fails=""):
+        """Says how long each proof takes and which fail, and forgets which there were."""
+        self.write("seconds", str(seconds))
+        self.write("fails", fails)
+        self.write("log", "")
+
+    def proved(self):
+        with open(f"{self.kit}/log", encoding="utf-8") as file:
+            return file.read().split()
+
+    def start(self):
+        return subprocess.Popen(WORDS, **self.how)
+
+    def ends(self, started, status=0, said=""):
+        """Waits for a start, which has to end with this status, and with these words among what it said."""
+        out, errors = started.communicate(timeout=120)
+        assert (started.returncode, out) == (status, "answer\n" if status == 0 else ""), (started.returncode, out, errors)
+        assert said in errors, errors
+        return self.proved()
+
+    def at_work(self):
+        """Returns how many proofs go on."""
+        return int(subprocess.run(["pgrep", "-fc", f"{self.kit}/bin/rattle"], stdout=subprocess.PIPE, check=False).stdout)
+
+
+def behind_a_change(it):
+    """What is proved anew, and what is not."""
+    it.set()
+    assert len(it.ends(it.start())) == 51
+    it.set()
+    assert it.ends(it.start()) == []
+    it.edit("cc_answers")
+    assert sorted(it.ends(it.start())) == sorted("cc_answers cc_session cc_tasks cc_filing cc_submit cclib".split())
+    it.set()
+    os.utime(f"{it.clone}/crates/cc_words/src/lib.rt")
+    assert it.ends(it.start(), said="built") == []
+    os.remove(f"{it.clone}/crates/cc_submit/specs/Lib.antt")
+    assert it.ends(it.start()) == ["cc_submit", "cclib"]
+    it.set()
+    shutil.rmtree(f"{it.clone}/crates/cclib/out/rlib/cc_task.rlib")
+    os.utime(f"{it.clone}/crates.txt")
+    assert it.ends(it.start()) == ["cc_task"]
+    it.revert()
+    it.set()
+    it.ends(it.start())
+
+
+def what_fails(it):
+    """Proofs that fail, one and two at once; a text that was changed, and changed back, while its proof went on."""
+    it.edit("cc_task", "cc_script")
+    for fails in ("cc_script", "cc_task cc_script"):
+        it.set(0.3, fails)
+        it.ends(it.start(), 1, "cc_script could not be proved and built")
+    it.revert()
+    it.set(2)
+    started = it.start()
+    while not it.proved():
+        time.sleep(0.05)
+    it.edit("cc_task")
+    it.revert()
+    it.ends(started, 1, "was changed during its proof")
+    it.set()
+    assert "cc_task" in it.ends(it.start())
+
+
+def what_ends_it(it):
+    """Signals, after which no proof goes on; a start that was killed and one beside another, for which a start waits."""
+    it.edit("cc_task", "cc_script", "cc_flow")
+    for byte, number in ((b"\x03", None), (b"\x03\x03", None), (None, signal.SIGTERM), (None, signal.SIGHUP)):
+        it.set(5)
+        process, terminal = pty.fork()
+        if process == 0:
+            os.chdir(it.clone)
+            os.execvpe(WORDS[0], WORDS, it.how["env"])
+        while len(it.proved()) < 3:
+            time.sleep(0.05)
+        os.write(terminal, byte) if byte else os.kill(process, number)
+        assert os.waitpid(process, 0)[1] == 130 << 8
+        os.close(terminal)
+        assert it.at_work() == 0, (byte, number)
+    started = it.start()
+    while it.at_work() < 3:
+        time.sleep(0.05)
+    subprocess.check_call(["pkill", "-9", "-P", str(started.pid)])
+    it.ends(started, 1, "not built")
+    assert it.at_work() == 3
+    it.ends(it.start(), 0, "another start is at work")
+    it.edit("cc_submit")
+    it.set(1)
+    first = it.start()
+    time.sleep(0.5)
+    it.ends(it.start(), 0, "another start is at work")
+    assert it.ends(first) == ["cc_submit", "cclib"]
+
+
+if __name__ == "__main__":
+    with tempfile.TemporaryDirectory() as work:
+        trial = Trial(work)
+        for part in (behind_a_change, what_fails, what_ends_it):
+            part(trial)
+            print(f"{part.__name__}: as it should be")
