@@ -133,9 +133,15 @@ impl FolderLayout {
         self.rename_along(self.path_of(from, name), self.path_of(to, name))
     }
 
-    /// Gives a script's file another place too, where nothing is there.
-    pub(crate) fn link(&self, name: &str, from: Place, to: Place) -> Result<(), Refusal> {
-        let (from, to) = (self.path_of(from, name)?, self.path_of(to, name)?);
+    /// Gives a script's file another place too, under a name that it may have there alone, if nothing is there.
+    pub(crate) fn link(
+        &self,
+        from: Place,
+        name: &str,
+        to: Place,
+        new_name: &str,
+    ) -> Result<(), Refusal> {
+        let (from, to) = (self.path_of(from, name)?, self.path_of(to, new_name)?);
         fs::hard_link(&self.rt, from.as_str(), to.as_str())?;
         Ok(())
     }

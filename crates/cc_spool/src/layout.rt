@@ -176,22 +176,25 @@ impl FolderLayout {
         settle(&cur)
     }
 
-    /// Gives a new file, which has one place, another one, where nothing is there, and takes it away from the old one.
-    pub(crate) fn move_new(&self, name: &str, from: Place, to: Place) -> Result<(), Refusal> {
-        if let Err(refusal) = self.link(name, from, to)
-            && !self.is_linked(name, from, to)
+    /// Moves a script that is whole from `tmp` to `new`, under another name, if nothing has that name.
+    pub(crate) fn publish(&self, written: &str, name: &str) -> Result<(), Refusal> {
+        if let Err(refusal) = self.link(Place::Written, written, Place::Waiting, name)
+            && !self.is_published(written, name)
         {
             return Err(refusal);
         }
-        // Where the old name stays, the file has two: the new one counts.
-        let _ = self.remove(from, name);
+        // If the old name stays, the file has two: the new one counts.
+        let _ = self.remove(Place::Written, written);
         Ok(())
     }
 
-    // Whether a file has another place too though the call was refused that gave it: over a network a call may be done and its answer be lost.
-    // Where that name is gone by then, the file has its second one in `cur`: a server has claimed it.
-    fn is_linked(&self, name: &str, from: Place, to: Place) -> bool {
-        match (self.look(from, name), self.look(to, name)) {
+    // Whether a script is in `new` though the call was refused that put it there: over a network a call may be done and its answer be lost.
+    // If its name there is gone by then, the file has its second one in `cur`: a server has claimed it.
+    fn is_published(&self, written: &str, name: &str) -> bool {
+        match (
+            self.look(Place::Written, written),
+            self.look(Place::Waiting, name),
+        ) {
             (Ok(Some(here)), Ok(Some(there))) => here.is_alike(&there),
             (Ok(Some(here)), Ok(None)) => here.links == 2,
             _ => false,

@@ -134,7 +134,7 @@ fn try_moves(layout: &FolderLayout, name: &str) -> Result<(), Refusal> {
     let made = Found::of_file(&file);
     drop(file);
     try_owners(layout, &made?)?;
-    layout.link(name, Place::Claimed, Place::Waiting)?;
+    layout.link(Place::Claimed, name, Place::Waiting, name)?;
     layout.remove(Place::Claimed, name)?;
     layout.rename(name, Place::Waiting, Place::Claimed)?;
     layout.rename(name, Place::Claimed, Place::Done)

@@ -3,6 +3,10 @@
 // The script is written to `tmp`, synced, and linked into `new`, so that it is there as a whole or not at all, and never in the place of
 // another. As long as it stands in `new` nothing of it is done, and taking it back is one call: either that finds the script, or a claim. A
 // script that was claimed is waited for: its server answers it, or the next one. Where another file has its place in `new`, it was claimed.
+//
+// The name in `new` is that of the answer, and whoever knows it first may put a script of their own there. Everybody sees the name in `tmp`
+// while the script is written, so the name in `new` is another one: it is drawn when the script is whole, and nobody has seen it before the
+// link that takes it.
 
 ghost use Rattle.std.specs.Prelude.{◌≤◌, IfOk, length};
 
@@ -128,28 +132,50 @@ fn write_script<S: Read>(
     Ok(Some(Found::of_file(file)?))
 }
 
-// Puts a script where a server finds it; as which file, where it was read to its end. Where it is not put there, nothing is left of it.
+// A script that is in `new`: the name that it has there, and which file it is.
+#[derive(Drop)]
+struct Published {
+    name: String,
+    made: Found,
+}
+
+// Gives a script that is whole a name in `new`, which is drawn just now. If that is refused the script has its name in `tmp` alone.
+fn publish(layout: &FolderLayout, process: u32, written: &str) -> Result<String, Refusal> {
+    let name = fresh_name(&layout.rt, layout.alloc, process)?;
+    match layout.publish(written, name.as_str()) {
+        Ok(()) => Ok(name),
+        Err(refusal) => {
+            drop(name);
+            Err(refusal)
+        }
+    }
+}
+
+// Puts a script where a server finds it; none if it can't be read to its end. If it is not put there, nothing is left of it.
 fn put<S: Read>(
     layout: &FolderLayout,
-    name: &str,
+    process: u32,
     begin: &[u8],
     script: &mut S,
-) -> Result<Option<Found>, Refusal> {
-    let mut file = layout.make(Place::Written, name)?;
-    let written = write_script(&mut file, begin, script);
+) -> Result<Option<Published>, Refusal> {
+    let written = fresh_name(&layout.rt, layout.alloc, process)?;
+    let mut file = layout.make(Place::Written, written.as_str())?;
+    let made = write_script(&mut file, begin, script);
     drop(file);
-    let put = match written {
-        Ok(Some(made)) => match layout.move_new(name, Place::Written, Place::Waiting) {
-            Ok(()) => return Ok(Some(made)),
+    let put = match made {
+        Ok(Some(made)) => match publish(layout, process, written.as_str()) {
+            Ok(name) => return Ok(Some(Published { name, made })),
             Err(refusal) => Err(refusal),
         },
-        other => other,
+        Ok(None) => Ok(None),
+        Err(refusal) => Err(refusal),
     };
-    let _ = layout.remove(Place::Written, name);
+    let _ = layout.remove(Place::Written, written.as_str());
     put
 }
 
-// The answer to a script, where it is there: a regular file of the user who has `cur`, so that nobody else answers in the server's place.
+// The answer to a script, if it is there: a regular file of the user who has `cur`. To whose script of that name it is the answer, the name
+// decides, which nobody else has seen before the script had it.
 fn answer_of(layout: &FolderLayout, name: &str) -> Result<Option<File>, Refusal> {
     let Some(found) = layout.look(Place::Done, name)? else {
         return Ok(None);
@@ -411,8 +437,7 @@ fn leave<S: Read>(
     script: &mut S,
     seconds: Option<u32>,
 ) -> Result<Option<Waiting>, Refusal> {
-    let name = fresh_name(&layout.rt, layout.alloc, process)?;
-    let Some(made) = put(layout, name.as_str(), begin, script)? else {
+    let Some(Published { name, made }) = put(layout, process, begin, script)? else {
         return Ok(None);
     };
     let most = match seconds {

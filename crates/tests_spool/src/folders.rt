@@ -1,11 +1,11 @@
 // A spool in a real folder: which things in `new` are scripts, what a start makes of what a kill left, and when an answer gives way to 54.
 
 use crate::helpers::{
-    End, Folder, Meanwhile, answer, answer_one, clears, counts, done, ends_so, must, recovered,
-    renumber_one, second,
+    End, Folder, Meanwhile, answer, answer_one, clears, counts, done, ends_so, is_answered, must,
+    put_as_written, recovered, renumber_one, second,
 };
 use cc_spool::{FolderLayout, FolderSpool, Recovered, Spool};
-use std::io::{self, Write};
+use std::io::{self, Read, Write};
 use std::thread;
 use std::time::Duration;
 
@@ -325,6 +325,59 @@ impl Write for Server {
 fn is_served(folder: Folder, layout: &FolderLayout) -> bool {
     let end = End::Answered(None);
     ends_so(folder, layout, &mut io::sink(), Some(1), end, "ok 1\n")
+}
+
+// A script that is read slowly, while somebody puts one of their own into `new` under the name that it has in `tmp`, and a server answers that.
+#[derive(Drop)]
+struct Watched {
+    folder: Folder,
+    spool: FolderSpool,
+    // The script's text.
+    text: &'static [u8],
+    is_forged: bool,
+}
+
+impl Watched {
+    // Puts the other script there, and has it answered; whether that succeeds.
+    fn forge(&mut self) -> bool {
+        put_as_written(self.folder)
+            && answer_one(self.folder, &mut self.spool, "ok 1\n", Meanwhile::Nothing)
+    }
+}
+
+impl Read for Watched {
+    fn read(&mut self, room: &mut [u8]) -> io::Result<usize> {
+        if !self.is_forged {
+            self.is_forged = self.forge();
+        }
+        self.text.read(room)
+    }
+}
+
+#[test]
+fn a_name_that_was_seen_in_tmp(rt: HostRuntime) {
+    let path = "a_name_that_was_seen_in_tmp.spool";
+    let folder = Folder { rt, path };
+    let (layout, held) = folder.take().expect(&rt, "a folder");
+    let spool = second(&layout, 1).expect(&rt, "a client");
+    let mut script = Watched {
+        folder,
+        spool,
+        text: b"list\n",
+        is_forged: false,
+    };
+    let mut server = Server {
+        folder,
+        spool: second(&layout, 1).expect(&rt, "another client"),
+        text: "unit a\nok 2\n",
+    };
+    let is_right = is_answered(folder, &layout, &mut script, &mut server, "unit a\nok 2\n");
+    must(&rt, script.is_forged, "the other script is answered");
+    must(&rt, is_right, "its answer is not taken for this one's");
+    must(&rt, folder.has("done", 1), "that of the other one stays");
+    drop(script);
+    drop(server);
+    must(&rt, folder.end(layout, held), "its end");
 }
 
 #[test]

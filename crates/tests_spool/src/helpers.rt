@@ -8,7 +8,7 @@ use cc_spool::{
     recover, submit, take_folder,
 };
 use std::fs::{self, File, OpenOptions, Permissions};
-use std::io::Write;
+use std::io::{Read, Write};
 use std::os::unix::fs::{MetadataExt, PermissionsExt, symlink};
 use std::process::Abort;
 use std::thread;
@@ -353,6 +353,31 @@ pub enum End {
     NotTaken,
 }
 
+/// Puts a script into `new` under the name that the one in `tmp` has; whether that succeeds.
+pub fn put_as_written(folder: Folder) -> bool {
+    let (_, name) = folder.entries("tmp");
+    folder.write("new", name.as_str(), "list\n")
+}
+
+/// Leaves a script from this reader; whether it is answered without a fault, and so much is written on.
+pub fn is_answered<S: Read, E: Write>(
+    folder: Folder,
+    layout: &FolderLayout,
+    script: &mut S,
+    explanations: &mut E,
+    text: &str,
+) -> bool {
+    ends_as(
+        folder,
+        layout,
+        script,
+        explanations,
+        None,
+        End::Answered(None),
+        text,
+    )
+}
+
 /// Leaves a script; whether it ends so, and so much is written on.
 pub fn ends_so<E: Write>(
     folder: Folder,
@@ -362,17 +387,29 @@ pub fn ends_so<E: Write>(
     end: End,
     text: &str,
 ) -> bool {
-    let mut written = Vec::new(folder.rt.alloc());
     let mut script = b"list\n".as_slice();
-    let submission = submit(
+    ends_as(
+        folder,
         layout,
-        1,
-        b"",
         &mut script,
-        &mut written,
         explanations,
         seconds,
-    );
+        end,
+        text,
+    )
+}
+
+fn ends_as<S: Read, E: Write>(
+    folder: Folder,
+    layout: &FolderLayout,
+    script: &mut S,
+    explanations: &mut E,
+    seconds: Option<u32>,
+    end: End,
+    text: &str,
+) -> bool {
+    let mut written = Vec::new(folder.rt.alloc());
+    let submission = submit(layout, 1, b"", script, &mut written, explanations, seconds);
     let is_so = match (submission, end) {
         (Ok(Submission::Answered(found)), End::Answered(number)) => found == number,
         (Ok(Submission::NotTaken), End::NotTaken) => true,
