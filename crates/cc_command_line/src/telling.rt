@@ -12,7 +12,8 @@ use std::convert::AsStr;
 /// Why there is no work.
 #[derive(Clone, Copy)]
 pub enum NoRequest {
-    /// The command line was refused, or asked for help, and that is written: the program's status, 2 or 0.
+    /// The command line was refused, or asked for help: the program's status, 2 if it was refused, 0 if the help was printed, 1 if it could not
+    /// be (54).
     Told(u8),
     /// Memory ran out.
     OutOfMemory,
@@ -22,8 +23,14 @@ fn tell<R: Eprint + Print>(rt: &R, error: Error) -> NoRequest {
     if error.kind() == ErrorKind::OutOfMemory {
         return NoRequest::OutOfMemory;
     }
-    let _ = error.print(rt);
-    NoRequest::Told(if error.exit_code() == 0 { 0 } else { 2 })
+    let is_printed = error.print(rt).is_ok();
+    NoRequest::Told(if error.exit_code() != 0 {
+        2
+    } else if is_printed {
+        0
+    } else {
+        1
+    })
 }
 
 /// Reads the command line as `read_invocation` does. A refusal goes to standard error, a text of help to standard output.

@@ -12,6 +12,7 @@ ghost use Rattle.cc_command_line.specs.Work.{IsAllowed};
 
 use cc_answers::Persons;
 use cc_command_line::{Invocation, NoRequest, Work, read_or_tell, tell_bytes};
+use cc_descriptors::{System, take_free};
 use cc_filing::take_out_of_file;
 use cc_submit::submit_script;
 use cc_task::Task;
@@ -28,19 +29,27 @@ use std::sync::Wait;
 use std::thread::Threads;
 
 /// Does what the command line asks; the status is 0 for an answer, 1 for a fault, 2 for a refused command line.
+///
+/// Standard input, output and error that are closed are taken before any file is opened, until the end: else the file of a library would get
+/// the descriptor of one, and what is printed would go into it. If they can't be taken nothing is done, and the status is 1.
 fn main(rt: HostRuntime) -> ExitCode {
+    let Ok(stand_ins) = take_free(&mut System { rt }) else {
+        return ExitCode::from(1);
+    };
     let persons = Persons {
         is_typed: rt.stdin().is_terminal(),
         is_watched: rt.stderr().is_terminal(),
         is_quiet: false,
     };
-    match run(&rt, &rt, rt.stderr(), persons) {
-        Ok(status) => ExitCode::from(status),
+    let status = match run(&rt, &rt, rt.stderr(), persons) {
+        Ok(status) => status,
         Err(_) => {
             let _ = Fault::OutOfMemory.write_line(b"", &mut io::writer(&rt));
-            ExitCode::from(1)
+            1
         }
-    }
+    };
+    drop(stand_ins);
+    ExitCode::from(status)
 }
 
 // Does a task; the error is lack of memory before it began.

@@ -1,0 +1,51 @@
+// Takes those of the descriptors 0 to 2 that are free, the least first: a file gets the least that is free, so each stand-in gets the one
+// that it is meant for.
+
+ghost use Rattle.std.specs.Prelude.{◌≡◌, Some, IfSome, OnOk, if◌then◌else◌};
+ghost use Rattle.cc_descriptors.specs.Uses.{is_used, opened, taken, use_of};
+
+use crate::descriptors::{Access, Descriptors, Standard};
+use std::io;
+
+/// The stand-ins of the descriptors that were free. As long as it lives, no file that is opened gets one of the three.
+#[derive(Drop)]
+pub struct StandIns<S: Drop> {
+    input: Option<S>,
+    output: Option<S>,
+    error: Option<S>,
+}
+
+// Opens a stand-in if the descriptor is free.
+fn take<D: Descriptors>(
+    system: &mut D,
+    standard: Standard,
+    access: Access,
+) -> io::Result<Option<D::StandIn>>
+    ensures { OnOk result (IfSome (D.uses system.old) (λ it.
+        D.uses system.new ≡ Some (if is_used (use_of standard it) then it else opened access it))) }
+{
+    if system.is_used(standard) {
+        return Ok(None);
+    }
+    match system.open(access) {
+        Ok(stand_in) => Ok(Some(stand_in)),
+        Err(error) => Err(error),
+    }
+}
+
+/// Takes those of the three descriptors that are free, before anything else is opened. A read of a stand-in for standard input fails, and so
+/// does a write to the other two.
+///
+/// An `Err` if the system refused a stand-in. Then a file that is opened may get one of the three, so the program is not to open any.
+pub fn take_free<D: Descriptors>(system: &mut D) -> io::Result<StandIns<D::StandIn>>
+    ensures { OnOk result (IfSome (D.uses system.old) (λ it. D.uses system.new ≡ Some (taken it))) }
+{
+    let input = take(system, Standard::Input, Access::Writing)?;
+    let output = take(system, Standard::Output, Access::Reading)?;
+    let error = take(system, Standard::Error, Access::Reading)?;
+    Ok(StandIns {
+        input,
+        output,
+        error,
+    })
+}
