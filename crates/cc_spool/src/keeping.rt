@@ -85,10 +85,13 @@ impl Keeping {
             self.cleared = Some(now);
             return Ok(None);
         };
-        let each = if self.limits.bytes < taken {
+        // Once they are counted to take too much they are looked at; then, if none of them may go, now and again.
+        let each = if taken <= self.limits.bytes {
+            EACH
+        } else if self.is_full {
             EACH_IF_FULL
         } else {
-            EACH
+            0
         };
         if now.duration_since(cleared).as_secs() < each {
             return Ok(None);
@@ -117,10 +120,16 @@ impl Keeping {
         for it in kept.iter() {
             left = left.saturating_add(it.bytes);
         }
+        // If some have to go for their size, an eighth of the room is made, so that not each next answer asks for a look.
+        let most = if self.limits.bytes < left {
+            self.limits.bytes - self.limits.bytes / 8
+        } else {
+            self.limits.bytes
+        };
         let oldest = now.saturating_sub(i64::from(self.limits.days).saturating_mul(DAY));
         let young = now.saturating_sub(LEAST_AGE);
         for it in kept.iter() {
-            let goes = it.seconds < oldest || (self.limits.bytes < left && it.seconds < young);
+            let goes = it.seconds < oldest || (most < left && it.seconds < young);
             if goes && layout.remove(Place::Done, it.name.as_str()).is_ok() {
                 left = left.saturating_sub(it.bytes);
             }
