@@ -41,11 +41,6 @@ HaveCalled script clients (Fault number) =
     ((number ≡ 30) × (clients ≡ []))
     ⊎ ((fault : ScriptFault) × IsEnding fault × (number ≡ faults.fault_number fault) × HasCalled script clients (IsStoppedBy Plain None fault))
 
--- what is told where the service's end is refused by this number: the fault that ended the clients' work, where one did, else the number
-abbrev pub told_after : (number : ℕ) → (played : SessionEnd) → SessionEnd
-told_after number Finished = Fault number
-told_after number (Fault first) = Fault first
-
 -- What is left of a service that was opened: its library, with the history of its calls, from the map on to which the bytes recover.
 -- Its clients have receipts of their own calls, in their order, and this holds of the history and of them.
 -- Whatever a crash then leaves of the disk recovers to that library's map, or to that with or without the change in which the device failed: so
@@ -61,14 +56,14 @@ pub record IsLeft {Disk : Type 0} (D : Ghosts Disk) (bytes : List ℕ) (from : �
   pub own : AreOwn clients
   pub holds : Holds book.history clients
 
--- A service of these clients, whose work ended so (a session's script), was ended: all their receipts stand in the history, and it has no other
--- entries. How the work ended is told; or 40, where it was done and the service had no memory to end.
--- Or it was given up: a receipt does not stand in the history, or that has more entries, or two clients have one number. How the work ended is
--- told, where a fault ended it; else 39, or 40 where there was no memory to see that.
+-- A service of these clients, whose work ended so (a session's script), was ended, or given up because it had no memory to end. All their receipts
+-- stand in the history, and it has no other entries. The end is how the work ended; or 40, if the work was done and there was no memory.
+-- Or it was given up because a receipt does not stand in the history, or that has more entries, or two clients have one number. Then the end is 39,
+-- however the work ended, and no other end means this.
 abbrev pub IsEnded : {Disk : Type 0} (D : Ghosts Disk) (bytes : List ℕ) (from : ℕ) (left : List ℕ → Type 0) (clients : List MemberView) (played end : SessionEnd) (after : Disk) → Type 0
 IsEnded D bytes from left clients played end after =
-    (((end ≡ played) ⊎ (end ≡ told_after 40 played)) × IsLeft D bytes from left IsClosed clients after)
-    ⊎ (((end ≡ told_after 39 played) ⊎ (end ≡ told_after 40 played)) × IsLeft D bytes from left IsNotWhole clients after)
+    (((end ≡ played) ⊎ ((played ≡ Finished) × (end ≡ Fault 40))) × IsLeft D bytes from left IsClosed clients after)
+    ⊎ ((end ≡ Fault 39) × IsLeft D bytes from left IsNotWhole clients after)
 
 -- so of clients that worked so, by how their work ended
 abbrev pub HasEnded : {Disk : Type 0} (D : Ghosts Disk) (bytes : List ℕ) (from : ℕ) (left : List ℕ → Type 0)

@@ -1,6 +1,6 @@
 // A session, from the opening of its service to the end.
 
-ghost use Rattle.std.specs.Prelude.{◌≡◌, if◌then◌else◌, ◌≤◌, ◌<◌, ℕ, List, [], Option, IsTrue, IfOk, IfErr, vec_len};
+ghost use Rattle.std.specs.Prelude.{◌≡◌, ◌≤◌, ◌<◌, ℕ, List, [], Option, IsTrue, IfOk, IfErr, vec_len};
 ghost use Rattle.std.specs.Vec.{vec_capacity};
 ghost use Rattle.cc_disk.specs.Images.{OnlyReads};
 ghost use Rattle.cc_library.specs.Answers.{OpenFaults};
@@ -8,13 +8,14 @@ ghost use Rattle.cc_library.specs.Apply.{Units};
 ghost use Rattle.cc_library.specs.Recovered.{Recovers};
 ghost use Rattle.cc_service.specs.Since.{IsPast};
 ghost use Rattle.cc_service.specs.Client.{members};
-ghost use Rattle.cc_session.specs.Session.{EndsSince, HaveCalled, IsEnded, SessionEnds, told_after};
+ghost use Rattle.cc_session.specs.Session.{EndsSince, HaveCalled, IsEnded, SessionEnds};
+ghost use Rattle.cc_session.specs.internal.Ends.{given_up_after};
 ghost use Rattle.cc_session.specs.internal.Steps.{EndsFor};
 
 use crate::calls::Player;
 use crate::end::SessionEnd;
 use crate::reading::Reading;
-use crate::telling::refused;
+use crate::telling::{refused, tell_estranged};
 use cc_answers::Teller;
 use cc_disk::Disk;
 use cc_library::{Library, LibraryFault, UnitMap};
@@ -64,15 +65,26 @@ pub(crate) fn begin<D: Disk + Drop>(alloc: Global, disk: D) -> Result<Begun<D>, 
     }
 }
 
-// What is told where the service's end was refused by this number: the fault that ended its work, where one did, else the number. Where
-// all receipts stand it is 40, for there was no memory to say so.
-fn told_after(are_all: bool, number: u32, played: SessionEnd) -> SessionEnd
-    ensures { result ≡ told_after (if are_all then 40 else number) played }
+// The end of a service that was given up. If its clients' receipts are not all there it is 39, whatever fault ended their work. If they are, it is
+// the fault that ended the work; else 40, for there was no memory to end. A fault that comes first here has its line written.
+fn given_up<W: Write, E: Write>(
+    alloc: Global,
+    teller: &mut Teller<W, E>,
+    are_all: bool,
+    played: SessionEnd,
+) -> SessionEnd
+    ensures { result ≡ given_up_after are_all played }
 {
     match played {
-        SessionEnd::Finished if are_all => SessionEnd::Fault(40),
-        SessionEnd::Finished => SessionEnd::Fault(number),
-        SessionEnd::Fault(first) => SessionEnd::Fault(first),
+        SessionEnd::Fault(first) if are_all || first == 39 => SessionEnd::Fault(first),
+        SessionEnd::Finished if are_all => {
+            let _ = teller.tell_no_memory();
+            SessionEnd::Fault(40)
+        }
+        SessionEnd::Fault(_) | SessionEnd::Finished => {
+            tell_estranged(alloc, teller);
+            SessionEnd::Fault(39)
+        }
     }
 }
 
@@ -155,9 +167,9 @@ where
     match service.finish(rt, alloc, clients) {
         Ok(closed) => (disk_of(closed), played),
         Err((fault, service, clients)) => {
+            drop(fault);
             let (disk, are_all) = service.give_up(rt, alloc, clients);
-            let number = refused(alloc, teller, fault);
-            (disk, told_after(are_all, number, played))
+            (disk, given_up(alloc, teller, are_all, played))
         }
     }
 }
@@ -263,12 +275,12 @@ where
 /// service.
 ///
 /// The script, a plain one, comes from `reader`, each answer goes to `writer`, which is flushed behind it. A refusal writes its fault's line, and the
-/// session goes on; a fault of the opening, of the script (51 to 54; of 54 there is no line) or of the service's end (39, 40) ends it, and
-/// the first of them is told. The disk is handed back after each.
+/// session goes on; a fault of the opening, of the script (51 to 54; of 54 there is no line) or of the service's end (39, 40) ends it. The
+/// end is the first of them, but 39 goes before a fault of the script. The disk is handed back after each.
 ///
-/// 51 is told only where the script has fewer bytes than a line's source, 52 only where it has more than 16,777,216. After each
-/// of these faults the library is kept with all that the client's receipts say; or, where a receipt does not stand in the history or
-/// other calls stand there, with some legal history.
+/// 51 comes only if the script has fewer bytes than a line's source, 52 only if it has more than 16,777,216. After each end but 39 the library
+/// is kept with all that the client's receipts say. 39 says that a receipt is not in the history, or that other calls are: then some legal
+/// history is kept.
 pub fn session<H, R: Read, W: Write, D: Disk + Drop>(
     rt: &H,
     alloc: Global,

@@ -363,8 +363,8 @@ where
 /// they were, how the service ended.
 ///
 /// The line of a fault of the opening (35, 37, 38, 40, 41; 30 where there are too many spools) or of the end (39, 40) goes to `writer`,
-/// and what helps a person with it to `explanations`. Each is written; `end` is the first. A fault that ends a script is told in its answer
-/// alone. Disk and spools are handed back after each.
+/// and what helps a person with it to `explanations`. `end` is the first, or 39, and is written. A fault that ends a script is told in its
+/// answer alone. Disk and spools are handed back after each.
 pub fn serve<H, S, W, E, D, G, T>(
     rt: &H,
     alloc: Global,

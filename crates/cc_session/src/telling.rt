@@ -52,6 +52,16 @@ pub(crate) fn refused<W: Write, E: Write>(
     number
 }
 
+// Writes the line of 39.
+pub(crate) fn tell_estranged<W: Write, E: Write>(alloc: Global, teller: &mut Teller<W, E>) {
+    let refusal = Refusal {
+        number: 39,
+        fault: &"Estranged",
+        stands: Stands::Nowhere,
+    };
+    let _ = teller.tell_refusal(alloc, &refusal, &[]);
+}
+
 // Tells that a change was made, or why not, for the source that was sent.
 pub(crate) fn tell_change<W: Write, E: Write>(
     alloc: Global,
