@@ -14,12 +14,12 @@ returns-in_default g c =
 pub returns : goal.returns
 returns g c = inl ((g.N.Based.base, c.in-Err.fault, c.refused-number-in-Err.ensures, c.in-Err.ensures.refused), c.in-Err.ensures.reads, tt)
 
-pub returns-in-Ok : goal.returns-in-Ok
-returns-in-Ok g c =
+pub returns-in-Ok-open : goal.returns-in-Ok-open
+returns-in-Ok-open g c =
     let D = g.D.Disk in
     inr (
       members c.play_alone-played.new.clients.items,
       c.play_alone-played.result,
       c.play_alone-played.ensures c.finish.result.1 (g.W.Write.contents c.finish.new.answers) c.finish.ensures.still,
-      c.finish.ensures.ended (D.seen c.args.begun.disk) c.in-Ok.ensures.recovered,
+      c.finish.ensures.ended (D.seen c.args.begun.disk) c.in-Ok-open.ensures.recovered,
     )
