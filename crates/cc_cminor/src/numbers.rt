@@ -1,12 +1,12 @@
-// How many registers the variables of a body take: variable x is register x, and the temporaries lie above them all.
+// How many variables code takes.
 
 ghost use Rattle.std.specs.Prelude.{◌≡◌, ◌<◌, ◌≤◌};
 ghost use Rattle.cc_cminor.specs.Code.{expression_of, expressions_of, statement_of, in_sequence};
 ghost use Rattle.cc_cminor.specs.internal.Statements.{statements_of};
-ghost use Rattle.cc_cminor.specs.Numbers.{most_variables, ResultFits, ExpressionFits, ExpressionsFit, StatementFits};
-ghost use Rattle.cc_rtl.specs.internal.Variables.{above, above_result, above_expression, above_expressions, above_statement};
+ghost use Rattle.cc_cminor.specs.Numbers.{most_variables, ResultBelow, ExpressionBelow, ExpressionsBelow, StatementFits};
+ghost use Rattle.cc_cminor.specs.Variables.{above, above_result, above_expression, above_expressions, above_statement};
 
-use cc_cminor::{Expression, Statement};
+use super::code::{Expression, Statement};
 
 // So many, or one more than a variable where that is more.
 fn with_variable(count: u32, variable: usize) -> u32
@@ -24,7 +24,7 @@ fn with_variable(count: u32, variable: usize) -> u32
 }
 
 fn with_result(count: u32, to: Option<usize>) -> u32
-    requires number { ResultFits to }
+    requires number { ResultBelow most_variables to }
     requires count { count ≤ most_variables }
     ensures counted { result ≡ above_result count to }
     ensures few { result ≤ most_variables }
@@ -36,7 +36,7 @@ fn with_result(count: u32, to: Option<usize>) -> u32
 }
 
 fn with_expression(count: u32, e: &Expression) -> u32
-    requires numbers { ExpressionFits (expression_of e.now) }
+    requires numbers { ExpressionBelow most_variables (expression_of e.now) }
     requires count { count ≤ most_variables }
     ensures counted { result ≡ above_expression count (expression_of e.now) }
     ensures few { result ≤ most_variables }
@@ -51,7 +51,7 @@ fn with_expression(count: u32, e: &Expression) -> u32
 }
 
 fn with_expressions(count: u32, es: &[Expression]) -> u32
-    requires numbers { ExpressionsFit (expressions_of es.now) }
+    requires numbers { ExpressionsBelow most_variables (expressions_of es.now) }
     requires count { count ≤ most_variables }
     ensures counted { result ≡ above_expressions count (expressions_of es.now) }
     ensures few { result ≤ most_variables }
@@ -63,10 +63,10 @@ fn with_expressions(count: u32, es: &[Expression]) -> u32
     all
 }
 
-/// How many registers come before the temporaries of a statement: at least so many, and more than each of its variables.
+/// The least number that is not below `count` and above each variable that a statement reads or sets.
 #[cycle(statements)]
-#[tactic(auto, using(crate::proofs::Sizes::above_list))]
-pub fn with_statement(count: u32, s: &Statement) -> u32
+#[tactic(auto, using(crate::proofs::Counting::above_list))]
+pub fn variables_above(count: u32, s: &Statement) -> u32
     requires numbers { StatementFits (statement_of s.now) }
     requires count { count ≤ most_variables }
     ensures counted { result ≡ above_statement count (statement_of s.now) }
@@ -79,19 +79,19 @@ pub fn with_statement(count: u32, s: &Statement) -> u32
         Statement::Call(to, _, es) => with_expressions(with_result(count, *to), es.as_slice()),
         Statement::Read(to) => with_result(count, *to),
         Statement::Write(e) => with_expression(count, e),
-        Statement::Sequence(all) => with_statements(count, all.as_slice()),
+        Statement::Sequence(all) => all_above(count, all.as_slice()),
         Statement::If(e, a, b) => {
             let count = with_expression(count, e);
-            with_statement(with_statement(count, a), b)
+            variables_above(variables_above(count, a), b)
         }
-        Statement::Loop(a) => with_statement(count, a),
-        Statement::Block(a) => with_statement(count, a),
+        Statement::Loop(a) => variables_above(count, a),
+        Statement::Block(a) => variables_above(count, a),
         Statement::Return(e) => with_expression(count, e),
     }
 }
 
 #[cycle(statements)]
-fn with_statements(count: u32, all: &[Statement]) -> u32
+fn all_above(count: u32, all: &[Statement]) -> u32
     requires numbers { StatementFits (in_sequence (statements_of all.now)) }
     requires count { count ≤ most_variables }
     ensures counted { result ≡ above_statement count (in_sequence (statements_of all.now)) }
@@ -99,7 +99,7 @@ fn with_statements(count: u32, all: &[Statement]) -> u32
 {
     let mut counted = count;
     for s in all {
-        counted = with_statement(counted, s);
+        counted = variables_above(counted, s);
     }
     counted
 }
