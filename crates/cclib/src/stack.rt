@@ -10,16 +10,12 @@ use std::alloc::{AllocError, Global};
 /// How many blocks of the stack are taken, each of 4,096 bytes: more than the deepest text needs.
 const BLOCKS: usize = 256;
 
-// Whether this many blocks are free: takes them, uses them and gives them back.
+// Whether this many blocks are free: takes them and gives them back. What is refused is refused as they are taken, so none is used: that would
+// cost more than all else of a start.
 #[inline(never)]
 fn is_free(alloc: Global, blocks: usize) -> bool {
-    let mut room = Vec::new(alloc);
-    for _ in 0..blocks {
-        if room.push([1u8; 4096]).is_err() {
-            return false;
-        }
-    }
-    room.len() == blocks
+    let room: Result<Vec<[u8; 4096]>, AllocError> = Vec::with_capacity(alloc, blocks);
+    room.is_ok()
 }
 
 // Uses this many blocks of the stack below this call; the byte that is put there.
