@@ -82,6 +82,13 @@ impl Script {
         &self.piece[self.next..self.end]
     }
 
+    /// How many bytes more the script may have: 16,777,216 less those that were handed out.
+    pub fn left(&self) -> usize
+        ensures { result ≡ self.now.left }
+    {
+        self.left
+    }
+
     // Reads more, where all that was read has been handed out. Whether there is more.
     fn fill<R: Read>(&mut self, reader: &mut R) -> Result<bool, ScriptFault>
         ensures filled { IfOk result (λ is_more. is_more ≡ true → 0 < length self.new.held) }
