@@ -1,9 +1,11 @@
-// Room for the stack, taken before anything else.
+// Room for the stack, taken before a text is read.
 //
 // The system lets the stack of a process grow as it is used, and ends the process by a signal where a limit on its memory refuses that.
 // What the deepest text needs is bounded, since a text nests 64 levels and 512 tokens at most: 606 KiB were seen, for `run` of 62 loops
 // within one another around 508 times `~`. So 1 MiB is asked for once as any other memory, and given back, which shows that it is there;
 // and then the stack is used down to there, which takes it for good. Where it is not there, that is lack of memory, and not a signal.
+//
+// What reads no text does without: the command line and a client of a server need 64 KiB (seen), and a process begins with 128.
 
 use std::alloc::{AllocError, Global};
 
