@@ -8,9 +8,10 @@ ghost use Rattle.cc_library.specs.Recovered.{Recovers};
 ghost use Rattle.cc_history.specs.Closing.{AreOwn, IsClosed};
 ghost use Rattle.cc_service.specs.Client.{members};
 ghost use Rattle.cc_service.specs.Compiling.{HasHandedIn, HasSentFor, IsNotPrepared, IsPastText};
+ghost use Rattle.cc_recorded.specs.Opened.{IsOpened};
 ghost use Rattle.cc_recorded.specs.Promise.{IsGivenUp, IsSound};
 ghost use Rattle.cc_recorded.specs.Since.{IsPast};
-ghost use Rattle.cc_service.specs.Serving.{Adds, GetAnswers, IsNotCompacted, IsNotEnded, IsNotOpened, IsOf, IsTurnedAway, ListAnswers, PutAnswers, Puts, Replaces, WithdrawAnswers};
+ghost use Rattle.cc_service.specs.Serving.{Adds, GetAnswers, IsNotCompacted, IsNotEnded, IsNotOpened, IsNotStarted, IsOf, IsTurnedAway, ListAnswers, PutAnswers, Puts, Replaces, WithdrawAnswers};
 ghost use Rattle.cc_recorded.specs.Answers.{IsLook};
 ghost use Rattle.cc_service.specs.internal.Under.{IsSeen, MakesAnswers};
 ghost use Rattle.cc_recorded.specs.declared.fault.BookFault.{BookFault};
@@ -25,7 +26,7 @@ use crate::fault::ServiceFault;
 use crate::named::{Fresh, Named};
 use cc_disk::Disk;
 use cc_history::{Asked, Command, Receipt};
-use cc_library::Name;
+use cc_library::{Library, Name};
 use cc_link::CompiledUnit;
 use cc_pool::{Gate, Pool, PoolFault};
 use cc_recorded::{Book, BookFault};
@@ -115,6 +116,54 @@ impl<N: Named + Send + Sync + 'static, D: Disk> Service<N, D> {
             Err((fault, disk)) => {
                 drop(queue);
                 return Err((ServiceFault::Opening(fault), disk));
+            }
+        };
+        match Pool::start(rt, alloc, queue, workers, gate) {
+            Ok(pool) => Ok(Service {
+                book: Mutex::new(book),
+                desk: Mutex::new(Desk::new(rest)),
+                pool,
+                putting: AtomicU64::new(0),
+            }),
+            Err(PoolFault::OutOfMemory) => Err((ServiceFault::OutOfMemory, book.into_disk())),
+            Err(_) => Err((ServiceFault::WorkersGone, book.into_disk())),
+        }
+    }
+
+    /// The service over a library as its opening left it, which is not read again: with this many workers, 1 to 8, which pass the gate before
+    /// each piece.
+    ///
+    /// Refusals, with the disk handed back as it was: 40; 41 where a thread could not be started. None of the workers is left then.
+    pub fn over<R, G>(
+        rt: &R,
+        alloc: Global,
+        fresh: Fresh,
+        library: Library<D>,
+        workers: usize,
+        gate: G,
+    ) -> Result<Service<N, D>, (ServiceFault, D)>
+    where
+        R: Threads + Wait + Copy + Send + 'static,
+        G: Gate + Drop + Send + Sync + 'static,
+        // The parameter names this ledger and this queue, and, of an honest disk, the library's map and a moment up to now.
+        requires ledger { fresh.ledger ≡ N.name }
+        requires parts { N.parts ≡ 1025 }
+        requires queue { fresh.queue ≡ N.queue }
+        requires opened { IsOpened D.Disk library }
+        requires named { IsTrue D.honest → library.units ≡ N.base }
+        requires past { IsTrue D.honest → IsPast D.Disk N.from N.left library.disk }
+        requires some { 1 ≤ workers }
+        requires few { workers ≤ 8 }
+        ensures refused { IfErr result (λ e. IsNotStarted e.0) }
+        ensures back { IfErr result (λ e. e.1 ≡ library.disk) }
+    {
+        let Fresh { blank, queue } = fresh;
+        let (calls, rest) = blank.open::<N>();
+        let book = match Book::over(alloc, library, calls) {
+            Ok(book) => book,
+            Err(library) => {
+                drop(queue);
+                return Err((ServiceFault::OutOfMemory, library.into_disk()));
             }
         };
         match Pool::start(rt, alloc, queue, workers, gate) {
