@@ -1,5 +1,5 @@
 -- The descriptors 0 to 2: which are in use, which one a file gets, and what they are used for after the free ones were taken.
-use Rattle.std.specs.Prelude.{Bool, true, false, if◌then◌else◌}
+use Rattle.std.specs.Prelude.{◌≡◌, Bool, true, false, not, if◌then◌else◌}
 use Rattle.cc_descriptors.specs.declared.descriptors.Access.{Access}
 use Rattle.cc_descriptors.specs.declared.descriptors.Access.TheVariants.{Reading, Writing}
 use Rattle.cc_descriptors.specs.declared.descriptors.Standard.{Standard}
@@ -36,3 +36,7 @@ stood_in access (StandIn other) = StandIn other
 -- all three are in use: the stand-in for standard input can only be written, those for the other two only read
 abbrev pub taken : Uses → Uses
 taken all = record { input = stood_in Writing all.input; output = stood_in Reading all.output; error = stood_in Reading all.error }
+
+-- whether a stand-in is held for each of them: for those that were free, and for no other
+abbrev pub AreHeld : (input output error : Bool) → Uses → Type 0
+AreHeld input output error all = (input ≡ not (is_used all.input)) × (output ≡ not (is_used all.output)) × (error ≡ not (is_used all.error))

@@ -1,8 +1,8 @@
 // Takes those of the descriptors 0 to 2 that are free, the least first: a file gets the least that is free, so each stand-in gets the one
 // that it is meant for.
 
-ghost use Rattle.std.specs.Prelude.{◌≡◌, Some, IfSome, OnOk, if◌then◌else◌};
-ghost use Rattle.cc_descriptors.specs.Uses.{is_used, opened, taken, use_of};
+ghost use Rattle.std.specs.Prelude.{◌≡◌, Some, IfOk, IfSome, OnOk, is_some, not, if◌then◌else◌};
+ghost use Rattle.cc_descriptors.specs.Uses.{AreHeld, is_used, opened, taken, use_of};
 
 use crate::descriptors::{Access, Descriptors, Standard};
 use std::io;
@@ -10,9 +10,9 @@ use std::io;
 /// The stand-ins of the descriptors that were free. As long as it lives, no file that is opened gets one of the three.
 #[derive(Drop)]
 pub struct StandIns<S: Drop> {
-    input: Option<S>,
-    output: Option<S>,
-    error: Option<S>,
+    pub input: Option<S>,
+    pub output: Option<S>,
+    pub error: Option<S>,
 }
 
 // Opens a stand-in if the descriptor is free.
@@ -21,8 +21,9 @@ fn take<D: Descriptors>(
     standard: Standard,
     access: Access,
 ) -> io::Result<Option<D::StandIn>>
-    ensures { OnOk result (IfSome (D.uses system.old) (λ it.
+    ensures taken { OnOk result (IfSome (D.uses system.old) (λ it.
         D.uses system.new ≡ Some (if is_used (use_of standard it) then it else opened access it))) }
+    ensures held { IfOk result (λ stand_in. IfSome (D.uses system.old) (λ it. is_some stand_in ≡ not (is_used (use_of standard it)))) }
 {
     if system.is_used(standard) {
         return Ok(None);
@@ -38,7 +39,8 @@ fn take<D: Descriptors>(
 ///
 /// An `Err` if the system refused a stand-in. Then a file that is opened may get one of the three, so the program is not to open any.
 pub fn take_free<D: Descriptors>(system: &mut D) -> io::Result<StandIns<D::StandIn>>
-    ensures { OnOk result (IfSome (D.uses system.old) (λ it. D.uses system.new ≡ Some (taken it))) }
+    ensures taken { OnOk result (IfSome (D.uses system.old) (λ it. D.uses system.new ≡ Some (taken it))) }
+    ensures held { IfOk result (λ all. IfSome (D.uses system.old) (AreHeld (is_some all.input) (is_some all.output) (is_some all.error))) }
 {
     let input = take(system, Standard::Input, Access::Writing)?;
     let output = take(system, Standard::Output, Access::Reading)?;
