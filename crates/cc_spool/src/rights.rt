@@ -70,22 +70,38 @@ fn must_be_spool(layout: &FolderLayout) -> Result<(), Refusal> {
     Ok(())
 }
 
-// Makes the folder where it is not there.
+// Makes the folder if it is not there.
 fn make_folder(layout: &FolderLayout) -> Result<(), Refusal> {
     if !layout.has(".")? {
         layout.make_folder()?;
         layout.set_rights(".", 0o755)?;
+        // What can't be opened can't be settled: then only a power cut soon after could lose the folder.
+        let _ = layout.sync_above();
     }
     Ok(())
+}
+
+// Makes a file and takes it away: what was written before it is older than this start.
+fn begin(layout: &FolderLayout, process: u32) -> Result<Found, Refusal> {
+    let own = fresh_name(&layout.rt, layout.alloc, process)?;
+    let name = format!(in layout.alloc; "{TRIED}{own}")?;
+    let file = layout.make_part_file(name.as_str())?;
+    let begun = Found::of_file(&file);
+    drop(file);
+    let _ = layout.remove_part(name.as_str());
+    drop(own);
+    drop(name);
+    begun
 }
 
 fn take(layout: &mut FolderLayout, process: u32) -> Result<Option<Held>, Refusal> {
     make_folder(layout)?;
     must_be_spool(layout)?;
+    let begun = begin(layout, process)?;
     let Some(held) = layout.lock()? else {
         return Ok(None);
     };
-    match settle_folder(layout, &held, process) {
+    match settle_folder(layout, &held, &begun, process) {
         Ok(()) => {
             held.open_to_clients(layout.file_rights);
             Ok(Some(held))
@@ -106,10 +122,18 @@ pub fn take_folder(layout: &mut FolderLayout, process: u32) -> io::Result<Option
     Ok(take(layout, process)?)
 }
 
-fn settle_folder(layout: &mut FolderLayout, held: &Held, process: u32) -> Result<(), Refusal> {
+fn settle_folder(
+    layout: &mut FolderLayout,
+    held: &Held,
+    begun: &Found,
+    process: u32,
+) -> Result<(), Refusal> {
     layout.hold(held)?;
-    layout.take_stop_back()?;
+    layout.take_old_stop_back(begun)?;
     make_parts(layout)?;
+    for part in [".", "cur", "tmp", "new", "done"] {
+        layout.sync_part(part)?;
+    }
     layout.look_for_rights();
     try_folder(layout, process)
 }

@@ -190,11 +190,14 @@ fn answer_of(layout: &FolderLayout, name: &str) -> Result<Option<File>, Refusal>
     }
 }
 
-// Takes a script back; whether it was not claimed before.
-fn take_back(layout: &FolderLayout, name: &str) -> Result<bool, Refusal> {
+// Takes a script back. Without the sync a power cut could undo that, and the script would be done after all.
+fn take_back(layout: &FolderLayout, name: &str) -> Result<Seen, Refusal> {
     match layout.remove(Place::Waiting, name) {
-        Ok(()) => Ok(true),
-        Err(refusal) if refusal.is_absent() => Ok(false),
+        Ok(()) => Ok(match layout.sync_part("new") {
+            Ok(()) => Seen::Back,
+            Err(refusal) => Seen::Unsettled(refusal),
+        }),
+        Err(refusal) if refusal.is_absent() => Ok(Seen::Claimed),
         Err(refusal) => Err(refusal),
     }
 }
@@ -224,6 +227,8 @@ enum Seen {
     Waiting,
     // It was taken back.
     Back,
+    // It was taken back, but a power cut could undo that.
+    Unsettled(Refusal),
     // It was claimed.
     Claimed,
 }
@@ -278,10 +283,8 @@ impl Waiting {
     fn look_waiting(&self, layout: &FolderLayout) -> Result<Seen, Refusal> {
         if self.unclaimed < self.most.unwrap_or(NO_SERVER) {
             Ok(Seen::Waiting)
-        } else if take_back(layout, self.name.as_str())? {
-            Ok(Seen::Back)
         } else {
-            Ok(Seen::Claimed)
+            take_back(layout, self.name.as_str())
         }
     }
 
@@ -398,6 +401,7 @@ fn wait_for_answer<E: Write>(
         match waiting.look(layout, since) {
             Ok(Seen::Answer(file)) => return Ok(Some(file)),
             Ok(Seen::Back) => return Ok(None),
+            Ok(Seen::Unsettled(refusal)) => return Err(refusal),
             Ok(seen) => {
                 if patience.look() {
                     let is_claimed = matches!(seen, Seen::Claimed);

@@ -20,6 +20,8 @@ const MOST_SOURCE: usize = 65_537;
 
 const READ_FAULT: &[u8] = b"fault 53 ReadFault\n";
 
+const NO_MEMORY: &[u8] = b"fault 40 OutOfMemory\n";
+
 // What is sent.
 #[derive(Drop)]
 enum Sent {
@@ -186,6 +188,18 @@ fn explain<R: AllocGlobal, E: Write>(
     Ok(())
 }
 
+// Writes the line of the fault by which the system refused a call in the folder: 40 if it was memory, else 56; the status.
+fn refused<W: Write>(why: &io::Error, writer: &mut W) -> u8
+    ensures { result ≡ 1 }
+{
+    if why.kind() != io::ErrorKind::OutOfMemory {
+        return fault(SpoolFault::FolderFault, writer);
+    }
+    let _ = writer.write_all(NO_MEMORY);
+    let _ = writer.flush();
+    1
+}
+
 // Writes the line of a fault of the folder, and tells why and where the script is; the status.
 fn folder_fault<W: Write, E: Write>(
     folder: &str,
@@ -196,7 +210,7 @@ fn folder_fault<W: Write, E: Write>(
 ) -> u8
     ensures { result ≡ 1 }
 {
-    let status = fault(SpoolFault::FolderFault, writer);
+    let status = refused(why, writer);
     let _ = writeln!(told, "cclib: the folder {folder} can't be used: {why}");
     let _ = match name {
         None => writeln!(told, "cclib: nothing of the script is done"),
@@ -382,6 +396,7 @@ pub fn submit_script<R: AllocGlobal + Input + Print, E: Write + Drop>(
             let _ = explain_no_command(&mut told.errors);
             return Ok(2);
         }
+        Err(why) if why.kind() == io::ErrorKind::OutOfMemory => return Err(AllocError),
         Err(_) => {
             let _ = writer.write_all(READ_FAULT);
             let _ = writer.flush();

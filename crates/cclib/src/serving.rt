@@ -146,7 +146,7 @@ where
         return Err(AllocError);
     };
     let mut told = Telling { errors, is_quiet };
-    match take_to_serve(files, alloc, asked, &mut writer, &mut told)? {
+    match take_to_serve(files, alloc, asked, is_quiet, &mut writer, &mut told)? {
         Ok(taken) => serve_taken(rt, taken, asked, &mut writer, &mut told),
         Err(status) => Ok(status),
     }

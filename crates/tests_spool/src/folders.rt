@@ -7,7 +7,7 @@ use crate::helpers::{
 use cc_spool::{FolderLayout, FolderSpool, Recovered, Spool};
 use std::io::{self, Read, Write};
 use std::thread;
-use std::time::Duration;
+use std::time::{Duration, Instant};
 
 // What is put into `new`.
 #[derive(Clone, Copy, Drop)]
@@ -205,12 +205,65 @@ fn what_a_kill_left(rt: HostRuntime) {
     for state in &STATES {
         must(&rt, leave(folder, state), state.name);
     }
-    let Recovered { begun, kept } = recovered(&layout).expect(&rt, "a start");
+    let Recovered { begun, kept, .. } = recovered(&layout).expect(&rt, "a start");
     must(&rt, begun == 5 && kept.is_empty(), "five were begun");
     for state in &STATES {
         must(&rt, is_recovered(folder, state), state.name);
     }
     must(&rt, folder.has("cur", 0), "nothing is left");
+    must(&rt, folder.end(layout, held), "its end");
+}
+
+#[test]
+fn an_empty_file_beside_an_answer(rt: HostRuntime) {
+    let path = "an_empty_file_beside_an_answer.spool";
+    let folder = Folder { rt, path };
+    let (layout, held) = folder.take().expect(&rt, "a folder");
+    // A second client of the server made it before the first one took the claim of the script away that it had answered.
+    must(&rt, leave(folder, &STATES[1]), "a claim");
+    let name = STATES[1].name;
+    must(&rt, folder.write("done", name, "ok 1\n"), "an answer");
+    let Recovered { begun, kept, stuck } = recovered(&layout).expect(&rt, "a start");
+    must(
+        &rt,
+        begun == 0 && kept.is_empty() && stuck == 0,
+        "none was begun",
+    );
+    must(&rt, folder.has_text("done", name, "ok 1\n"), "it stays");
+    must(&rt, folder.has("cur", 0), "nothing is left");
+    must(&rt, folder.end(layout, held), "its end");
+}
+
+#[test]
+fn directories_in_the_place_of_scripts(rt: HostRuntime) {
+    let path = "directories_in_the_place_of_scripts.spool";
+    let folder = Folder { rt, path };
+    let (layout, held) = folder.take().expect(&rt, "a folder");
+    must(&rt, folder.make("cur", "empty"), "an empty one");
+    must(&rt, folder.make("cur", "full/of"), "one that is not empty");
+    let Recovered { begun, kept, stuck } = recovered(&layout).expect(&rt, "a start");
+    must(&rt, begun == 0 && kept.is_empty(), "none is a script");
+    must(&rt, stuck == 1, "one can't be taken away");
+    must(&rt, !folder.is_there("cur", "empty"), "the other is gone");
+    must(&rt, folder.end(layout, held), "its end");
+}
+
+#[test]
+fn a_stop_of_before_the_start(rt: HostRuntime) {
+    let path = "a_stop_of_before_the_start.spool";
+    let folder = Folder { rt, path };
+    let (layout, held) = folder.take().expect(&rt, "a folder");
+    drop(layout);
+    drop(held);
+    must(&rt, folder.write(".", "stop", ""), "a stop");
+    thread::sleep(&rt, Duration::from_millis(20));
+    let (layout, held) = folder.take().expect(&rt, "the folder again");
+    must(&rt, !layout.is_stopped(), "it was for an earlier server");
+    must(&rt, folder.set_ahead(".", "stop"), "one of a later moment");
+    drop(layout);
+    drop(held);
+    let (layout, held) = folder.take().expect(&rt, "once more");
+    must(&rt, layout.is_stopped(), "it is for this one");
     must(&rt, folder.end(layout, held), "its end");
 }
 
@@ -234,7 +287,7 @@ fn what_a_start_could_not_hand_over(rt: HostRuntime) {
         let is_left = leave(folder, state) && folder.make("done", state.name);
         must(&rt, is_left, state.name);
     }
-    let Recovered { begun, kept } = recovered(&layout).expect(&rt, "a start");
+    let Recovered { begun, kept, .. } = recovered(&layout).expect(&rt, "a start");
     must(&rt, begun == 0 && kept.len() == 3, "three are kept");
     let mut spool = FolderSpool::new(layout, 100);
     spool.keep(kept);
@@ -485,13 +538,12 @@ fn names_that_hide_no_script(rt: HostRuntime) {
     must(&rt, fill_with_directories(folder), "directories");
     must(&rt, put_plain(folder), "a script");
     let mut spool = FolderSpool::new(layout, 100);
-    // As many as a client keeps, none of which can be claimed: the next look is behind them.
+    // As many as a client tries in one go, none of which can be claimed.
     must(&rt, done(folder, &mut spool) == 0, "none of the first");
-    must(&rt, done(folder, &mut spool) == 1, "the one behind them");
-    // Then it begins anew.
-    must(&rt, folder.write("new", "0", ""), "one before them");
-    must(&rt, done(folder, &mut spool) == 0, "none behind them");
-    must(&rt, done(folder, &mut spool) == 1, "the one before them");
+    must(&rt, done(folder, &mut spool) == 1, "the one after them");
+    // They are passed over then.
+    must(&rt, folder.write("new", "1", ""), "another one after them");
+    must(&rt, done(folder, &mut spool) == 1, "it is the first");
     must(&rt, folder.end_spool(spool, held), "its end");
 }
 
@@ -572,9 +624,15 @@ fn a_folder_that_was_moved(rt: HostRuntime) {
     must(&rt, folder.move_to(moved), "it is moved");
     let (other, also_held) = folder.take().expect(&rt, "another folder");
     must(&rt, put_plain(folder), "a script");
-    for _ in 0..100 {
+    let began = Instant::now(&rt).expect(&rt, "the time");
+    for _ in 0..1000 {
         must(&rt, goes_on(folder, &mut spool, &mut busy), "it goes on");
+        if spool.has_failed() {
+            break;
+        }
     }
+    let since = began.elapsed(&rt).expect(&rt, "the time");
+    must(&rt, 6 <= since.as_secs(), "six seconds long");
     must(&rt, spool.is_over() && spool.has_failed(), "it is lost");
     // It would be the only one to go on, and is over too.
     must(&rt, busy.is_over() && busy.has_failed(), "to both");
@@ -631,6 +689,8 @@ fn a_second_script_of_a_name(rt: HostRuntime) {
     must(&rt, put_plain(folder), "a second one");
     must(&rt, done(folder, &mut spool) == 0, "it waits");
     must(&rt, folder.remove("done", "plain"), "the way is free");
+    // Its name is passed over for a second.
+    thread::sleep(&rt, Duration::from_millis(1100));
     must(&rt, done(folder, &mut spool) == 1, "it is done too");
     must(&rt, folder.end_spool(spool, held), "its end");
 }

@@ -116,6 +116,17 @@ impl Folder {
         }
     }
 
+    /// Makes an empty file that was written a minute from now.
+    pub fn set_ahead(self, part: &str, name: &str) -> bool {
+        let Ok(now) = SystemTime::now(&self.rt) else {
+            return false;
+        };
+        match now.checked_add(Duration::from_secs(60)) {
+            Some(time) => self.write(part, name, "") && self.set_time(part, name, time),
+            None => false,
+        }
+    }
+
     /// Makes the rights of a directory these.
     pub fn set_rights(self, part: &str, rights: u32) -> bool {
         let path = self.path_in(part, "");
