@@ -1,12 +1,13 @@
 -- One generation more goes on from what the ones before it left. Between the two each spool was asked whether it is over, which changes nothing.
-use Rattle.std.proofs.Common.{◌≡◌, ℕ, suc, List, Option, sym, subst}
+use Rattle.std.proofs.Common.{◌≡◌, ℕ, suc, List, sym, subst}
+use Rattle.cc_spool.specs.Spool.{Delivered, Taken}
 use Rattle.cc_session.specs.Generations.{ServesOn}
 use Rattle.cc_session.specs.Spooling.{Given, given_by}
 use Rattle.cc_session.specs.declared.end.SessionEnd.{SessionEnd}
 use Rattle.cc_session.specs.declared.end.SessionEnd.TheVariants.{Finished}
 
 -- a spool that has given and was handed the same
-pub same_given : {S : Type 0} (taken : S → List (Option (List ℕ))) (ended : S → List (Option ℕ)) (x y : S) → taken x ≡ taken y → ended x ≡ ended y
+pub same_given : {S : Type 0} (taken : S → List Taken) (ended : S → List Delivered) (x y : S) → taken x ≡ taken y → ended x ≡ ended y
     → given_by taken ended x ≡ given_by taken ended y
 same_given taken ended x y one two = λ i. record { taken = one i; ended = two i }
 

@@ -1,7 +1,8 @@
+pub mod Audited
 pub mod Calling
 pub mod Chains
 pub mod Ends
-pub mod Fetching
+pub mod Growing
 pub mod Lines
 pub mod Obeying
 pub mod Playing

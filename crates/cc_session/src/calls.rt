@@ -1,18 +1,22 @@
 // The commands of a script, done by one client.
 
-ghost use Rattle.std.specs.Prelude.{◌≡◌, Option, Ok, IsTrue, false, IfErr, IfOk};
+ghost use Rattle.std.specs.Prelude.{◌≡◌, [], List, ℕ, Ok};
 ghost use Rattle.cc_answers.specs.Telling.{Tells};
 ghost use Rattle.cc_script.specs.Line.{asked_of};
-ghost use Rattle.cc_history.specs.declared.entry.Receipt.{Receipt};
+ghost use Rattle.cc_history.specs.History.{MemberView};
 ghost use Rattle.cc_service.specs.Serving.{GetAnswers, ListAnswers, PutAnswers, Puts, WithdrawAnswers};
-ghost use Rattle.cc_session.specs.Playing.{Audits, Calls, FetchesEach, IsCutShort, IsPlayedBy, IsSent, Obeys};
-ghost use Rattle.cc_session.specs.internal.Steps.{IsDone, IsShortOf};
+ghost use Rattle.cc_session.specs.Playing.{Audits, Compacts, Grows, HasUnended, IsCutShort, IsPlayedBy, IsSent, IsUnended, Obeys, talk};
+ghost use Rattle.cc_session.specs.Telling.{SaysChange, SaysNames, SaysRun, SaysShown};
+ghost use Rattle.cc_session.specs.internal.Calls.{AuditsName, AuditsNames, CallsAndTells, DoesAndTells, TellsAudit};
+ghost use Rattle.cc_session.specs.internal.Steps.{IsDone, IsHalted, IsShortOf};
 
 use crate::auditing::audit_found;
 use crate::reading::{Reading, Sent};
 use crate::showing::text_of;
 use crate::telling::{refuse, tell_change, tell_done};
-use cc_answers::{Teller, run_image};
+use cc_answers::{
+    run_image, tell_audit, tell_fault, tell_names, tell_no_memory, tell_ok, tell_run, tell_text,
+};
 use cc_disk::Disk;
 use cc_library::Name;
 use cc_script::{
@@ -37,18 +41,19 @@ impl<'a, N: Named + Send + Sync + 'static, H: Wait, D: Disk> Player<'a, N, H, D>
     fn change<W: Write, E: Write>(
         &self,
         client: &mut Client<N>,
-        teller: &mut Teller<W, E>,
         put: Put,
         name: &[u8],
         source: &[u8],
+        answers: &mut W,
+        explanations: &mut E,
     ) -> Result<(), ScriptFault>
-        ensures told { Tells result }
-        ensures called { Calls (PutAnswers (Puts put name.now source.now) name.now source.now client.old.member client.new.member) }
+        ensures { CallsAndTells (PutAnswers (Puts put name.now source.now) name.now source.now) (SaysChange source.now)
+            (talk client.old.member (W.contents answers.old)) (talk client.new.member (W.contents answers.new)) result }
     {
         let answer = self
             .service
             .put(self.rt, self.alloc, client, put, name, source);
-        tell_change(self.alloc, teller, answer, source)
+        tell_change(self.alloc, answer, source, answers, explanations)
     }
 
     // Adds or replaces a unit whose source comes next.
@@ -56,62 +61,69 @@ impl<'a, N: Named + Send + Sync + 'static, H: Wait, D: Disk> Player<'a, N, H, D>
         &self,
         client: &mut Client<N>,
         script: &mut Reading<R>,
-        teller: &mut Teller<W, E>,
         put: Put,
         name: &[u8],
         length: usize,
+        answers: &mut W,
+        explanations: &mut E,
     ) -> Result<(), ScriptFault>
-        ensures { IsDone (λ before after old new. IsSent (Puts put) name.now length before after old new) (IsShortOf length) script.old script.new
-            client.old.member client.new.member result }
+        ensures done { IsDone (λ before after old new. IsSent (Puts put) name.now length before after old new) (IsShortOf length) (IsUnended length)
+            script.old script.new (talk client.old.member (W.contents answers.old)) (talk client.new.member (W.contents answers.new)) result }
+        ensures grows { Grows client.old.member client.new.member }
     {
         match script.source(self.alloc, length)? {
-            Sent::Source(source) => self.change(client, teller, put, name, source.as_slice()),
-            Sent::NoRoom => teller.tell_no_memory(),
-            Sent::Unended => script.refuse_and_skip(teller),
+            Sent::Source(source) => {
+                self.change(client, put, name, source.as_slice(), answers, explanations)
+            }
+            Sent::NoRoom => tell_no_memory(answers, explanations),
+            Sent::Unended => script.refuse_and_skip(answers, explanations),
         }
     }
 
     fn withdraw<W: Write, E: Write>(
         &self,
         client: &mut Client<N>,
-        teller: &mut Teller<W, E>,
         name: &[u8],
+        answers: &mut W,
+        explanations: &mut E,
     ) -> Result<(), ScriptFault>
-        ensures told { Tells result }
-        ensures called { Calls (WithdrawAnswers name.now client.old.member client.new.member) }
+        ensures { CallsAndTells (WithdrawAnswers name.now) (SaysChange []) (talk client.old.member (W.contents answers.old)) (talk client.new.member (W.contents answers.new)) result }
     {
         let answer = self.service.withdraw(self.rt, self.alloc, client, name);
-        tell_change(self.alloc, teller, answer, &[])
+        tell_change(self.alloc, answer, &[], answers, explanations)
     }
 
     fn list<W: Write, E: Write>(
         &self,
         client: &mut Client<N>,
-        teller: &mut Teller<W, E>,
+        answers: &mut W,
+        explanations: &mut E,
     ) -> Result<(), ScriptFault>
-        ensures told { Tells result }
-        ensures called { Calls (ListAnswers client.old.member client.new.member) }
+        ensures { CallsAndTells ListAnswers SaysNames (talk client.old.member (W.contents answers.old)) (talk client.new.member (W.contents answers.new)) result }
     {
         match self.service.list(self.rt, self.alloc, client) {
-            Ok(listing) => {
-                teller.tell_names(listing.names().as_slice(), listing.receipt().number)
-            }
-            Err(fault) => refuse(self.alloc, teller, fault, &[]),
+            Ok(listing) => tell_names(
+                listing.names().as_slice(),
+                listing.receipt().number,
+                answers,
+            ),
+            Err(fault) => refuse(self.alloc, fault, &[], answers, explanations),
         }
     }
 
     // Runs the image of a unit that was found.
     fn run_found<W: Write, E: Write>(
         &self,
-        teller: &mut Teller<W, E>,
         found: Found,
         steps: u64,
+        answers: &mut W,
+        explanations: &mut E,
     ) -> Result<(), ScriptFault>
-        ensures { Tells result }
+        ensures { (text : List ℕ) × SaysRun steps (Ok found) text × Tells (W.contents answers.old) (W.contents answers.new) text result }
     {
         match run_image(self.alloc, &found.unit().stored().image, &[], steps) {
-            Ok(run) => teller.tell_run(&run),
-            Err(_) => teller.tell_no_memory(),
+            Ok(run) => tell_run(&run, answers),
+            Err(_) => tell_no_memory(answers, explanations),
         }
     }
 
@@ -119,76 +131,83 @@ impl<'a, N: Named + Send + Sync + 'static, H: Wait, D: Disk> Player<'a, N, H, D>
     fn run<W: Write, E: Write>(
         &self,
         client: &mut Client<N>,
-        teller: &mut Teller<W, E>,
         name: &[u8],
         steps: u64,
+        answers: &mut W,
+        explanations: &mut E,
     ) -> Result<(), ScriptFault>
-        ensures told { Tells result }
-        ensures called { Calls (GetAnswers name.now client.old.member client.new.member) }
+        ensures { CallsAndTells (GetAnswers name.now) (SaysRun steps) (talk client.old.member (W.contents answers.old)) (talk client.new.member (W.contents answers.new)) result }
     {
         match self.service.get(self.rt, self.alloc, client, name) {
-            Ok(found) => self.run_found(teller, found, steps),
-            Err(fault) => refuse(self.alloc, teller, fault, &[]),
+            Ok(found) => self.run_found(found, steps, answers, explanations),
+            Err(fault) => refuse(self.alloc, fault, &[], answers, explanations),
         }
     }
 
-    // Tells this part of a name's unit.
+    // Writes this part of a name's unit.
     fn show<W: Write, E: Write>(
         &self,
         client: &mut Client<N>,
-        teller: &mut Teller<W, E>,
         name: &[u8],
         part: Part,
+        answers: &mut W,
+        explanations: &mut E,
     ) -> Result<(), ScriptFault>
-        ensures told { Tells result }
-        ensures called { Calls (GetAnswers name.now client.old.member client.new.member) }
+        ensures { CallsAndTells (GetAnswers name.now) (SaysShown part) (talk client.old.member (W.contents answers.old)) (talk client.new.member (W.contents answers.new)) result }
     {
         match self.service.get(self.rt, self.alloc, client, name) {
-            Ok(found) => self.show_found(teller, found, part),
-            Err(fault) => refuse(self.alloc, teller, fault, &[]),
+            Ok(found) => self.show_found(found, part, answers, explanations),
+            Err(fault) => refuse(self.alloc, fault, &[], answers, explanations),
         }
     }
 
-    // Tells this part of a unit that was found.
+    // Writes this part of a unit that was found.
     fn show_found<W: Write, E: Write>(
         &self,
-        teller: &mut Teller<W, E>,
         found: Found,
         part: Part,
+        answers: &mut W,
+        explanations: &mut E,
     ) -> Result<(), ScriptFault>
-        ensures { Tells result }
+        ensures { (text : List ℕ) × SaysShown part (Ok found) text × Tells (W.contents answers.old) (W.contents answers.new) text result }
     {
         match text_of(self.alloc, &found, part) {
-            Ok(text) => teller.tell_text(text.as_slice()),
-            Err(_) => teller.tell_no_memory(),
+            Ok(text) => tell_text(text.as_slice(), answers),
+            Err(_) => tell_no_memory(answers, explanations),
         }
     }
 
-    fn compact<W: Write, E: Write>(&self, teller: &mut Teller<W, E>) -> Result<(), ScriptFault>
-        ensures { Tells result }
+    // Writes the library anew. It is no client's call.
+    fn compact<W: Write, E: Write>(
+        &self,
+        answers: &mut W,
+        explanations: &mut E,
+    ) -> Result<(), ScriptFault>
+        ensures { (client : MemberView) → DoesAndTells Compacts (talk client (W.contents answers.old)) (talk client (W.contents answers.new)) result }
     {
         let answer = self.service.compact(self.rt, self.alloc);
-        tell_done(self.alloc, teller, answer)
+        tell_done(self.alloc, answer, answers, explanations)
     }
 
-    // Tells what an audit says of a unit that was found, or that memory ran out in it: whether it said anything.
-    fn tell_audit<W: Write, E: Write>(
+    // Writes what an audit says of a unit that was found, or that memory ran out in it: whether it said anything.
+    fn audit_unit<W: Write, E: Write>(
         &self,
-        teller: &mut Teller<W, E>,
         name: &[u8],
         found: Found,
+        answers: &mut W,
+        explanations: &mut E,
     ) -> Result<bool, ScriptFault>
-        ensures { Tells result }
+        ensures { TellsAudit name.now (Ok found) (W.contents answers.old) (W.contents answers.new) result }
     {
         match audit_found(self.alloc, &found) {
-            Ok(audit) => {
-                teller.tell_audit(name, audit)?;
-                Ok(true)
-            }
-            Err(_) => {
-                teller.tell_no_memory()?;
-                Ok(false)
-            }
+            Ok(audit) => match tell_audit(name, audit, answers) {
+                Ok(()) => Ok(true),
+                Err(fault) => Err(fault),
+            },
+            Err(_) => match tell_no_memory(answers, explanations) {
+                Ok(()) => Ok(false),
+                Err(fault) => Err(fault),
+            },
         }
     }
 
@@ -196,16 +215,15 @@ impl<'a, N: Named + Send + Sync + 'static, H: Wait, D: Disk> Player<'a, N, H, D>
     fn audit_name<W: Write, E: Write>(
         &self,
         client: &mut Client<N>,
-        teller: &mut Teller<W, E>,
         name: &[u8],
+        answers: &mut W,
+        explanations: &mut E,
     ) -> Result<bool, ScriptFault>
-        ensures told { Tells result }
-        ensures called { Calls (GetAnswers name.now client.old.member client.new.member) }
-        ensures found { IfOk result (λ is_audited. IsTrue is_audited → (receipt : Receipt) × GetAnswers name.now client.old.member client.new.member (Ok receipt)) }
+        ensures { AuditsName name.now (talk client.old.member (W.contents answers.old)) (talk client.new.member (W.contents answers.new)) result }
     {
         match self.service.get(self.rt, self.alloc, client, name) {
-            Ok(found) => self.tell_audit(teller, name, found),
-            Err(fault) => match refuse(self.alloc, teller, fault, &[]) {
+            Ok(found) => self.audit_unit(name, found, answers, explanations),
+            Err(fault) => match refuse(self.alloc, fault, &[], answers, explanations) {
                 Ok(()) => Ok(false),
                 Err(fault) => Err(fault),
             },
@@ -216,16 +234,17 @@ impl<'a, N: Named + Send + Sync + 'static, H: Wait, D: Disk> Player<'a, N, H, D>
     fn audit_names<W: Write, E: Write>(
         &self,
         client: &mut Client<N>,
-        teller: &mut Teller<W, E>,
         names: &[Name],
+        answers: &mut W,
+        explanations: &mut E,
     ) -> Result<bool, ScriptFault>
-        ensures told { Tells result }
-        ensures whole { IfOk result (λ all. FetchesEach names.now all client.old.member client.new.member) }
-        ensures part { IfErr result (λ fault. FetchesEach names.now false client.old.member client.new.member) }
+        ensures { AuditsNames names.now (talk client.old.member (W.contents answers.old)) (talk client.new.member (W.contents answers.new)) result }
     {
         for name in names {
-            if !self.audit_name(client, teller, name.bytes())? {
-                return Ok(false);
+            match self.audit_name(client, name.bytes(), answers, explanations) {
+                Ok(true) => {}
+                Ok(false) => return Ok(false),
+                Err(fault) => return Err(fault),
             }
         }
         Ok(true)
@@ -235,18 +254,20 @@ impl<'a, N: Named + Send + Sync + 'static, H: Wait, D: Disk> Player<'a, N, H, D>
     fn audit<W: Write, E: Write>(
         &self,
         client: &mut Client<N>,
-        teller: &mut Teller<W, E>,
+        answers: &mut W,
+        explanations: &mut E,
     ) -> Result<(), ScriptFault>
-        ensures told { Tells result }
-        ensures called { Audits client.old.member client.new.member }
+        ensures { DoesAndTells Audits (talk client.old.member (W.contents answers.old)) (talk client.new.member (W.contents answers.new)) result }
     {
         match self.service.list(self.rt, self.alloc, client) {
-            Ok(listing) => match self.audit_names(client, teller, listing.names().as_slice()) {
-                Ok(true) => teller.tell_ok(),
-                Ok(false) => Ok(()),
-                Err(fault) => Err(fault),
-            },
-            Err(fault) => refuse(self.alloc, teller, fault, &[]),
+            Ok(listing) => {
+                match self.audit_names(client, listing.names().as_slice(), answers, explanations) {
+                    Ok(true) => tell_ok(answers),
+                    Ok(false) => Ok(()),
+                    Err(fault) => Err(fault),
+                }
+            }
+            Err(fault) => refuse(self.alloc, fault, &[], answers, explanations),
         }
     }
 
@@ -256,54 +277,111 @@ impl<'a, N: Named + Send + Sync + 'static, H: Wait, D: Disk> Player<'a, N, H, D>
         &self,
         client: &mut Client<N>,
         script: &mut Reading<R>,
-        teller: &mut Teller<W, E>,
         dialect: Dialect,
         line: &[u8],
+        answers: &mut W,
+        explanations: &mut E,
     ) -> Result<(), ScriptFault>
-        ensures { IsDone (λ before after old new. Obeys (asked_of dialect line.now) before after old new) (λ rest. IsCutShort (asked_of dialect line.now) rest)
-            script.old script.new client.old.member client.new.member result }
+        ensures done { IsDone (λ before after old new. Obeys (asked_of dialect line.now) before after old new)
+            (λ rest. IsCutShort (asked_of dialect line.now) rest) (λ rest. HasUnended (asked_of dialect line.now) rest)
+            script.old script.new (talk client.old.member (W.contents answers.old)) (talk client.new.member (W.contents answers.new)) result }
+        ensures grows { Grows client.old.member client.new.member }
     {
         match command_of(dialect, line) {
             Some(ScriptCommand::Add { name, length }) => {
-                self.put(client, script, teller, Put::Add, name, length)
+                self.put(
+                    client,
+                    script,
+                    Put::Add,
+                    name,
+                    length,
+                    answers,
+                    explanations,
+                )
             }
             Some(ScriptCommand::Replace { name, length }) => {
-                self.put(client, script, teller, Put::Replace, name, length)
+                self.put(
+                    client,
+                    script,
+                    Put::Replace,
+                    name,
+                    length,
+                    answers,
+                    explanations,
+                )
             }
-            Some(ScriptCommand::Withdraw { name }) => self.withdraw(client, teller, name),
-            Some(ScriptCommand::List) => self.list(client, teller),
-            Some(ScriptCommand::Run { name, steps }) => self.run(client, teller, name, steps),
-            Some(ScriptCommand::Compact) => self.compact(teller),
-            Some(ScriptCommand::Audit) => self.audit(client, teller),
-            Some(ScriptCommand::Image { name }) => self.show(client, teller, name, Part::Image),
-            Some(ScriptCommand::Source { name }) => self.show(client, teller, name, Part::Source),
-            None => teller.tell_fault(ScriptFault::BadLine),
+            Some(ScriptCommand::Withdraw { name }) => {
+                self.withdraw(client, name, answers, explanations)
+            }
+            Some(ScriptCommand::List) => self.list(client, answers, explanations),
+            Some(ScriptCommand::Run { name, steps }) => {
+                self.run(client, name, steps, answers, explanations)
+            }
+            Some(ScriptCommand::Compact) => self.compact(answers, explanations),
+            Some(ScriptCommand::Audit) => self.audit(client, answers, explanations),
+            Some(ScriptCommand::Image { name }) => {
+                self.show(client, name, Part::Image, answers, explanations)
+            }
+            Some(ScriptCommand::Source { name }) => {
+                self.show(client, name, Part::Source, answers, explanations)
+            }
+            None => tell_fault(ScriptFault::BadLine, answers, explanations),
         }
     }
 
-    // Does what a script of this dialect asks for, up to its end or a fault that ends it; where there is a bound, so many lines at most.
-    pub(crate) fn play<R: Read, W: Write, E: Write>(
+    // Does what a script of this dialect asks for, up to its end or a fault that ends it; if there is a bound, so many lines at most.
+    fn play_lines<R: Read, W: Write, E: Write>(
         &self,
         client: &mut Client<N>,
         script: &mut Reading<R>,
-        teller: &mut Teller<W, E>,
         dialect: Dialect,
         most: Option<usize>,
+        answers: &mut W,
+        explanations: &mut E,
     ) -> Result<(), ScriptFault>
         requires { script.old.left ≡ 16777216 }
-        ensures { IsPlayedBy dialect most script.old.rest client.old.member client.new.member result }
+        ensures halted { IsHalted dialect most script.old.rest (talk client.old.member (W.contents answers.old)) (talk client.new.member (W.contents answers.new)) result }
+        ensures grows { Grows client.old.member client.new.member }
     {
         let mut line = [0u8; LINE_BYTES];
         // Each line but the last takes a byte at least.
         for lines in 0..=MOST_BYTES {
             match script.next_line(&mut line, most, lines)? {
-                NextLine::Line(length) => {
-                    self.obey(client, script, teller, dialect, &line[..length])?
-                }
-                NextLine::TooLong => script.refuse_and_skip(teller)?,
+                NextLine::Line(length) => self.obey(
+                    client,
+                    script,
+                    dialect,
+                    &line[..length],
+                    answers,
+                    explanations,
+                )?,
+                NextLine::TooLong => script.refuse_and_skip(answers, explanations)?,
                 NextLine::End => return Ok(()),
             }
         }
         Err(ScriptFault::ScriptTooLong)
+    }
+
+    // Does so, and then writes the line of the fault that ended the script. If that cannot be written the fault is 54.
+    pub(crate) fn play<R: Read, W: Write, E: Write>(
+        &self,
+        client: &mut Client<N>,
+        script: &mut Reading<R>,
+        dialect: Dialect,
+        most: Option<usize>,
+        answers: &mut W,
+        explanations: &mut E,
+    ) -> Result<(), ScriptFault>
+        requires { script.old.left ≡ 16777216 }
+        ensures played { IsPlayedBy dialect most script.old.rest (talk client.old.member (W.contents answers.old)) (talk client.new.member (W.contents answers.new)) result }
+        ensures grows { Grows client.old.member client.new.member }
+    {
+        match self.play_lines(client, script, dialect, most, answers, explanations) {
+            Ok(()) => Ok(()),
+            Err(fault) => match tell_fault(fault, answers, explanations) {
+                Ok(()) => Err(fault),
+                Err(unwritten) => Err(unwritten),
+            },
+        }
     }
 }

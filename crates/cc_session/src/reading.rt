@@ -2,10 +2,12 @@
 
 ghost use Rattle.std.specs.Prelude.{◌≡◌, ◌⊎◌, ◌≤◌, ℕ, List, IfErr, IfOk, OnOk};
 ghost use Rattle.cc_script.specs.Reading.{Between, IsLine, IsNext, IsNoSource, IsNotRead, IsWithinLine};
-ghost use Rattle.cc_script.specs.declared.fault.ScriptFault.TheVariants.{WriteFault};
+ghost use Rattle.std.specs.Io.KnownBytes.{Appends};
+ghost use Rattle.cc_answers.specs.Telling.{script_fault_text};
+ghost use Rattle.cc_script.specs.declared.fault.ScriptFault.TheVariants.{BadLine, WriteFault};
 ghost use Rattle.cc_session.specs.internal.Steps.{HasSent, IsNoLine, IsSentAs, MayFollow};
 
-use cc_answers::Teller;
+use cc_answers::tell_fault;
 use cc_script::{LINE_BYTES, NextLine, Script, ScriptFault};
 use std::alloc::Global;
 use std::io::{Read, Write};
@@ -103,15 +105,20 @@ impl<R: Read> Reading<R> {
         Ok(behind_line(source, is_ended))
     }
 
-    // Tells that a line that was not read to its end is no command, and skips it.
+    // Writes that a line that was not read to its end is no command, 50, and skips it.
     pub(crate) fn refuse_and_skip<W: Write, E: Write>(
         &mut self,
-        teller: &mut Teller<W, E>,
+        answers: &mut W,
+        explanations: &mut E,
     ) -> Result<(), ScriptFault>
-        ensures refused { IfErr result (λ fault. (fault ≡ WriteFault) ⊎ IsNotRead self.old self.new.left fault) }
+        ensures refused { IfErr result (λ fault. (fault ≡ WriteFault)
+            ⊎ (Appends (W.contents answers.old) (W.contents answers.new) (script_fault_text BadLine) × IsNotRead self.old self.new.left fault)) }
         ensures bytes { OnOk result (Between self.old self.new (λ before after. (rest : List ℕ) × IsLine before rest after)) }
+        ensures written { OnOk result (Appends (W.contents answers.old) (W.contents answers.new) (script_fault_text BadLine)) }
     {
-        teller.tell_fault(ScriptFault::BadLine)?;
-        self.script.skip_line(&mut self.reader)
+        match tell_fault(ScriptFault::BadLine, answers, explanations) {
+            Ok(()) => self.script.skip_line(&mut self.reader),
+            Err(fault) => Err(fault),
+        }
     }
 }

@@ -21,7 +21,6 @@ use crate::end::SessionEnd;
 use crate::running::{Begun, begin, finish};
 use crate::steward::Steward;
 use crate::telling::refused;
-use cc_answers::Teller;
 use cc_disk::Disk;
 use cc_library::LibraryFault;
 use cc_service::{Client, Gate, Named, Service, ServiceFault};
@@ -190,12 +189,13 @@ struct Worked<N: Named, S> {
 fn work<N, H, S, W, E, D, T>(
     rt: &H,
     alloc: Global,
-    teller: &mut Teller<W, E>,
     service: &Service<N, D>,
     room: Room<N, S>,
     spools: Vec<S>,
     meter: &Meter,
     steward: &mut T,
+    answers: &mut W,
+    explanations: &mut E,
 ) -> Worked<N, S>
 where
     N: Named + Send + Sync + 'static,
@@ -218,7 +218,7 @@ where
     match hire(rt, alloc, service, spools.len(), &mut clients) {
         Ok(()) => {
             pair(&mut clients, spools, &mut posts);
-            steward.opened(&mut teller.explanations);
+            steward.opened(explanations);
             attend_all(rt, alloc, service, posts.as_mut_slice(), meter);
             dismiss(posts, &mut clients, &mut left);
             Worked {
@@ -228,7 +228,7 @@ where
             }
         }
         Err(fault) => {
-            let number = refused(alloc, teller, fault);
+            let number = refused(alloc, fault, answers, explanations);
             Worked {
                 clients,
                 spools,
@@ -249,16 +249,17 @@ pub struct Served<D: Drop, S: Drop> {
 // What is left where no service was opened, for this reason.
 fn unserved<S: Spool + Drop, W: Write, E: Write, D: Disk + Drop>(
     alloc: Global,
-    teller: &mut Teller<W, E>,
     spools: Vec<S>,
     disk: D,
     fault: ServiceFault,
+    answers: &mut W,
+    explanations: &mut E,
 ) -> Served<D, S>
     ensures disk { result.disk ≡ disk }
     ensures spools { result.spools ≡ spools }
     ensures end { result.end ≡ Fault (fault_number fault) }
 {
-    let number = refused(alloc, teller, fault);
+    let number = refused(alloc, fault, answers, explanations);
     Served {
         disk,
         spools,
@@ -270,12 +271,13 @@ fn unserved<S: Spool + Drop, W: Write, E: Write, D: Disk + Drop>(
 fn serve_opened<N, H, S, W, E, D, T>(
     rt: &H,
     alloc: Global,
-    teller: &mut Teller<W, E>,
     service: Service<N, D>,
     room: Room<N, S>,
     spools: Vec<S>,
     bounds: Bounds,
     steward: &mut T,
+    answers: &mut W,
+    explanations: &mut E,
 ) -> Served<D, S>
 where
     N: Named + Send + Sync + 'static,
@@ -297,10 +299,20 @@ where
         clients,
         spools,
         end: worked,
-    } = work(rt, alloc, teller, &service, room, spools, &meter, steward);
-    let (disk, end) = finish(rt, alloc, teller, service, clients, worked);
+    } = work(
+        rt,
+        alloc,
+        &service,
+        room,
+        spools,
+        &meter,
+        steward,
+        answers,
+        explanations,
+    );
+    let (disk, end) = finish(rt, alloc, service, clients, worked, answers, explanations);
     if worked == SessionEnd::Finished {
-        steward.ended(meter.generation(end), &mut teller.explanations);
+        steward.ended(meter.generation(end), explanations);
     }
     Served { disk, spools, end }
 }
@@ -309,13 +321,14 @@ where
 fn serve_begun<N, H, S, W, E, D, G, T>(
     rt: &H,
     alloc: Global,
-    teller: &mut Teller<W, E>,
     begun: Begun<D>,
     spools: Vec<S>,
     workers: usize,
     gate: G,
     bounds: Bounds,
     steward: &mut T,
+    answers: &mut W,
+    explanations: &mut E,
 ) -> Served<D, S>
 where
     N: Named + Send + Sync + 'static,
@@ -345,13 +358,23 @@ where
     let Ok(room) = room_for(alloc, spools.len()) else {
         drop(fresh);
         let fault = ServiceFault::Opening(LibraryFault::OutOfMemory);
-        return unserved(alloc, teller, spools, disk, fault);
+        return unserved(alloc, spools, disk, fault, answers, explanations);
     };
     match Service::<N, D>::open(rt, alloc, fresh, disk, workers, gate) {
-        Ok(service) => serve_opened(rt, alloc, teller, service, room, spools, bounds, steward),
+        Ok(service) => serve_opened(
+            rt,
+            alloc,
+            service,
+            room,
+            spools,
+            bounds,
+            steward,
+            answers,
+            explanations,
+        ),
         Err((fault, disk)) => {
             drop(room);
-            unserved(alloc, teller, spools, disk, fault)
+            unserved(alloc, spools, disk, fault, answers, explanations)
         }
     }
 }
@@ -363,8 +386,8 @@ where
 /// they were, how the service ended.
 ///
 /// The line of a fault of the opening (35, 37, 38, 40, 41; 30 where there are too many spools) or of the end (39, 40) goes to `writer`,
-/// and what helps a person with it to `explanations`. Each is written; `end` is the first. A fault that ends a script is told in its answer
-/// alone. Disk and spools are handed back after each.
+/// and what helps a person with it to `explanations`. `end` is the first, or 39, and is written. A fault that ends a script is told in its
+/// answer alone. Disk and spools are handed back after each.
 pub fn serve<H, S, W, E, D, G, T>(
     rt: &H,
     alloc: Global,
@@ -390,25 +413,22 @@ where
     ensures answers { ServingEnds D.Disk
         (map (given_by S.taken S.ended) spools.items) (map (given_by S.taken S.ended) result.spools.items) disk result.disk result.end }
 {
-    let mut teller = Teller {
-        answers: writer,
-        explanations,
-    };
     match begin(alloc, disk) {
-        Ok(begun) => serve_begun::<Brand, H, S, &mut W, &mut E, D, G, T>(
+        Ok(begun) => serve_begun::<Brand, H, S, W, E, D, G, T>(
             rt,
             alloc,
-            &mut teller,
             begun,
             spools,
             workers,
             gate,
             bounds,
             steward,
+            writer,
+            explanations,
         ),
         Err((fault, disk)) => {
             let fault = ServiceFault::Opening(fault);
-            unserved(alloc, &mut teller, spools, disk, fault)
+            unserved(alloc, spools, disk, fault, writer, explanations)
         }
     }
 }

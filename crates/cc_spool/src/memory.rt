@@ -2,6 +2,7 @@
 
 ghost use Rattle.std.specs.Prelude.{◌≡◌, ◌≢◌, ◌<◌, ◌≤◌, ◌++◌, ◌∷◌, [], true, false, IfOk, IfNone, IfSome, map, vec_len};
 ghost use Rattle.std.specs.Vec.{vec_capacity};
+ghost use Rattle.cc_spool.specs.Spool.{delivered_as, taken_as};
 
 use crate::spool::Spool;
 use cc_disk::History;
@@ -23,8 +24,8 @@ pub struct Answered<W: Drop> {
 pub struct MemorySpool<R: Drop, W: Drop> {
     waiting: VecDeque<(R, W)>,
     answered: Vec<Answered<W>>,
-    taken: History<R>,
-    ended: History<Option<u32>>,
+    taken: History<(R, W)>,
+    ended: History<Answered<W>>,
 }
 
 impl<R: Read + Drop + Send, W: Write + Drop + Send> MemorySpool<R, W> {
@@ -59,13 +60,13 @@ impl<R: Read + Drop + Send, W: Write + Drop + Send> Spool for MemorySpool<R, W> 
 
     type Answer = W;
 
-    ghost taken = { λ s. map R.remaining s.taken.items };
+    ghost taken = { λ s. map (λ job. taken_as (R.remaining job.0) (W.contents job.1)) s.taken.items };
 
-    ghost ended = { λ s. s.ended.items };
+    ghost ended = { λ s. map (λ a. delivered_as (W.contents a.answer) a.fault) s.ended.items };
 
     fn is_over(&mut self) -> bool
-        ensures taken { map R.remaining self.new.taken.items ≡ map R.remaining self.old.taken.items }
-        ensures ended { self.new.ended.items ≡ self.old.ended.items }
+        ensures taken { map (λ job. taken_as (R.remaining job.0) (W.contents job.1)) self.new.taken.items ≡ map (λ job. taken_as (R.remaining job.0) (W.contents job.1)) self.old.taken.items }
+        ensures ended { map (λ a. delivered_as (W.contents a.answer) a.fault) self.new.ended.items ≡ map (λ a. delivered_as (W.contents a.answer) a.fault) self.old.ended.items }
         ensures same { self.new ≡ self.old }
         ensures over { result ≡ true → self.old.waiting.items ≡ [] }
         ensures more { result ≡ false → self.old.waiting.items ≢ [] }
@@ -74,29 +75,32 @@ impl<R: Read + Drop + Send, W: Write + Drop + Send> Spool for MemorySpool<R, W> 
     }
 
     fn next(&mut self) -> Option<(R, W)>
-        ensures taken { IfSome result (λ job. map R.remaining self.new.taken.items ≡ map R.remaining self.old.taken.items ++ R.remaining job.0 ∷ []) }
-        ensures none { IfNone result (map R.remaining self.new.taken.items ≡ map R.remaining self.old.taken.items) }
-        ensures ended { self.new.ended.items ≡ self.old.ended.items }
+        ensures taken { IfSome result (λ job. map (λ job. taken_as (R.remaining job.0) (W.contents job.1)) self.new.taken.items
+            ≡ map (λ job. taken_as (R.remaining job.0) (W.contents job.1)) self.old.taken.items ++ taken_as (R.remaining job.0) (W.contents job.1) ∷ []) }
+        ensures none { IfNone result (map (λ job. taken_as (R.remaining job.0) (W.contents job.1)) self.new.taken.items ≡ map (λ job. taken_as (R.remaining job.0) (W.contents job.1)) self.old.taken.items) }
+        ensures ended { map (λ a. delivered_as (W.contents a.answer) a.fault) self.new.ended.items ≡ map (λ a. delivered_as (W.contents a.answer) a.fault) self.old.ended.items }
         ensures first { IfSome result (λ job. self.old.waiting.items ≡ job ∷ self.new.waiting.items) }
         ensures over { IfNone result (self.old.waiting.items ≡ []) }
         ensures answered { self.new.answered ≡ self.old.answered }
     {
-        let (script, answer) = self.waiting.pop_front()?;
-        self.taken = self.taken.and(&script);
-        Some((script, answer))
+        let job = self.waiting.pop_front()?;
+        self.taken = self.taken.and(&job);
+        Some(job)
     }
 
     fn deliver(&mut self, script: R, answer: W, fault: Option<u32>)
-        ensures taken { map R.remaining self.new.taken.items ≡ map R.remaining self.old.taken.items }
-        ensures ended { self.new.ended.items ≡ self.old.ended.items ++ fault ∷ [] }
+        ensures taken { map (λ job. taken_as (R.remaining job.0) (W.contents job.1)) self.new.taken.items ≡ map (λ job. taken_as (R.remaining job.0) (W.contents job.1)) self.old.taken.items }
+        ensures ended { map (λ a. delivered_as (W.contents a.answer) a.fault) self.new.ended.items
+            ≡ map (λ a. delivered_as (W.contents a.answer) a.fault) self.old.ended.items ++ delivered_as (W.contents answer) fault ∷ [] }
         ensures waiting { self.new.waiting ≡ self.old.waiting }
         ensures answered { vec_len self.old.answered < vec_capacity self.old.answered
             → self.new.answered.items ≡ self.old.answered.items ++ record { answer = answer; fault = fault } ∷ [] }
         ensures capacity { vec_capacity self.old.answered ≤ vec_capacity self.new.answered }
     {
         drop(script);
-        self.ended = self.ended.and(&fault);
+        let answered = Answered { answer, fault };
+        self.ended = self.ended.and(&answered);
         // There is room for as many answers as there were scripts. One more than that is dropped where memory is refused.
-        let _ = self.answered.push(Answered { answer, fault });
+        let _ = self.answered.push(answered);
     }
 }

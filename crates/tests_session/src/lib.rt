@@ -18,6 +18,8 @@ mod generations;
 #[cfg(test)]
 mod helpers;
 #[cfg(test)]
+mod names;
+#[cfg(test)]
 mod refusals;
 #[cfg(test)]
 mod scripts;

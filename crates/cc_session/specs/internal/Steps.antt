@@ -7,7 +7,8 @@ use Rattle.cc_script.specs.declared.script.NextLine.{NextLine}
 use Rattle.cc_script.specs.declared.script.NextLine.TheVariants.{Line, TooLong, End}
 use Rattle.cc_script.specs.declared.fault.ScriptFault.{ScriptFault}
 use Rattle.cc_script.specs.declared.fault.ScriptFault.TheVariants.{BadLine, EndOfScript, ScriptTooLong, ReadFault, WriteFault}
-use Rattle.cc_history.specs.History.{MemberView}
+use Rattle.cc_script.specs.declared.command.Dialect.{Dialect}
+use Rattle.cc_session.specs.Playing.{IsBegun, IsEnding, IsPlayed, IsStoppedBy, Talk, talk}
 use Rattle.cc_session.specs.declared.end.SessionEnd.{SessionEnd}
 use Rattle.cc_session.specs.declared.end.SessionEnd.TheVariants.{Finished, Fault}
 use Rattle.cc_session.specs.declared.reading.Sent.{Sent}
@@ -41,19 +42,26 @@ IsSentAs source false sent = sent ≡ Unended
 abbrev pub IsShortOf : (count : ℕ) (rest : List ℕ) → Type 0
 IsShortOf count rest = length rest < count
 
--- Why a step was not done to its end. 51 where the bytes that its line needs are not there, 52 where more are left than the script may have, and
--- 53: then nothing was done of it. 54: nothing was, or the step whose answer could not be written.
-abbrev pub IsNotDone : (Does : List ℕ → List ℕ → MemberView → MemberView → Type 0) (IsShort : List ℕ → Type 0) (before : Ahead) (old new : MemberView) → ScriptFault → Type 0
-IsNotDone Does IsShort before old new BadLine = ⊥
-IsNotDone Does IsShort before old new EndOfScript = (new ≡ old) × IfSome before.rest IsShort
-IsNotDone Does IsShort before old new ScriptTooLong = (new ≡ old) × HasMore before
-IsNotDone Does IsShort before old new ReadFault = new ≡ old
-IsNotDone Does IsShort before old new WriteFault = IfSome before.rest (λ b. (new ≡ old) ⊎ ((a : List ℕ) × Does b a old new))
+-- Why a step was not done to its end. 51 if the bytes that its line needs are not there, 52 if more are left than the script may have, and 53: then
+-- nothing was done of it, but that 50 may be written of a line that was not read to its end. 54: nothing was done, or the step whose answer could not
+-- be written.
+abbrev pub IsNotDone : (Does : List ℕ → List ℕ → Talk → Talk → Type 0) (IsShort IsBad : List ℕ → Type 0) (before : Ahead) (old new : Talk) → ScriptFault → Type 0
+IsNotDone Does IsShort IsBad before old new BadLine = ⊥
+IsNotDone Does IsShort IsBad before old new EndOfScript = (new ≡ old) × IfSome before.rest IsShort
+IsNotDone Does IsShort IsBad before old new ScriptTooLong = IsBegun (IfSome before.rest IsBad) old new × HasMore before
+IsNotDone Does IsShort IsBad before old new ReadFault = IsBegun (IfSome before.rest IsBad) old new
+IsNotDone Does IsShort IsBad before old new WriteFault =
+    IfSome before.rest (λ b. (new.client ≡ old.client) ⊎ ((a : List ℕ) × (written : Option (List ℕ)) × Does b a old (talk new.client written)))
 
--- the step was done where it was answered
-abbrev pub IsDone : {T : Type 0} → (Does : List ℕ → List ℕ → MemberView → MemberView → Type 0) (IsShort : List ℕ → Type 0) (before after : Ahead) (old new : MemberView) → Result T ScriptFault → Type 0
-IsDone Does IsShort before after old new (Ok done) = Between before after (λ b a. Does b a old new)
-IsDone Does IsShort before after old new (Err fault) = IsNotDone Does IsShort before old new fault
+-- the step was done if it was answered
+abbrev pub IsDone : {T : Type 0} → (Does : List ℕ → List ℕ → Talk → Talk → Type 0) (IsShort IsBad : List ℕ → Type 0) (before after : Ahead) (old new : Talk) → Result T ScriptFault → Type 0
+IsDone Does IsShort IsBad before after old new (Ok done) = Between before after (λ b a. Does b a old new)
+IsDone Does IsShort IsBad before after old new (Err fault) = IsNotDone Does IsShort IsBad before old new fault
+
+-- a script was done whole; or a fault ended it, whose line is not written yet, and it is done as far as that says
+abbrev pub IsHalted : {T : Type 0} → Dialect → (most : Option ℕ) (script : Option (List ℕ)) (old new : Talk) → Result T ScriptFault → Type 0
+IsHalted dialect most script old new (Ok done) = IfSome script (λ bytes. IsPlayed dialect most bytes old new)
+IsHalted dialect most script old new (Err fault) = IsEnding fault × IfSome script (λ bytes. IsStoppedBy dialect most fault bytes old new)
 
 -- how a session ends whose script was answered so
 abbrev pub EndsFor : {T : Type 0} → Result T ScriptFault → SessionEnd → Type 0

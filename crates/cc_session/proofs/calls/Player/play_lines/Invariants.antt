@@ -1,0 +1,11 @@
+-- The lines so far are done and their answers written, each of a byte at least, and no more than may be.
+use Rattle.cc_script.specs.Reading.{Between}
+use Rattle.cc_session.specs.Playing.{Grows, talk}
+use Rattle.cc_session.proofs.Lines.{Played}
+use Rattle.cc_session.proofs.calls.Player.play_lines.Given as goal
+
+abbrev pub invariant-loop-lines : goal.invariant-loop-lines
+invariant-loop-lines g l = record {
+  played : Between l.initial.script l.script (Played l.dialect l.most l.lines (talk l.initial.client.member (g.W.Write.contents l.initial.answers)) (talk l.client.member (g.W.Write.contents l.answers)));
+  grows : Grows l.initial.client.member l.client.member;
+}
