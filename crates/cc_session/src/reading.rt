@@ -8,7 +8,7 @@ ghost use Rattle.cc_script.specs.declared.fault.ScriptFault.TheVariants.{BadLine
 ghost use Rattle.cc_session.specs.internal.Steps.{HasSent, IsNoLine, IsSentAs, MayFollow};
 
 use cc_answers::tell_fault;
-use cc_script::{LINE_BYTES, NextLine, Script, ScriptFault};
+use cc_script::{LINE_BYTES, MOST_BYTES, NextLine, Script, ScriptFault};
 use std::alloc::Global;
 use std::io::{Read, Write};
 use std::marker::Model;
@@ -60,6 +60,16 @@ impl<R: Read> Reading<R> {
             script: Script::new(),
             reader,
         }
+    }
+
+    // How many bytes of it were handed out.
+    pub(crate) fn position(&self) -> usize {
+        MOST_BYTES.saturating_sub(self.script.left())
+    }
+
+    // What was read of it and not handed out yet.
+    pub(crate) fn held(&self) -> &[u8] {
+        self.script.held()
     }
 
     // The script's next line, behind so many that are done; 52 where these are all that may be, and one more comes.

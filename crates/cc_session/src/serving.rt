@@ -9,6 +9,7 @@ ghost use Rattle.cc_library.specs.Apply.{Units};
 ghost use Rattle.cc_library.specs.Recovered.{Recovers};
 ghost use Rattle.cc_service.specs.Client.{members};
 ghost use Rattle.cc_service.specs.Fault.{fault_number};
+ghost use Rattle.cc_service.specs.Opened.{IsOpened};
 ghost use Rattle.cc_service.specs.Since.{IsPast};
 ghost use Rattle.cc_service.specs.declared.fault.ServiceFault.TheVariants.{TooManyClients};
 ghost use Rattle.cc_session.specs.Session.{EndsSince, HasEnded};
@@ -342,25 +343,32 @@ where
     requires ledger { begun.fresh.ledger ≡ N.name }
     requires parts { N.parts ≡ 1025 }
     requires queue { begun.fresh.queue ≡ N.queue }
-    requires named { IsTrue D.honest → (units : Units) → Recovers (D.seen begun.disk) units → units ≡ N.base }
-    requires past { IsTrue D.honest → IsPast D.Disk N.from N.left begun.disk }
+    requires opened { IsOpened D.Disk begun.library }
+    requires named { IsTrue D.honest → begun.library.units ≡ N.base }
+    requires past { IsTrue D.honest → IsPast D.Disk N.from N.left begun.library.disk }
     requires some { 1 ≤ workers }
     requires few { workers ≤ 8 }
     ensures { let before = map (given_by S.taken S.ended) spools.items in let after = map (given_by S.taken S.ended) result.spools.items in
-        EndsSince D.Disk N.from N.left (after ≡ before) (HaveServed before after) begun.disk result.disk result.end }
+        EndsSince D.Disk N.from N.left (after ≡ before) (HaveServed before after) begun.library.disk result.disk result.end }
 {
     let Begun {
-        disk,
+        library,
         before: _,
-        base: _,
         fresh,
     } = begun;
     let Ok(room) = room_for(alloc, spools.len()) else {
         drop(fresh);
         let fault = ServiceFault::Opening(LibraryFault::OutOfMemory);
-        return unserved(alloc, spools, disk, fault, answers, explanations);
+        return unserved(
+            alloc,
+            spools,
+            library.into_disk(),
+            fault,
+            answers,
+            explanations,
+        );
     };
-    match Service::<N, D>::open(rt, alloc, fresh, disk, workers, gate) {
+    match Service::<N, D>::over(rt, alloc, fresh, library, workers, gate) {
         Ok(service) => serve_opened(
             rt,
             alloc,

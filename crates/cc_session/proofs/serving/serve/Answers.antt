@@ -14,7 +14,7 @@ returns-in-Ok g c =
     let before = map by c.args.spools.items in
     let after = map by c.serve_begun.result.spools.items in
     record {
-      answers = ends_on D (after ≡ before) (HaveServed before after) c.in-Ok.begun.before.value c.args.disk c.in-Ok.begun.disk
+      answers = ends_on D (after ≡ before) (HaveServed before after) c.in-Ok.begun.before.value c.args.disk c.in-Ok.begun.library.disk
           c.serve_begun.result.disk c.serve_begun.result.end e.before e.sound e.reads c.serve_begun.ensures;
     }
 
