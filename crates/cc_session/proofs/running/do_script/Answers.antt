@@ -19,8 +19,13 @@ pub returns : goal.returns
 returns g c =
     let D = g.D.Disk in
     inl (
-      (g.N.Based.base, c.in-Err.fault, c.refused-number-in-Err.ensures, not_over D g.N.Based.base c.args.begun.library c.in-Err.disk c.in-Err.fault
-          (λ h. g.met.D.Disk.seen_is_image c.args.begun.library.disk h) c.requires.opened c.requires.named c.in-Err.ensures.refused c.in-Err.ensures.back),
+      (
+        g.N.Based.base,
+        c.in-Err.fault,
+        c.refused-number-in-Err.ensures,
+        not_over D g.N.Based.base c.args.begun.library c.in-Err.disk c.in-Err.fault
+            (λ h. g.met.D.Disk.seen_is_image c.args.begun.library.disk h) c.requires.opened c.requires.named c.in-Err.ensures.refused c.in-Err.ensures.back,
+      ),
       λ h. reads_back D c.args.begun.library.disk c.in-Err.disk c.in-Err.ensures.back,
       tt,
     )
