@@ -1,5 +1,5 @@
 -- What was read before a service was opened changes nothing of how it ended.
-use Rattle.std.proofs.Common.{◌≡◌, ◌∙◌, ℕ, List, Bool, true, false, IsTrue, absurd, ap, inl, inr, refl, sym, subst, arith}
+use Rattle.std.proofs.Common.{◌≡◌, ◌∙◌, ℕ, List, Bool, true, false, IsTrue, ap, inl, inr, refl, sym, subst, arith}
 use Rattle.std.specs.Prelude.{◌⊎◌}
 use Rattle.cc_disk.specs.declared.disk.Disk.{Ghosts}
 use Rattle.cc_disk.specs.Images.{OnlyReads}
@@ -17,7 +17,6 @@ use Rattle.cc_service.specs.Fault.{fault_number}
 use Rattle.cc_service.specs.Promise.{IsGivenUp, IsSound}
 use Rattle.cc_service.specs.Since.{IsPast}
 use Rattle.cc_service.specs.Serving.{IsNotOpened, IsNotStarted}
-use Rattle.cc_service.specs.Opened.{IsOpened}
 use Rattle.cc_service.specs.declared.fault.ServiceFault.{ServiceFault}
 use Rattle.cc_service.specs.declared.fault.ServiceFault.TheVariants as service
 use Rattle.cc_session.specs.Session.{EndsSince, IsEnded, IsLeft, IsUnopened, ServiceEnds}
@@ -177,18 +176,17 @@ module _ {Disk : Type 0} (D : Ghosts Disk) where
 
   -- ---- over a library that was opened
 
-  -- its disk's bytes recover to its map
-  pub recovers_base : (base : Units) (library : View Disk) → (IsTrue D.honest → D.may_leave library.disk (D.seen library.disk)) → IsOpened D library → (IsTrue D.honest → library.units ≡ base)
+  -- its disk's bytes recover to the map that is named
+  pub recovers_base : (base : Units) (library : View Disk) → (IsTrue D.honest → Recovers (D.seen library.disk) library.units) → (IsTrue D.honest → library.units ≡ base)
       → IsTrue D.honest → Recovers (D.seen library.disk) base
-  recovers_base base library image opened named h =
-      subst (λ (units : Units). Recovers (D.seen library.disk) units) (named h) (opened.images h (D.seen library.disk) (image h)).recovers
+  recovers_base base library recovers named h = subst (λ (units : Units). Recovers (D.seen library.disk) units) (named h) (recovers h)
 
   -- why there is no service over it, whose disk was handed back
-  pub not_over : (base : Units) (library : View Disk) (after : Disk) (fault : ServiceFault) → (IsTrue D.honest → D.may_leave library.disk (D.seen library.disk)) → IsOpened D library
+  pub not_over : (base : Units) (library : View Disk) (after : Disk) (fault : ServiceFault) → (IsTrue D.honest → Recovers (D.seen library.disk) library.units)
       → (IsTrue D.honest → library.units ≡ base) → IsNotStarted fault → after ≡ library.disk
       → IsNotOpened D.honest (D.seen library.disk) base (D.failures library.disk) (D.failures after) fault
-  not_over base library after fault image opened named not back =
-      not_started D.honest (D.seen library.disk) base (D.failures library.disk) (D.failures after) fault not (ap D.failures back) (recovers_base base library image opened named)
+  not_over base library after fault recovers named not back =
+      not_started D.honest (D.seen library.disk) base (D.failures library.disk) (D.failures after) fault not (ap D.failures back) (recovers_base base library recovers named)
 
   -- a disk that was handed back was not touched
   pub reads_back : (a b : Disk) → b ≡ a → OnlyReads D.seen D.may_leave D.moment D.left_since a b

@@ -40,6 +40,7 @@ pub(crate) struct Begun<D: Disk> {
 // What a service on this disk begins with. The library's map is what the service's type names.
 pub(crate) fn begin<D: Disk + Drop>(alloc: Global, disk: D) -> Result<Begun<D>, (LibraryFault, D)>
     ensures opened { IfOk result (λ b. IsOpened D.Disk b.library) }
+    ensures recovered { IfOk result (λ b. IsTrue D.honest → Recovers (D.seen b.library.disk) b.library.units) }
     ensures sound { IfOk result (λ b. D.failures b.library.disk ≡ D.failures disk) }
     ensures refused { IfErr result (λ e. OpenFaults D.honest (D.seen disk) (D.failures disk) (D.failures e.1) e.0) }
     ensures before { IfOk result (λ b. b.before.value ≡ disk) }
@@ -204,6 +205,7 @@ where
     requires parts { N.parts ≡ 1025 }
     requires queue { begun.fresh.queue ≡ N.queue }
     requires opened { IsOpened D.Disk begun.library }
+    requires recovered { IsTrue D.honest → Recovers (D.seen begun.library.disk) begun.library.units }
     requires named { IsTrue D.honest → begun.library.units ≡ N.base }
     requires past { IsTrue D.honest → IsPast D.Disk N.from N.left begun.library.disk }
     requires some { 1 ≤ workers }

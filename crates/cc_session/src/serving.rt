@@ -344,6 +344,7 @@ where
     requires parts { N.parts ≡ 1025 }
     requires queue { begun.fresh.queue ≡ N.queue }
     requires opened { IsOpened D.Disk begun.library }
+    requires recovered { IsTrue D.honest → Recovers (D.seen begun.library.disk) begun.library.units }
     requires named { IsTrue D.honest → begun.library.units ≡ N.base }
     requires past { IsTrue D.honest → IsPast D.Disk N.from N.left begun.library.disk }
     requires some { 1 ≤ workers }

@@ -1,6 +1,6 @@
 -- What the library's opening says of the disk handed in, said of the one that the library has, whose bytes are the same.
 use Rattle.std.proofs.Common.{List, ℕ, sym, subst}
-use Rattle.cc_journal.specs.Format.{HoldsRecords}
+use Rattle.cc_library.specs.Format.{HoldsRecords}
 use Rattle.cc_session.proofs.Ends.{past_at}
 use Rattle.cc_session.proofs.running.begin.Goals as goal
 
@@ -14,6 +14,12 @@ returns-in-Ok-new-clause-opened g c =
       settled = opening.settled;
       images = opening.kept;
     }
+
+pub returns-in-Ok-new-clause-recovered : goal.returns-in-Ok-new-clause-recovered
+returns-in-Ok-new-clause-recovered g c = λ h.
+    let D = g.D.Disk in
+    let disk = c.in-Ok.library.disk in
+    (c.in-Ok.ensures.kept h (D.seen disk) (g.met.D.Disk.seen_is_image disk h)).recovers
 
 pub returns-in-Ok-new-clause-past : goal.returns-in-Ok-new-clause-past
 returns-in-Ok-new-clause-past g c = λ h.

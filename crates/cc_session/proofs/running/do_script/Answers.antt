@@ -24,7 +24,7 @@ returns g c =
         c.in-Err.fault,
         c.refused-number-in-Err.ensures,
         not_over D g.N.Based.base c.args.begun.library c.in-Err.disk c.in-Err.fault
-            (λ h. g.met.D.Disk.seen_is_image c.args.begun.library.disk h) c.requires.opened c.requires.named c.in-Err.ensures.refused c.in-Err.ensures.back,
+            c.requires.recovered c.requires.named c.in-Err.ensures.refused c.in-Err.ensures.back,
       ),
       λ h. reads_back D c.args.begun.library.disk c.in-Err.disk c.in-Err.ensures.back,
       tt,
@@ -38,5 +38,5 @@ returns-in-Ok-over g c =
       c.play_alone-played.result,
       c.play_alone-played.ensures c.finish.result.1 (g.W.Write.contents c.finish.new.answers) c.finish.ensures.still,
       c.finish.ensures.ended (D.seen c.args.begun.library.disk)
-          (recovers_base D g.N.Based.base c.args.begun.library (λ h. g.met.D.Disk.seen_is_image c.args.begun.library.disk h) c.requires.opened c.requires.named),
+          (recovers_base D g.N.Based.base c.args.begun.library c.requires.recovered c.requires.named),
     )

@@ -28,11 +28,11 @@ returns g c =
     let after = map by left.spools.items in
     unserved_by D N.from N.left (after ≡ before) (HaveServed before after) N.base c.in-Err.fault c.args.begun.library.disk
     c.in-Err.disk left.disk left.end u.disk u.end
-    (not_over D N.base c.args.begun.library c.in-Err.disk c.in-Err.fault (λ h. g.met.D.Disk.seen_is_image c.args.begun.library.disk h) c.requires.opened c.requires.named c.in-Err.ensures.refused c.in-Err.ensures.back)
+    (not_over D N.base c.args.begun.library c.in-Err.disk c.in-Err.fault c.requires.recovered c.requires.named c.in-Err.ensures.refused c.in-Err.ensures.back)
     (λ h. reads_back D c.args.begun.library.disk c.in-Err.disk c.in-Err.ensures.back) (ap (λ v. map by v.items) u.spools)
 
-pub returns-in-Ok : goal.returns-in-Ok
-returns-in-Ok g c =
+pub returns-in-Ok-over : goal.returns-in-Ok-over
+returns-in-Ok-over g c =
     let D = g.D.Disk in
     let library = c.args.begun.library in
-    inr (c.serve_opened.ensures (D.seen library.disk) (recovers_base D g.N.Based.base library (λ h. g.met.D.Disk.seen_is_image library.disk h) c.requires.opened c.requires.named))
+    inr (c.serve_opened.ensures (D.seen library.disk) (recovers_base D g.N.Based.base library c.requires.recovered c.requires.named))
