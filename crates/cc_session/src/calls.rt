@@ -11,6 +11,7 @@ ghost use Rattle.cc_session.specs.internal.Calls.{AuditsName, AuditsNames, Calls
 ghost use Rattle.cc_session.specs.internal.Steps.{IsDone, IsHalted, IsShortOf};
 
 use crate::auditing::audit_found;
+use crate::held::Held;
 use crate::hints::Hints;
 use crate::reading::{Reading, Sent};
 use crate::showing::text_of;
@@ -400,9 +401,11 @@ impl<'a, N: Named + Send + Sync + 'static, H: Wait, D: Disk> Player<'a, N, H, D>
         ensures grows { Grows client.old.member client.new.member }
     {
         let mut line = [0u8; LINE_BYTES];
+        let mut held = Held::new(client);
         // Each line but the last takes a byte at least.
         for lines in 0..=MOST_BYTES {
-            match script.next_line(&mut line, most, lines)? {
+            held.count(client);
+            match script.next_line(&mut line, held.limit(most, lines))? {
                 NextLine::Line(length) => self.obey(
                     client,
                     script,

@@ -1,5 +1,5 @@
 -- The service's type names the ledger and the queue that were made for it, the map that the library was opened with, and what a crash may leave at the beginning.
-use Rattle.cc_session.proofs.serving.serve.Given as goal
+use Rattle.cc_session.proofs.serving.serve_quietly.Given as goal
 
 abbrev pub ghosts-serve_begun-N-Ledger : goal.ghosts-serve_begun-N-Ledger
 ghosts-serve_begun-N-Ledger g a = record { name = a.begun.fresh.ledger; parts = 1025 }

@@ -4,7 +4,7 @@ use Rattle.std.specs.FinMap.{empty}
 use Rattle.cc_service.specs.declared.fault.ServiceFault.TheVariants.{Opening}
 use Rattle.cc_session.specs.Spooling.{HaveServed, given_by}
 use Rattle.cc_session.proofs.Ends.{ends_on, unserved_by}
-use Rattle.cc_session.proofs.serving.serve.Goals as goal
+use Rattle.cc_session.proofs.serving.serve_quietly.Goals as goal
 
 pub returns-in-Ok : goal.returns-in-Ok
 returns-in-Ok g c =
