@@ -10,10 +10,10 @@ use Rattle.cc_script.specs.declared.command.Dialect.{Dialect}
 use Rattle.cc_script.specs.declared.fault.ScriptFault.{ScriptFault}
 use Rattle.cc_script.specs.declared.fault.ScriptFault.TheVariants.{BadLine, EndOfScript, ScriptTooLong, ReadFault, WriteFault}
 use Rattle.cc_script.specs.declared.script.NextLine.TheVariants.{End, Line, TooLong}
-use Rattle.cc_answers.specs.Telling.{Tells, script_fault_text}
+use Rattle.cc_answers.specs.Telling.{script_fault_text}
 use Rattle.cc_history.specs.History.{MemberView}
-use Rattle.cc_session.specs.Playing.{BeginsBad, BeginsLong, EndsInSource, EndsNoSource, Grows, HasUnended, IsBegun, IsCutIn, IsCutShort, IsEnding, IsEndedBy, IsLight, IsPlayed, IsPlayedBy, IsPlayedInPart, IsPlayedUpTo, IsStep, IsStopped, IsStoppedBy, IsTooLong, IsWithin, Obeys, Plays, Talk, Turn, Writes, talk}
-use Rattle.cc_session.specs.internal.Steps.{EndsBehind, IsHalted, IsLimit, IsNoLine, IsNotDone, MayGoOn}
+use Rattle.cc_session.specs.Playing.{BeginsBad, HasUnended, IsBegun, IsCutIn, IsCutShort, IsEnding, IsEndedBy, IsLight, IsPlayed, IsPlayedInPart, IsPlayedUpTo, IsStep, IsStopped, IsStoppedBy, IsTooLong, IsWithin, Obeys, Plays, Talk, Turn, Writes, talk}
+use Rattle.cc_session.specs.internal.Steps.{EndsBehind, IsLimit, IsNoLine, IsNotDone, MayGoOn}
 use Rattle.cc_session.proofs.Playing.{asks_short, between_none, between_on, known, known_both, known_by, known_map, known_then, more_before, obeyed_step, played, played_up_to, plays_on, too_long, too_long_step, unread_before}
 
 -- ---- lines that are done
