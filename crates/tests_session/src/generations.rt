@@ -371,7 +371,7 @@ fn a_disk_that_fails_in_a_later_generation(rt: HostRuntime) -> Result<(), Fail> 
         b"add c 16\nint main(void){}\n".as_slice(),
     ];
     let mut in_second = 0u32;
-    for passes in 6..20 {
+    for passes in 3..14 {
         let spools = one_spool(alloc, scripts.as_slice())?;
         let done = served_until(&rt, alloc, spools, passes, by_scripts(1))?;
         assert!(rt; done.left.end == SessionEnd::Fault(35));

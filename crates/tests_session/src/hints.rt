@@ -115,6 +115,7 @@ fn each_fault_at_each_place(rt: HostRuntime) -> Result<(), Fail> {
 }
 
 /// Gives a byte at a time, as somebody who types.
+#[derive(Drop)]
 struct Typed<'a> {
     bytes: &'a [u8],
 }
@@ -147,6 +148,7 @@ fn a_script_that_is_typed(rt: HostRuntime) -> Result<(), Fail> {
 }
 
 /// Takes some answers, and refuses every write from then on.
+#[derive(Drop)]
 struct Takes {
     left: u8,
     taken: Vec<u8>,
