@@ -122,18 +122,26 @@ def by_server(program, work, texts):
     """What one client of a server answers to scripts that it takes in turn, and what the library lists afterwards."""
     disk, spool = os.path.join(work, "served"), os.path.join(work, "spool")
     subprocess.run(["rm", "-rf", spool, disk], check=True)
-    os.makedirs(os.path.join(spool, "new"), mode=0o700)
+    words = [program, "serve", disk, spool, "--format", str(1 << 16), "--clients", "1", "--workers", "2", "--quiet"]
+    done, stop = os.path.join(spool, "done"), os.path.join(spool, "stop")
+
+    def until(is_so):
+        """Runs the server until this is so; returns its status."""
+        server = subprocess.Popen(words, stdin=subprocess.DEVNULL, stdout=subprocess.DEVNULL, stderr=subprocess.DEVNULL)
+        while server.poll() is None and not is_so():
+            time.sleep(0.01)
+        while server.poll() is None:
+            with open(stop, "wb"):
+                pass
+            time.sleep(0.05)
+        return server.returncode
+
+    # The folder is made first.
+    until(lambda: os.path.isdir(done))
     for number, text in enumerate(texts):
         with open(os.path.join(spool, "new", f"{number:06}"), "wb") as file:
             file.write(text)
-    words = [program, "serve", disk, spool, "--format", str(1 << 16), "--clients", "1", "--workers", "2", "--quiet"]
-    server = subprocess.Popen(words, stdin=subprocess.DEVNULL, stdout=subprocess.DEVNULL, stderr=subprocess.DEVNULL)
-    done = os.path.join(spool, "done")
-    while server.poll() is None and not (os.path.isdir(done) and len(os.listdir(done)) == len(texts)):
-        time.sleep(0.01)
-    with open(os.path.join(spool, "stop"), "wb"):
-        pass
-    status, answers = server.wait(timeout=60), []
+    status, answers = until(lambda: len(os.listdir(done)) == len(texts)), []
     for number in range(len(texts)):
         with open(os.path.join(done, f"{number:06}"), "rb") as file:
             answers.append(file.read())
