@@ -12,6 +12,7 @@ use cc_filing::{
 use cc_session::{BOUNDS, Generation, GenerationEnd, Served, SessionEnd, Steward, serve_on};
 use std::alloc::AllocError;
 use std::io::{self, BufWriter, Print, Write};
+use std::rt::Clock;
 use std::sync::Wait;
 use std::thread::Threads;
 
@@ -78,7 +79,7 @@ fn serve_taken<R, W: Write, E: Write>(
     told: &mut E,
 ) -> Result<u8, AllocError>
 where
-    R: AllocGlobal + Threads + Wait + Copy + Send + Sync + 'static,
+    R: AllocGlobal + Clock + Threads + Wait + Copy + Send + Sync + 'static,
     requires some { 1 ≤ asked.now.workers }
     requires few { asked.now.workers ≤ 8 }
     ensures { IfOk result (λ status. status ≤ 1) }
@@ -133,7 +134,7 @@ pub fn serve_folder<R, E: Write + Drop>(
     errors: E,
 ) -> Result<u8, AllocError>
 where
-    R: AllocGlobal + Print + Threads + Wait + Copy + Send + Sync + 'static,
+    R: AllocGlobal + Clock + Print + Threads + Wait + Copy + Send + Sync + 'static,
     requires some { 1 ≤ asked.now.workers }
     requires few { asked.now.workers ≤ 8 }
     ensures { IfOk result (λ status. status ≤ 1) }
