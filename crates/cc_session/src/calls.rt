@@ -126,13 +126,7 @@ impl<'a, N: Named + Send + Sync + 'static, H: Wait, D: Disk, P: Patience> Player
         ensures { TellsRun self.now.most steps found (W.contents answers.old) (W.contents answers.new) result }
     {
         let image = &found.unit().stored().image;
-        match run_in_slices(
-            self.alloc,
-            image,
-            steps,
-            self.most.is_some(),
-            self.patience,
-        ) {
+        match run_in_slices(self.alloc, image, steps, self.most.is_some(), self.patience) {
             Ok(Some(run)) => tell_run(&run, answers),
             Ok(None) => Err(ScriptFault::Stopped),
             Err(_) => tell_no_memory(answers, explanations),

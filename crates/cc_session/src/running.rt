@@ -133,13 +133,7 @@ where
                 most: None,
                 patience: &Unhurried,
             };
-            let played = player.play(
-                &mut client,
-                script,
-                Dialect::Plain,
-                answers,
-                explanations,
-            );
+            let played = player.play(&mut client, script, Dialect::Plain, answers, explanations);
             clients.push_reserved(client);
             ended(played)
         }

@@ -79,11 +79,7 @@ where
 
 // The last line is done, an empty script has none, and a line that can't be done is one too.
 static LINES: [Case; 4] = [
-    (
-        "list\nlist\nlist\n",
-        "ok 1\nfault 61 Stopped\n",
-        Some(61),
-    ),
+    ("list\nlist\nlist\n", "ok 1\nfault 61 Stopped\n", Some(61)),
     ("list\n", "ok 2\n", None),
     ("", "", None),
     (
@@ -127,7 +123,11 @@ static RUNS: [Case; 7] = [
     ("run a 25000000\n", "going\n", None),
     ("run b 25000000\n", "exited 0\n", None),
     ("run c 250000000\n", "-1127226208\nexited 7\n", None),
-    ("run a 10000001\nlist\n", "going\nunit a\nunit b\nunit c\nok 8\n", None),
+    (
+        "run a 10000001\nlist\n",
+        "going\nunit a\nunit b\nunit c\nok 8\n",
+        None,
+    ),
 ];
 
 // Where others wait: behind 10,000,000 instructions a run is cut that is not at its end. Its unit was fetched, and nothing is written of it.
