@@ -47,11 +47,7 @@ impl<'a, S: Spool> Patience for Others<'a, S> {
 }
 
 // What a machine has written and come to behind so many instructions more.
-fn run_to_end(
-    alloc: Global,
-    machine: &mut Machine,
-    steps: u64,
-) -> Result<ImageRun, AllocError>
+fn run_to_end(alloc: Global, machine: &mut Machine, steps: u64) -> Result<ImageRun, AllocError>
     ensures { IfOk result (λ run. (image : Image) (done : ℕ) → IsAfter image [] done machine.old → IsRunOf image (done + steps) [] run) }
 {
     let Ok(outcome) = machine.run(steps) else {
