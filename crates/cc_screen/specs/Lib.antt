@@ -1,2 +1,2 @@
--- What a terminal is shown of the bytes that are printed.
-pub mod Shown
+-- What only private contracts speak of.
+pub mod internal
