@@ -1,6 +1,6 @@
 -- Each line is a step; where the script stopped, its client is as they left it, and perhaps the call whose answer could not be written.
 use Rattle.std.proofs.Common.{rules, ◌<◌, refl}
-use Rattle.cc_session.specs.Playing.{Grows, talk}
+use Rattle.cc_session.specs.Playing.{talk}
 use Rattle.cc_session.proofs.Growing.{grows_on, grows_same}
 use Rattle.cc_session.proofs.Lines.{IsHaltedBy, begins, line_follows, line_on, lines_end, no_line_ends, obey_ends, script_ends, skip_ends, skip_on}
 use Rattle.cc_session.proofs.calls.Player.play_lines.Goals.{in-Line+in_ok-obey-in-Line, in-TooLong+in_ok-refuse_and_skip-in-TooLong}
