@@ -1,5 +1,5 @@
 -- A `run` that was cut, or that was done to its end.
-use Rattle.std.proofs.Common.{◌≡◌, List, [], ℕ, Option, Some, None, Result, Ok, Err, refl, sym, subst, inl, inr}
+use Rattle.std.proofs.Common.{◌≡◌, List, [], ℕ, Option, Some, None, Result, Ok, Err, refl, sym, subst, inr}
 use Rattle.std.specs.Prelude.{◌⊎◌}
 use Rattle.std.specs.Io.KnownBytes.{append_known}
 use Rattle.cc_answers.specs.Telling.{Tells}
@@ -11,7 +11,7 @@ use Rattle.cc_history.specs.declared.entry.Receipt.{Receipt}
 use Rattle.cc_history.specs.History.{MemberView}
 use Rattle.cc_service.specs.Serving.{GetAnswers}
 use Rattle.cc_service.specs.declared.fault.ServiceFault.{ServiceFault}
-use Rattle.cc_session.specs.Playing.{CallsAndWrites, CutsLine, Grows, Obeys, Talk, talk}
+use Rattle.cc_session.specs.Playing.{CutsLine, Grows, Obeys, Talk, talk}
 use Rattle.cc_session.specs.Telling.{SaysRun, no_memory_text, refusal_text}
 use Rattle.cc_session.specs.internal.Calls.{RunsAndTells, RunsNot, TellsRun, TellsRunNot}
 use Rattle.cc_session.specs.internal.Steps.{IsObeyed, IsObeyedNot}

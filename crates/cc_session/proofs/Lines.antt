@@ -12,8 +12,8 @@ use Rattle.cc_script.specs.declared.fault.ScriptFault.TheVariants.{BadLine, EndO
 use Rattle.cc_script.specs.declared.script.NextLine.TheVariants.{End, Line, TooLong}
 use Rattle.cc_answers.specs.Telling.{script_fault_text}
 use Rattle.cc_history.specs.History.{MemberView}
-use Rattle.cc_session.specs.Playing.{BeginsBad, BeginsLong, CutsLine, CutsNext, EndsInSource, EndsNoSource, Grows, HasUnended, IsBegun, IsBounded, IsCutIn, IsCutShort, IsEnding, IsEndedBy, IsLight, IsPlayed, IsPlayedBy, IsPlayedInPart, IsPlayedTill, IsPlayedUpTo, IsStep, IsStopped, IsStoppedBy, IsTooLong, IsWithin, Obeys, Plays, Talk, Turn, Writes, asked_by_line, talk}
-use Rattle.cc_session.specs.internal.Steps.{EndsBehind, IsHalted, IsLimit, IsNoLine, IsNotDone, IsObeyedNot, MayGoOn}
+use Rattle.cc_session.specs.Playing.{BeginsBad, CutsLine, CutsNext, HasUnended, IsBegun, IsBounded, IsCutIn, IsCutShort, IsEnding, IsEndedBy, IsLight, IsPlayed, IsPlayedInPart, IsPlayedTill, IsPlayedUpTo, IsStep, IsStopped, IsStoppedBy, IsTooLong, IsWithin, Obeys, Plays, Talk, Turn, Writes, asked_by_line, talk}
+use Rattle.cc_session.specs.internal.Steps.{EndsBehind, IsLimit, IsNoLine, IsNotDone, IsObeyedNot, MayGoOn}
 use Rattle.cc_session.proofs.Cutting.{cut_obeyed}
 use Rattle.cc_session.proofs.Playing.{asks_short, between_none, between_on, known, known_both, known_by, known_map, known_then, more_before, obeyed_step, played, played_up_to, plays_on, too_long, too_long_step, unread_before}
 

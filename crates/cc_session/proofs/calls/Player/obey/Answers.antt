@@ -1,7 +1,7 @@
 -- Each line is what it asks for.
 use Rattle.std.proofs.Common.{[], None, Some, refl}
 use Rattle.cc_answers.specs.Telling.{script_fault_text}
-use Rattle.cc_script.specs.Line.{Add, Replace, Withdraw, Names, Run, Compact, Audit, Image, Source, asked_of}
+use Rattle.cc_script.specs.Line.{Add, Replace, Withdraw, Names, Compact, Audit, Image, Source, asked_of}
 use Rattle.cc_script.specs.declared.fault.ScriptFault.TheVariants.{BadLine}
 use Rattle.cc_task.specs.declared.part.Part.TheVariants as part
 use Rattle.cc_service.specs.Serving.{GetAnswers, ListAnswers, WithdrawAnswers}
