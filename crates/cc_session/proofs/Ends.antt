@@ -1,11 +1,11 @@
 -- What was read before a service was opened changes nothing of how it ended.
-use Rattle.std.proofs.Common.{◌≡◌, ◌∙◌, ℕ, List, Bool, true, false, IsTrue, inl, inr, refl, sym, subst, arith}
+use Rattle.std.proofs.Common.{◌≡◌, ◌∙◌, ℕ, List, Bool, true, false, IsTrue, ap, inl, inr, refl, sym, subst, arith}
 use Rattle.std.specs.Prelude.{◌⊎◌}
 use Rattle.cc_disk.specs.declared.disk.Disk.{Ghosts}
 use Rattle.cc_disk.specs.Images.{OnlyReads}
 use Rattle.cc_library.specs.Answers.{OpenFaults}
 use Rattle.cc_library.specs.Apply.{Units}
-use Rattle.cc_library.specs.Recovered.{Recovers}
+use Rattle.cc_library.specs.Recovered.{Recovers, View}
 use Rattle.cc_library.specs.declared.fault.LibraryFault.{LibraryFault}
 use Rattle.cc_library.specs.declared.fault.LibraryFault.TheVariants as library
 use Rattle.cc_library.specs.Format.{HasHeader}
@@ -16,7 +16,7 @@ use Rattle.cc_service.specs.Book.{BookView}
 use Rattle.cc_service.specs.Fault.{fault_number}
 use Rattle.cc_service.specs.Promise.{IsGivenUp, IsSound}
 use Rattle.cc_service.specs.Since.{IsPast}
-use Rattle.cc_service.specs.Serving.{IsNotOpened}
+use Rattle.cc_service.specs.Serving.{IsNotOpened, IsNotStarted}
 use Rattle.cc_service.specs.declared.fault.ServiceFault.{ServiceFault}
 use Rattle.cc_service.specs.declared.fault.ServiceFault.TheVariants as service
 use Rattle.cc_session.specs.Session.{EndsSince, IsEnded, IsLeft, IsUnopened, ServiceEnds}
@@ -52,6 +52,19 @@ not_opened_on honest seen later base before after (service.Text f) same it = it
 not_opened_on honest seen later base before after (service.Piece function f) same it = it
 not_opened_on honest seen later base before after service.ImageTooLarge same it = it
 not_opened_on honest seen later base before after (service.Book f) same it = it
+
+-- its workers were not started
+pub not_started : (honest : Bool) (seen : List ℕ) (base : Units) (before after : ℕ) (fault : ServiceFault) → IsNotStarted fault → after ≡ before → (IsTrue honest → Recovers seen base)
+    → IsNotOpened honest seen base before after fault
+not_started honest seen base before after service.WorkersGone not same recovers = (same, recovers)
+not_started honest seen base before after service.OutOfMemory not same recovers = (same, recovers)
+not_started honest seen base before after (service.Opening f) not same recovers = absurd not
+not_started honest seen base before after service.TooManyClients not same recovers = not
+not_started honest seen base before after service.BadName not same recovers = not
+not_started honest seen base before after (service.Text f) not same recovers = not
+not_started honest seen base before after (service.Piece function f) not same recovers = not
+not_started honest seen base before after service.ImageTooLarge not same recovers = not
+not_started honest seen base before after (service.Book f) not same recovers = not
 
 -- so a session that was not opened
 pub unopened_on : (honest : Bool) (seen later : List ℕ) (before after : ℕ) (end : SessionEnd) → (IsTrue honest → later ≡ seen)
@@ -160,3 +173,21 @@ module _ {Disk : Type 0} (D : Ghosts Disk) where
   past_at first a b only is reads =
       subst (λ (d : Disk). IsPast D (D.moment d) (D.may_leave d) b) (sym is)
       (record { past = reads.later; all = λ image since. only image (reads.moments (D.moment a) image (omega arith) since) })
+
+  -- ---- over a library that was opened
+
+  -- its disk's bytes recover to the map that is named
+  pub recovers_base : (base : Units) (library : View Disk) → (IsTrue D.honest → Recovers (D.seen library.disk) library.units) → (IsTrue D.honest → library.units ≡ base)
+      → IsTrue D.honest → Recovers (D.seen library.disk) base
+  recovers_base base library recovers named h = subst (λ (units : Units). Recovers (D.seen library.disk) units) (named h) (recovers h)
+
+  -- why there is no service over it, whose disk was handed back
+  pub not_over : (base : Units) (library : View Disk) (after : Disk) (fault : ServiceFault) → (IsTrue D.honest → Recovers (D.seen library.disk) library.units)
+      → (IsTrue D.honest → library.units ≡ base) → IsNotStarted fault → after ≡ library.disk
+      → IsNotOpened D.honest (D.seen library.disk) base (D.failures library.disk) (D.failures after) fault
+  not_over base library after fault recovers named not back =
+      not_started D.honest (D.seen library.disk) base (D.failures library.disk) (D.failures after) fault not (ap D.failures back) (recovers_base base library recovers named)
+
+  -- a disk that was handed back was not touched
+  pub reads_back : (a b : Disk) → b ≡ a → OnlyReads D.seen D.may_leave D.moment D.left_since a b
+  reads_back a b back = subst (λ (d : Disk). OnlyReads D.seen D.may_leave D.moment D.left_since a d) (sym back) (reads_none a)

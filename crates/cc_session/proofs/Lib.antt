@@ -9,3 +9,4 @@ pub mod Playing
 pub mod Putting
 pub mod Sharing
 pub mod Spooling
+pub mod Weighing

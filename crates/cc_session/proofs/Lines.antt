@@ -10,10 +10,10 @@ use Rattle.cc_script.specs.declared.command.Dialect.{Dialect}
 use Rattle.cc_script.specs.declared.fault.ScriptFault.{ScriptFault}
 use Rattle.cc_script.specs.declared.fault.ScriptFault.TheVariants.{BadLine, EndOfScript, ScriptTooLong, ReadFault, WriteFault}
 use Rattle.cc_script.specs.declared.script.NextLine.TheVariants.{End, Line, TooLong}
-use Rattle.cc_answers.specs.Telling.{Tells, script_fault_text}
+use Rattle.cc_answers.specs.Telling.{script_fault_text}
 use Rattle.cc_history.specs.History.{MemberView}
-use Rattle.cc_session.specs.Playing.{BeginsBad, BeginsLong, EndsInSource, EndsNoSource, Grows, HasUnended, IsBegun, IsCutShort, IsEnding, IsEndedBy, IsPlayed, IsPlayedBy, IsPlayedInPart, IsPlayedUpTo, IsStep, IsStopped, IsStoppedBy, IsTooLong, IsWithin, Obeys, Plays, Talk, Turn, Writes, talk}
-use Rattle.cc_session.specs.internal.Steps.{IsHalted, IsNoLine, IsNotDone}
+use Rattle.cc_session.specs.Playing.{BeginsBad, HasUnended, IsBegun, IsCutIn, IsCutShort, IsEnding, IsEndedBy, IsLight, IsPlayed, IsPlayedInPart, IsPlayedUpTo, IsStep, IsStopped, IsStoppedBy, IsTooLong, IsWithin, Obeys, Plays, Talk, Turn, Writes, talk}
+use Rattle.cc_session.specs.internal.Steps.{EndsBehind, IsLimit, IsNoLine, IsNotDone, MayGoOn}
 use Rattle.cc_session.proofs.Playing.{asks_short, between_none, between_on, known, known_both, known_by, known_map, known_then, more_before, obeyed_step, played, played_up_to, plays_on, too_long, too_long_step, unread_before}
 
 -- ---- lines that are done
@@ -24,7 +24,7 @@ pub record Played (dialect : Dialect) (most : Option ℕ) (count : ℕ) (start n
   pub few : IsWithin most count
   pub turns : List Turn
   pub many : length turns ≡ count
-  pub plays : Plays dialect b start turns a now
+  pub plays : Plays dialect (IsLight most start.client) b start turns a now
 
 within_none : (most : Option ℕ) → IsWithin most 0
 within_none None = tt
@@ -66,7 +66,7 @@ line_takes before line after some is = elim is.ends [
 ]
 
 -- one step more
-pub step_on : (dialect : Dialect) (most : Option ℕ) (x y z : Ahead) (count : ℕ) (start old new : Talk) → most ≢ Some count → Between x y (Played dialect most count start old) → Between y z (Steps dialect old new)
+pub step_on : (dialect : Dialect) (most : Option ℕ) (x y z : Ahead) (count : ℕ) (start old new : Talk) → MayGoOn most start.client count old.client → Between x y (Played dialect most count start old) → Between y z (Steps dialect old new)
     → Between x z (Played dialect most (count + 1) start new)
 step_on dialect most x y z count start old new more one two =
     between_on x y z (Played dialect most count start old) (Steps dialect old new) (Played dialect most (count + 1) start new) one two
@@ -75,17 +75,17 @@ step_on dialect most x y z count start old new more one two =
     let both = length-append it.turns (turn ∷ []) in
     record {
       takes = omega (arith, it.takes, step.0);
-      few = within_more most count it.few more;
+      few = within_more most count it.few more.0;
       turns = it.turns ++ turn ∷ [];
       many = omega (arith, both, it.many);
-      plays = plays_on dialect b start it.turns m old a new it.plays step.1;
+      plays = plays_on dialect (IsLight most start.client) b start it.turns m old a new it.plays more.1 step.1;
     })
 
 short : (n : ℕ) (line : List ℕ) → n ≤ 128 → length (take n line) ≤ 128
 short n line few = let most = length-take n line in omega (arith, most, few)
 
 -- a line is obeyed
-pub line_on : (dialect : Dialect) (most : Option ℕ) (x y m z : Ahead) (count : ℕ) (start old new : Talk) (n : ℕ) (line : List ℕ) → n ≤ 128 → most ≢ Some count → Between x y (Played dialect most count start old)
+pub line_on : (dialect : Dialect) (most : Option ℕ) (x y m z : Ahead) (count : ℕ) (start old new : Talk) (n : ℕ) (line : List ℕ) → n ≤ 128 → MayGoOn most start.client count old.client → Between x y (Played dialect most count start old)
     → Between y m (λ b a. IsNext b (Line n) line a) → Between m z (λ b a. Obeys (asked_of dialect (take n line)) b a old new) → Between x z (Played dialect most (count + 1) start new)
 line_on dialect most x y m z count start old new n line few more one next obeyed =
     step_on dialect most x y z count start old new more one
@@ -95,7 +95,7 @@ line_on dialect most x y m z count start old new n line few more one next obeyed
     (omega (arith, less, second), obeyed_step dialect b k a (take n line) old new (short n line few) is.1 does)))
 
 -- a line that is too long is skipped
-pub skip_on : (dialect : Dialect) (most : Option ℕ) (x y m z : Ahead) (count : ℕ) (start old new : Talk) (line : List ℕ) → most ≢ Some count → Between x y (Played dialect most count start old)
+pub skip_on : (dialect : Dialect) (most : Option ℕ) (x y m z : Ahead) (count : ℕ) (start old new : Talk) (line : List ℕ) → MayGoOn most start.client count old.client → Between x y (Played dialect most count start old)
     → Between y m (λ b a. IsNext b TooLong line a) → Between m z (λ b a. (rest : List ℕ) × IsLine b rest a) → Writes (script_fault_text BadLine) old new
     → Between x z (Played dialect most (count + 1) start new)
 skip_on dialect most x y m z count start old new line more one next skipped wrote =
@@ -116,11 +116,11 @@ script_ends dialect most x y z count start now line one next =
     (λ b m it none. played dialect most b start it.turns m now (few_of dialect most count start now b m it) it.plays none)
 
 -- why it stopped after the lines so far: of what is left, whether a line of it was begun, and `Stops`
-abbrev Halts : (dialect : Dialect) (most : Option ℕ) (count : ℕ) (now last : Talk) (Stops : List ℕ → ℕ → List ℕ → Type 0) (rest : List ℕ) → Type 0
-Halts dialect most count now last Stops rest = IsBegun (BeginsBad dialect rest) now last × ((script : List ℕ) → IsWithin most count → Stops script count rest)
+abbrev pub Halts : (dialect : Dialect) (most : Option ℕ) (count : ℕ) (now last : Talk) (Stops : List ℕ → ℕ → List ℕ → MemberView → Type 0) (rest : List ℕ) → Type 0
+Halts dialect most count now last Stops rest = IsBegun (BeginsBad dialect rest) now last × ((script : List ℕ) → IsWithin most count → Stops script count rest now.client)
 
 -- it stopped after the lines so far
-up_to : (dialect : Dialect) (most : Option ℕ) (x y : Ahead) (count : ℕ) (start now last : Talk) (Stops : List ℕ → ℕ → List ℕ → Type 0) → Between x y (Played dialect most count start now)
+up_to : (dialect : Dialect) (most : Option ℕ) (x y : Ahead) (count : ℕ) (start now last : Talk) (Stops : List ℕ → ℕ → List ℕ → MemberView → Type 0) → Between x y (Played dialect most count start now)
     → IfSome y.rest (Halts dialect most count now last Stops) → IfSome x.rest (λ b. IsPlayedUpTo dialect most b (Stops b) start last)
 up_to dialect most x y count start now last Stops one stops =
     known_then x y (Played dialect most count start now) (Halts dialect most count now last Stops) (λ b. IsPlayedUpTo dialect most b (Stops b) start last) one stops
@@ -131,31 +131,31 @@ up_to dialect most x y count start now last Stops one stops =
       between = now;
       plays = it.plays;
       begun = why.0;
-      stops = subst (λ (n : ℕ). Stops b n m) (sym it.many) (why.1 b it.few);
+      stops = subst (λ (n : ℕ). Stops b n m now.client) (sym it.many) (why.1 b it.few);
     })
 
 anywhere : (dialect : Dialect) (most : Option ℕ) (x y : Ahead) (count : ℕ) (start now last : Talk) → Between x y (Played dialect most count start now)
-    → IfSome y.rest (λ rest. IsBegun (BeginsBad dialect rest) now last) → IfSome x.rest (λ b. IsPlayedUpTo dialect most b (λ lines rest. Unit {0}) start last)
+    → IfSome y.rest (λ rest. IsBegun (BeginsBad dialect rest) now last) → IfSome x.rest (λ b. IsPlayedUpTo dialect most b (λ lines rest client. Unit {0}) start last)
 anywhere dialect most x y count start now last one begun =
-    up_to dialect most x y count start now last (λ script lines rest. Unit {0}) one
-    (known_map y.rest (λ rest. IsBegun (BeginsBad dialect rest) now last) (Halts dialect most count now last (λ script lines rest. Unit {0})) begun (λ rest it. (it, λ script few. tt)))
+    up_to dialect most x y count start now last (λ script lines rest client. Unit {0}) one
+    (known_map y.rest (λ rest. IsBegun (BeginsBad dialect rest) now last) (Halts dialect most count now last (λ script lines rest client. Unit {0})) begun (λ rest it. (it, λ script few. tt)))
 
 -- nothing of the next line was done
 unbegun : (dialect : Dialect) (o : Option (List ℕ)) (now : Talk) → IfSome o (λ rest. IsBegun (BeginsBad dialect rest) now now)
 unbegun dialect o now = known o (λ rest. IsBegun (BeginsBad dialect rest) now now) (λ rest. inl refl)
 
 -- for it has more bytes than it may have
-by_bytes : (most : Option ℕ) (script : List ℕ) (lines : ℕ) (rest : List ℕ) → 16777216 < length script → IsTooLong most script lines rest
-by_bytes None script lines rest long = long
-by_bytes (Some most) script lines rest long = inl long
+by_bytes : (most : Option ℕ) (script : List ℕ) (first : MemberView) (lines : ℕ) (rest : List ℕ) (now : MemberView) → 16777216 < length script → IsTooLong most script first lines rest now
+by_bytes None script first lines rest now long = long
+by_bytes (Some most) script first lines rest now long = inl long
 
 too_long_there : (dialect : Dialect) (most : Option ℕ) (x y : Ahead) (count : ℕ) (start now last : Talk) → x.left ≡ 16777216 → Between x y (Played dialect most count start now) → HasMore y
-    → IfSome y.rest (λ rest. IsBegun (BeginsBad dialect rest) now last) → IfSome x.rest (λ b. IsPlayedUpTo dialect most b (IsTooLong most b) start last)
+    → IfSome y.rest (λ rest. IsBegun (BeginsBad dialect rest) now last) → IfSome x.rest (λ b. IsPlayedUpTo dialect most b (IsTooLong most b start.client) start last)
 too_long_there dialect most x y count start now last whole one more begun =
     let long = too_long x whole (more_before x y (Played dialect most count start now) one more) in
     let there = anywhere dialect most x y count start now last one begun in
-    known_map x.rest (λ b. (16777216 < length b) × IsPlayedUpTo dialect most b (λ lines rest. Unit {0}) start last) (λ b. IsPlayedUpTo dialect most b (IsTooLong most b) start last)
-    (known_both x.rest (λ b. 16777216 < length b) (λ b. IsPlayedUpTo dialect most b (λ lines rest. Unit {0}) start last) long there)
+    known_map x.rest (λ b. (16777216 < length b) × IsPlayedUpTo dialect most b (λ lines rest client. Unit {0}) start last) (λ b. IsPlayedUpTo dialect most b (IsTooLong most b start.client) start last)
+    (known_both x.rest (λ b. 16777216 < length b) (λ b. IsPlayedUpTo dialect most b (λ lines rest client. Unit {0}) start last) long there)
     (λ b it. record {
       turns = it.1.turns;
       few = it.1.few;
@@ -163,12 +163,13 @@ too_long_there dialect most x y count start now last whole one more begun =
       between = it.1.between;
       plays = it.1.plays;
       begun = it.1.begun;
-      stops = by_bytes most b (length it.1.turns) it.1.rest it.0;
+      stops = by_bytes most b start.client (length it.1.turns) it.1.rest it.1.between.client it.0;
     })
 
--- for as many lines are done as may be
-at_bound : (most : Option ℕ) (script : List ℕ) (lines : ℕ) (rest : List ℕ) → most ≡ Some lines → rest ≢ [] → IsTooLong most script lines rest
-at_bound most script lines rest is some = subst (λ (o : Option ℕ). IsTooLong o script lines rest) (sym is) (inr (refl, some))
+-- for as many lines are done as may be, or the receipts hold too much
+at_bound : (most : Option ℕ) (script : List ℕ) (first : MemberView) (lines : ℕ) (rest : List ℕ) (now : MemberView) → EndsBehind most first lines now ScriptTooLong → rest ≢ []
+    → IsTooLong most script first lines rest now
+at_bound most script first lines rest now bound some = subst (λ (o : Option ℕ). IsTooLong o script first lines rest now) (sym bound.1) (inr (some, bound.2))
 
 -- a fault ended it
 abbrev pub IsHaltedBy : Dialect → (most : Option ℕ) → (script : Option (List ℕ)) (first last : Talk) → ScriptFault → Type 0
@@ -183,18 +184,31 @@ unread_ends dialect most x y count start now last left ScriptTooLong whole one b
 unread_ends dialect most x y count start now last left ReadFault whole one begun why = (tt, anywhere dialect most x y count start now last one begun)
 unread_ends dialect most x y count start now last left WriteFault whole one begun why = absurd why
 
--- none came, for that reason, or since as many are done as may be
-pub no_line_ends : (dialect : Dialect) (most : Option ℕ) (x y : Ahead) (count : ℕ) (start now : Talk) (left : ℕ) (fault : ScriptFault) → x.left ≡ 16777216 → Between x y (Played dialect most count start now)
-    → IsNoLine most count y left fault → IsHaltedBy dialect most x.rest start now fault
-no_line_ends dialect most x y count start now left fault whole one (inl why) =
+-- more of it is left, which is to be ended so
+limit_ends : (dialect : Dialect) (most : Option ℕ) (x y : Ahead) (count : ℕ) (start now : Talk) (fault : ScriptFault) → Between x y (Played dialect most count start now)
+    → EndsBehind most start.client count now.client fault → IfSome y.rest (λ b. b ≢ []) → IsHaltedBy dialect most x.rest start now fault
+limit_ends dialect most x y count start now BadLine one bound some = absurd bound
+limit_ends dialect most x y count start now EndOfScript one bound some = absurd bound
+limit_ends dialect most x y count start now ScriptTooLong one bound some = (
+  tt,
+  up_to dialect most x y count start now now (λ b. IsTooLong most b start.client) one
+      (known_map y.rest (λ b. b ≢ []) (Halts dialect most count now now (λ b. IsTooLong most b start.client)) some
+      (λ b left. (inl refl, λ script few. at_bound most script start.client count b now.client bound left))),
+)
+limit_ends dialect most x y count start now ReadFault one bound some = absurd bound
+limit_ends dialect most x y count start now WriteFault one bound some = absurd bound
+
+-- none came, for that reason, or since it can't be read
+pub no_line_ends : (dialect : Dialect) (most : Option ℕ) (x y : Ahead) (count : ℕ) (start now : Talk) (left : ℕ) (limit : Option ScriptFault) (fault : ScriptFault) → x.left ≡ 16777216
+    → Between x y (Played dialect most count start now) → IsLimit most start.client count now.client limit → IsNoLine limit y left fault → IsHaltedBy dialect most x.rest start now fault
+no_line_ends dialect most x y count start now left limit fault whole one bound (inl why) =
     unread_ends dialect most x y count start now now left fault whole one (unbegun dialect y.rest now) why
-no_line_ends dialect most x y count start now left fault whole one (inr (is, bound, some)) =
-    subst (λ (f : ScriptFault). IsHaltedBy dialect most x.rest start now f) (sym is) (
-      tt,
-      up_to dialect most x y count start now now (IsTooLong most) one
-          (known_map y.rest (λ b. b ≢ []) (Halts dialect most count now now (IsTooLong most)) some
-          (λ b left. (inl refl, λ script few. at_bound most script count b bound left))),
-    )
+no_line_ends dialect most x y count start now left limit fault whole one bound (inr (is, some)) =
+    limit_ends dialect most x y count start now fault one (subst (λ (o : Option ScriptFault). IsLimit most start.client count now.client o) is bound) some
+
+-- one came, so it may be done
+pub line_follows : (most : Option ℕ) (first : MemberView) (lines : ℕ) (now : MemberView) (limit : Option ScriptFault) → IsLimit most first lines now limit → limit ≡ None → MayGoOn most first lines now
+line_follows most first lines now limit bound none = subst (λ (o : Option ScriptFault). IsLimit most first lines now o) none bound
 
 -- a line that is too long was refused, which could not be written; or it could not be skipped
 pub skip_ends : (dialect : Dialect) (most : Option ℕ) (x y m : Ahead) (count : ℕ) (start old new : Talk) (line : List ℕ) (left : ℕ) (fault : ScriptFault) → x.left ≡ 16777216 → new.client ≡ old.client
@@ -228,18 +242,19 @@ bad_line dialect y m old new n line few next (inr (bad, wrote)) =
     ))
 
 -- a line that was not obeyed, or whose answer could not be written
-pub line_ends : (dialect : Dialect) (most : Option ℕ) (x y m : Ahead) (count : ℕ) (start old new : Talk) (n : ℕ) (line : List ℕ) (fault : ScriptFault) → n ≤ 128 → most ≢ Some count → x.left ≡ 16777216
+pub line_ends : (dialect : Dialect) (most : Option ℕ) (x y m : Ahead) (count : ℕ) (start old new : Talk) (n : ℕ) (line : List ℕ) (fault : ScriptFault) → n ≤ 128 → MayGoOn most start.client count old.client → x.left ≡ 16777216
     → Between x y (Played dialect most count start old) → Between y m (λ b a. IsNext b (Line n) line a)
     → IsNotDone (λ b a o w. Obeys (asked_of dialect (take n line)) b a o w) (λ rest. IsCutShort (asked_of dialect (take n line)) rest) (λ rest. HasUnended (asked_of dialect (take n line)) rest) m old new fault
     → IsHaltedBy dialect most x.rest start new fault
 line_ends dialect most x y m count start old new n line BadLine few more whole one next ended = absurd ended
 line_ends dialect most x y m count start old new n line EndOfScript few more whole one next ended =
     let stops = known_then y m (λ b a. IsNext b (Line n) line a) (λ rest. IsCutShort (asked_of dialect (take n line)) rest)
-    (Halts dialect most count old old (λ script lines rest. IsWithin most (lines + 1) × EndsInSource dialect rest))
+    (Halts dialect most count old old (λ script. IsCutIn dialect most start.client))
     next ended.1 (λ b k is cut. (
       inl refl,
       λ script within. (
-        within_more most count within more,
+        within_more most count within more.0,
+        more.1,
         record {
           line = take n line;
           rest = k;
@@ -249,8 +264,8 @@ line_ends dialect most x y m count start old new n line EndOfScript few more who
       ),
     )) in (
       tt,
-      subst (λ (h : Talk). IfSome x.rest (λ b. IsPlayedUpTo dialect most b (λ lines rest. IsWithin most (lines + 1) × EndsInSource dialect rest) start h)) (sym ended.0)
-          (up_to dialect most x y count start old old (λ script lines rest. IsWithin most (lines + 1) × EndsInSource dialect rest) one stops),
+      subst (λ (h : Talk). IfSome x.rest (λ b. IsPlayedUpTo dialect most b (IsCutIn dialect most start.client) start h)) (sym ended.0)
+          (up_to dialect most x y count start old old (λ script. IsCutIn dialect most start.client) one stops),
     )
 line_ends dialect most x y m count start old new n line ScriptTooLong few more whole one next ended = (
   tt,
@@ -270,7 +285,7 @@ line_ends dialect most x y m count start old new n line WriteFault few more whol
           (λ b. IsPlayedInPart dialect most b start new) one last
           (λ b k it how. played_up_to dialect most b start it.turns k old new (few_of dialect most count start old b k it) it.plays (elim how [
             | inl same ↦ inl same
-            | inr step ↦ inr (subst (λ (l : ℕ). IsWithin most (l + 1)) (sym it.many) (within_more most count it.few more), step.0, step.1, step.2)
+            | inr step ↦ inr (subst (λ (l : ℕ). IsWithin most (l + 1)) (sym it.many) (within_more most count it.few more.0), more.1, step.0, step.1, step.2)
           ])),
     )
 
@@ -279,7 +294,7 @@ pub lines_end : (dialect : Dialect) (most : Option ℕ) (x y : Ahead) (count : �
     → IsHaltedBy dialect most x.rest start now ScriptTooLong
 lines_end dialect most x y count start now many one = (
   tt,
-  known_by x y (Played dialect most count start now) (λ b. IsPlayedUpTo dialect most b (IsTooLong most b) start now) one
+  known_by x y (Played dialect most count start now) (λ b. IsPlayedUpTo dialect most b (IsTooLong most b start.client) start now) one
       (λ b a it. record {
         turns = it.turns;
         few = few_of dialect most count start now b a it;
@@ -287,7 +302,7 @@ lines_end dialect most x y count start now many one = (
         between = now;
         plays = it.plays;
         begun = inl refl;
-        stops = by_bytes most b (length it.turns) a (omega (arith, many, it.takes));
+        stops = by_bytes most b start.client (length it.turns) a now.client (omega (arith, many, it.takes));
       }),
 )
 
@@ -297,7 +312,7 @@ client_of : (Bad : Type 0) (old new : Talk) → IsBegun Bad old new → new.clie
 client_of Bad old new (inl same) = ap (λ (t : Talk). t.client) same
 client_of Bad old new (inr (bad, wrote)) = wrote.0
 
-part_of : (dialect : Dialect) (most : Option ℕ) (script : List ℕ) (Stops : ℕ → List ℕ → Type 0) (old between new : Talk) → new.client ≡ between.client
+part_of : (dialect : Dialect) (most : Option ℕ) (script : List ℕ) (Stops : ℕ → List ℕ → MemberView → Type 0) (old between new : Talk) → new.client ≡ between.client
     → IsPlayedUpTo dialect most script Stops old between → IsPlayedInPart dialect most script old new
 part_of dialect most script Stops old between new same it =
     played_up_to dialect most script old it.turns it.rest it.between new it.few it.plays (inl (same ∙ client_of (BeginsBad dialect it.rest) it.between between it.begun))
@@ -307,15 +322,15 @@ in_part_of : (dialect : Dialect) (most : Option ℕ) (script : List ℕ) (old be
 in_part_of dialect most script old between new same it =
     played_up_to dialect most script old it.turns it.rest it.between new it.few it.plays (elim it.then_is [
       | inl as_it_was ↦ inl (same ∙ as_it_was)
-      | inr (few, after, written, step) ↦ inr (few, after, written, subst (λ (c : MemberView). IsStep dialect it.rest after it.between (talk c written)) (sym same) step)
+      | inr (few, light, after, written, step) ↦ inr (few, light, after, written, subst (λ (c : MemberView). IsStep dialect it.rest after it.between (talk c written)) (sym same) step)
     ])
 
 in_part : (dialect : Dialect) (most : Option ℕ) (fault : ScriptFault) (script : List ℕ) (old between new : Talk) → new.client ≡ between.client → IsStoppedBy dialect most fault script old between
     → IsPlayedInPart dialect most script old new
 in_part dialect most BadLine script old between new same it = absurd it
-in_part dialect most EndOfScript script old between new same it = part_of dialect most script (λ lines rest. IsWithin most (lines + 1) × EndsInSource dialect rest) old between new same it
-in_part dialect most ScriptTooLong script old between new same it = part_of dialect most script (IsTooLong most script) old between new same it
-in_part dialect most ReadFault script old between new same it = part_of dialect most script (λ lines rest. Unit {0}) old between new same it
+in_part dialect most EndOfScript script old between new same it = part_of dialect most script (IsCutIn dialect most old.client) old between new same it
+in_part dialect most ScriptTooLong script old between new same it = part_of dialect most script (IsTooLong most script old.client) old between new same it
+in_part dialect most ReadFault script old between new same it = part_of dialect most script (λ lines rest client. Unit {0}) old between new same it
 in_part dialect most WriteFault script old between new same it = in_part_of dialect most script old between new same it
 
 -- the script was done as far as the fault says, and then the fault's line was written

@@ -1,11 +1,10 @@
 -- What a line asks for is what was called and written.
 use Rattle.std.proofs.Common.{◌≡◌, List, ℕ, Option, Result, Ok, Err, refl, subst}
-use Rattle.std.specs.Io.KnownBytes.{Appends, append_known}
-use Rattle.cc_answers.specs.Telling.{Tells, script_fault_text}
+use Rattle.std.specs.Io.KnownBytes.{append_known}
+use Rattle.cc_answers.specs.Telling.{Tells}
 use Rattle.cc_script.specs.Line.{ScriptRequest}
 use Rattle.cc_script.specs.Reading.{Ahead}
 use Rattle.cc_script.specs.declared.fault.ScriptFault.{ScriptFault}
-use Rattle.cc_script.specs.declared.fault.ScriptFault.TheVariants.{BadLine}
 use Rattle.cc_history.specs.declared.entry.Receipt.{Receipt}
 use Rattle.cc_history.specs.History.{MemberView}
 use Rattle.cc_service.specs.declared.fault.ServiceFault.{ServiceFault}

@@ -14,7 +14,8 @@ use Rattle.cc_script.specs.declared.fault.ScriptFault.TheVariants.{BadLine, EndO
 use Rattle.cc_script.specs.declared.script.NextLine.{NextLine}
 use Rattle.cc_script.specs.declared.script.NextLine.TheVariants.{End, Line, TooLong}
 use Rattle.cc_answers.specs.Telling.{Tells, script_fault_text}
-use Rattle.cc_session.specs.Playing.{IsBegun, IsPlayed, IsPlayedInPart, IsStep, IsUnended, IsWithin, Obeys, Plays, Talk, Turn, Writes, asked_by_line, talk}
+use Rattle.cc_history.specs.History.{MemberView}
+use Rattle.cc_session.specs.Playing.{IsBegun, IsLight, IsPlayed, IsPlayedInPart, IsStep, IsWithin, Obeys, Plays, Talk, Turn, Writes, asked_by_line, talk}
 use Rattle.cc_session.specs.internal.Calls.{DoesAndTells}
 use Rattle.cc_session.specs.internal.Steps.{HasSent, IsDone, IsNotDone, IsSentAs, IsShortOf}
 use Rattle.cc_session.specs.declared.reading.Sent.{Sent}
@@ -208,22 +209,32 @@ obeyed_step dialect before between after line old new short is obeyed = record {
 -- ---- scripts
 
 -- one step more
-pub plays_on : (dialect : Dialect) (before : List ℕ) (old : Talk) (turns : List Turn) (between : List ℕ) (now : Talk) (after : List ℕ) (new : Talk)
-    → Plays dialect before old turns between now → IsStep dialect between after now new → Plays dialect before old (turns ++ (record { rest = after; talk = new }) ∷ []) after new
-plays_on dialect before old [] between now after new it step =
-    (subst (λ (l : List ℕ). IsStep dialect l after old new) it.0 (subst (λ (h : Talk). IsStep dialect between after h new) it.1 step), (refl, refl))
-plays_on dialect before old (turn ∷ turns) between now after new it step = (it.0, plays_on dialect turn.rest turn.talk turns between now after new it.1 step)
+pub plays_on : (dialect : Dialect) (MayBegin : MemberView → Type 0) (before : List ℕ) (old : Talk) (turns : List Turn) (between : List ℕ) (now : Talk) (after : List ℕ) (new : Talk)
+    → Plays dialect MayBegin before old turns between now → MayBegin now.client → IsStep dialect between after now new
+    → Plays dialect MayBegin before old (turns ++ (record { rest = after; talk = new }) ∷ []) after new
+plays_on dialect MayBegin before old [] between now after new it may step = (
+  subst (λ (h : Talk). MayBegin h.client) it.1 may,
+  subst (λ (l : List ℕ). IsStep dialect l after old new) it.0 (subst (λ (h : Talk). IsStep dialect between after h new) it.1 step),
+  (refl, refl),
+)
+plays_on dialect MayBegin before old (turn ∷ turns) between now after new it may step =
+    (it.0, it.1, plays_on dialect MayBegin turn.rest turn.talk turns between now after new it.2 may step)
 
 -- the whole script
 pub played : (dialect : Dialect) (most : Option ℕ) (script : List ℕ) (first : Talk) (turns : List Turn) (rest : List ℕ) (last : Talk) → IsWithin most (length turns)
-    → Plays dialect script first turns rest last → rest ≡ [] → IsPlayed dialect most script first last
+    → Plays dialect (IsLight most first.client) script first turns rest last → rest ≡ [] → IsPlayed dialect most script first last
 played dialect most script first turns rest last few plays over =
-    record { turns = turns; few = few; plays = subst (λ (l : List ℕ). Plays dialect script first turns l last) over plays }
+    record { turns = turns; few = few; plays = subst (λ (l : List ℕ). Plays dialect (IsLight most first.client) script first turns l last) over plays }
+
+-- the next step, whose answer could not be written
+abbrev pub NextIs : Dialect → (most : Option ℕ) (first : MemberView) (lines : ℕ) (rest : List ℕ) (between : Talk) (last : MemberView) → Type 0
+NextIs dialect most first lines rest between last =
+    (last ≡ between.client)
+    ⊎ (IsWithin most (lines + 1) × IsLight most first between.client × (after : List ℕ) × (written : Option (List ℕ)) × IsStep dialect rest after between (talk last written))
 
 -- a prefix of it, and perhaps the next step
 pub played_up_to : (dialect : Dialect) (most : Option ℕ) (script : List ℕ) (first : Talk) (turns : List Turn) (rest : List ℕ) (between last : Talk) → IsWithin most (length turns)
-    → Plays dialect script first turns rest between
-    → (last.client ≡ between.client) ⊎ (IsWithin most (length turns + 1) × (after : List ℕ) × (written : Option (List ℕ)) × IsStep dialect rest after between (talk last.client written))
+    → Plays dialect (IsLight most first.client) script first turns rest between → NextIs dialect most first.client (length turns) rest between last.client
     → IsPlayedInPart dialect most script first last
 played_up_to dialect most script first turns rest between last few plays it = record { turns = turns; few = few; rest = rest; between = between; plays = plays; then_is = it }
 

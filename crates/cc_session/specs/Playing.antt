@@ -1,5 +1,5 @@
 -- What a script is to the client that does it: line by line a call of the service, what its answer makes of the client, and what is written of it.
-use Rattle.std.specs.Prelude.{◌≡◌, ◌≢◌, ◌⊎◌, ◌+◌, ◌<◌, ◌≤◌, ℕ, Bool, true, false, List, [], ◌∷◌, ◌++◌, All, length, take, nat_le, if◌then◌else◌, Option, Some, None, IfSome, Result, Ok, Err, codes}
+use Rattle.std.specs.Prelude.{◌≡◌, ◌≢◌, ◌⊎◌, ◌+◌, ◌<◌, ◌≤◌, ℕ, Bool, true, false, List, [], ◌∷◌, ◌++◌, All, drop, length, take, nat_le, if◌then◌else◌, Option, Some, None, IfSome, Result, Ok, Err, codes}
 use Rattle.std.specs.Io.KnownBytes.{Appends}
 use Rattle.cc_script.specs.Line.{ScriptRequest, Add, Replace, Withdraw, Names, Run, Compact, Audit, Image, Source, asked_of}
 use Rattle.cc_script.specs.Reading.{IsLine}
@@ -12,6 +12,7 @@ use Rattle.cc_task.specs.declared.part.Part.TheVariants as part
 use Rattle.cc_history.specs.declared.command.Command.{Command}
 use Rattle.cc_history.specs.declared.entry.Receipt.{Receipt}
 use Rattle.cc_history.specs.declared.reply.Reply.TheVariants as reply
+use Rattle.cc_history.specs.Held.{receipts_bytes}
 use Rattle.cc_history.specs.History.{MemberView}
 use Rattle.cc_service.specs.Serving.{Adds, Replaces, GetAnswers, ListAnswers, PutAnswers, WithdrawAnswers}
 use Rattle.cc_service.specs.declared.fault.ServiceFault.{ServiceFault}
@@ -110,21 +111,32 @@ pub record Turn : Type 0 where
   pub rest : List ℕ
   pub talk : Talk
 
--- line by line, from what is left and the client before. So the writer holds the lines of the turns in their order, and no other byte.
-abbrev pub Plays : Dialect → (before : List ℕ) (old : Talk) → List Turn → (after : List ℕ) (new : Talk) → Type 0
-Plays dialect before old [] after new = (after ≡ before) × (new ≡ old)
-Plays dialect before old (turn ∷ turns) after new = IsStep dialect before turn.rest old turn.talk × Plays dialect turn.rest turn.talk turns after new
+-- Line by line, from what is left and the client before, each of which may begin a line. So the writer holds the lines of the turns in their order, and no
+-- other byte.
+abbrev pub Plays : Dialect → (MayBegin : MemberView → Type 0) → (before : List ℕ) (old : Talk) → List Turn → (after : List ℕ) (new : Talk) → Type 0
+Plays dialect MayBegin before old [] after new = (after ≡ before) × (new ≡ old)
+Plays dialect MayBegin before old (turn ∷ turns) after new =
+    MayBegin old.client × IsStep dialect before turn.rest old turn.talk × Plays dialect MayBegin turn.rest turn.talk turns after new
 
 -- no more lines than the bound, if there is one
 abbrev pub IsWithin : (most : Option ℕ) (lines : ℕ) → Type 0
 IsWithin None lines = Unit {0}
 IsWithin (Some most) lines = lines ≤ most
 
+-- the bytes that a client's receipts are counted to hold which it got since then
+abbrev pub held_since : (first now : MemberView) → ℕ
+held_since first now = receipts_bytes (drop (length first.receipts) now.receipts)
+
+-- If there is a bound on the lines, there is one on these bytes too, from the script's beginning: 256 MiB. A line may be begun while there are no more.
+abbrev pub IsLight : (most : Option ℕ) (first now : MemberView) → Type 0
+IsLight None first now = Unit {0}
+IsLight (Some most) first now = held_since first now ≤ 268435456
+
 -- the whole script is done
 pub record IsPlayed (dialect : Dialect) (most : Option ℕ) (script : List ℕ) (first last : Talk) : Type 0 where
   pub turns : List Turn
   pub few : IsWithin most (length turns)
-  pub plays : Plays dialect script first turns [] last
+  pub plays : Plays dialect (IsLight most first.client) script first turns [] last
 
 -- A prefix of it is done. The client at the end is as these steps left it, or as the next one would, whose answer could not be written (of an audit:
 -- as an audit that had no memory at that point). What the writer holds is not known.
@@ -133,10 +145,11 @@ pub record IsPlayedInPart (dialect : Dialect) (most : Option ℕ) (script : List
   pub few : IsWithin most (length turns)
   pub rest : List ℕ
   pub between : Talk
-  pub plays : Plays dialect script first turns rest between
+  pub plays : Plays dialect (IsLight most first.client) script first turns rest between
   pub then_is :
       (last.client ≡ between.client)
-      ⊎ (IsWithin most (length turns + 1) × (after : List ℕ) × (written : Option (List ℕ)) × IsStep dialect rest after between (talk last.client written))
+      ⊎ (IsWithin most (length turns + 1) × IsLight most first.client between.client × (after : List ℕ) × (written : Option (List ℕ))
+      × IsStep dialect rest after between (talk last.client written))
 
 -- ---- scripts that a fault ends
 
@@ -182,21 +195,26 @@ BeginsBad dialect before = BeginsLong before ⊎ EndsNoSource dialect before
 abbrev pub IsBegun : (IsBad : Type 0) → (old new : Talk) → Type 0
 IsBegun IsBad old new = (new ≡ old) ⊎ (IsBad × Writes (script_fault_text BadLine) old new)
 
--- Why 52: the script has more bytes than it may have; or, if there is a bound on its lines, so many are done, and more of it is left.
-abbrev pub IsTooLong : (most : Option ℕ) (script : List ℕ) (lines : ℕ) (rest : List ℕ) → Type 0
-IsTooLong None script lines rest = 16777216 < length script
-IsTooLong (Some most) script lines rest = (16777216 < length script) ⊎ ((lines ≡ most) × (rest ≢ []))
+-- Why 52: the script has more bytes than it may have; or, if there is a bound on its lines, more of it is left, and so many are done, or the receipts that
+-- the client got for them hold more than 256 MiB.
+abbrev pub IsTooLong : (most : Option ℕ) (script : List ℕ) (first : MemberView) (lines : ℕ) (rest : List ℕ) (now : MemberView) → Type 0
+IsTooLong None script first lines rest now = 16777216 < length script
+IsTooLong (Some most) script first lines rest now = (16777216 < length script) ⊎ ((rest ≢ []) × ((lines ≡ most) ⊎ (268435456 < held_since first now)))
 
 -- A prefix of the script is done and nothing of what comes after it, but that 50 may be written of a line that was not read to its end. `Stops` holds of
--- the number of lines done and of what is left.
-pub record IsPlayedUpTo (dialect : Dialect) (most : Option ℕ) (script : List ℕ) (Stops : (lines : ℕ) (rest : List ℕ) → Type 0) (first last : Talk) : Type 0 where
+-- the number of lines done, of what is left, and of the client then.
+pub record IsPlayedUpTo (dialect : Dialect) (most : Option ℕ) (script : List ℕ) (Stops : (lines : ℕ) (rest : List ℕ) (now : MemberView) → Type 0) (first last : Talk) : Type 0 where
   pub turns : List Turn
   pub few : IsWithin most (length turns)
   pub rest : List ℕ
   pub between : Talk
-  pub plays : Plays dialect script first turns rest between
+  pub plays : Plays dialect (IsLight most first.client) script first turns rest between
   pub begun : IsBegun (BeginsBad dialect rest) between last
-  pub stops : Stops (length turns) rest
+  pub stops : Stops (length turns) rest between.client
+
+-- the next line may be begun, and the script ends within its source
+abbrev pub IsCutIn : Dialect → (most : Option ℕ) (first : MemberView) (lines : ℕ) (rest : List ℕ) (now : MemberView) → Type 0
+IsCutIn dialect most first lines rest now = IsWithin most (lines + 1) × IsLight most first now × EndsInSource dialect rest
 
 -- the faults that end a script: 51 to 54
 abbrev pub IsEnding : ScriptFault → Type 0
@@ -207,9 +225,9 @@ IsEnding fault = Unit {0}
 -- its reader and its writer alone.
 abbrev pub IsStoppedBy : Dialect → (most : Option ℕ) → ScriptFault → (script : List ℕ) (first last : Talk) → Type 0
 IsStoppedBy dialect most BadLine script first last = ⊥
-IsStoppedBy dialect most EndOfScript script first last = IsPlayedUpTo dialect most script (λ lines rest. IsWithin most (lines + 1) × EndsInSource dialect rest) first last
-IsStoppedBy dialect most ScriptTooLong script first last = IsPlayedUpTo dialect most script (IsTooLong most script) first last
-IsStoppedBy dialect most ReadFault script first last = IsPlayedUpTo dialect most script (λ lines rest. Unit {0}) first last
+IsStoppedBy dialect most EndOfScript script first last = IsPlayedUpTo dialect most script (IsCutIn dialect most first.client) first last
+IsStoppedBy dialect most ScriptTooLong script first last = IsPlayedUpTo dialect most script (IsTooLong most script first.client) first last
+IsStoppedBy dialect most ReadFault script first last = IsPlayedUpTo dialect most script (λ lines rest client. Unit {0}) first last
 IsStoppedBy dialect most WriteFault script first last = IsPlayedInPart dialect most script first last
 
 -- so, and then the fault's line was written; 54 has none

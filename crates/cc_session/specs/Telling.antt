@@ -1,5 +1,5 @@
 -- What is written of what a service answered, byte for byte.
-use Rattle.std.specs.Prelude.{◌≡◌, ◌⊎◌, ℕ, Bool, true, false, List, [], Option, Result, Ok, Err, codes}
+use Rattle.std.specs.Prelude.{◌≡◌, ◌⊎◌, ℕ, Bool, true, false, List, [], Result, Ok, Err, codes}
 use Rattle.cc_link.specs.Text.{text_fault_place}
 use Rattle.cc_link.specs.declared.audit_answer.Audit.{Audit}
 use Rattle.cc_library.specs.unit.StoredUnit.{StoredUnit}

@@ -26,7 +26,8 @@ const MOST_LINES: usize = 65_536;
 /// The script comes from `reader`; each answer goes to `writer`, which is flushed after it: at the end it holds the lines of the script's turns
 /// in their order, and no other byte. What helps a person with a fault goes to `explanations`; if such a write fails the script goes on.
 /// `dialect` says which lines it may have. If there is a bound on its lines, `most`, so many are done at most, and 52 ends a script that has
-/// more: at 0 every script that has a byte. A line counts with the source after it, whatever is answered.
+/// more: at 0 every script that has a byte. A line counts with the source after it, whatever is answered. 52 also ends such a script behind the
+/// line with which the receipts that the client got for it hold more than 256 MiB (`held_since` of `Client`), if it has more.
 pub fn play<N, H, R: Read, W: Write, E: Write, D>(
     rt: &H,
     alloc: Global,
@@ -128,8 +129,8 @@ where
 }
 
 /// Does the scripts of a spool one after another, by one client of a service, until the spool says that no more is to be taken, or the
-/// meter is full that all clients of the service share. Of each 65,536 lines are done at most; of one that has more the answer ends in the line
-/// of 52.
+/// meter is full that all clients of the service share. Of each 65,536 lines are done at most, and none behind those whose receipts hold more
+/// than 256 MiB; of one that has more the answer ends in the line of 52.
 ///
 /// A fault that ends a script, 51 to 54, ends it alone: its answer is handed over with the fault's number, and the next is taken. The line
 /// of the fault is the answer's last, but of 54 there is none: what becomes of an answer that can't be written is the spool's matter.

@@ -11,6 +11,8 @@ ghost use Rattle.cc_session.specs.internal.Calls.{AuditsName, AuditsNames, Calls
 ghost use Rattle.cc_session.specs.internal.Steps.{IsDone, IsHalted, IsShortOf};
 
 use crate::auditing::audit_found;
+use crate::held::Held;
+use crate::hints::Hints;
 use crate::reading::{Reading, Sent};
 use crate::showing::text_of;
 use crate::telling::{refuse, tell_change, tell_done};
@@ -18,11 +20,12 @@ use cc_answers::{
     run_image, tell_audit, tell_fault, tell_names, tell_no_memory, tell_ok, tell_run, tell_text,
 };
 use cc_disk::Disk;
+use cc_history::Receipt;
 use cc_library::Name;
 use cc_script::{
     Dialect, LINE_BYTES, MOST_BYTES, NextLine, ScriptCommand, ScriptFault, command_of,
 };
-use cc_service::{Client, Found, Named, Put, Service};
+use cc_service::{Client, Found, Named, Put, Service, ServiceFault};
 use cc_task::Part;
 use std::alloc::Global;
 use std::io::{Read, Write};
@@ -37,10 +40,51 @@ pub(crate) struct Player<'a, N: Named, H, D: Disk> {
 }
 
 impl<'a, N: Named + Send + Sync + 'static, H: Wait, D: Disk> Player<'a, N, H, D> {
-    // Adds or replaces a unit, whose source this is.
-    fn change<W: Write, E: Write>(
+    // Puts a unit whose source this is, read up to here, and hands those of the next commands to the workers while it waits. If memory was refused, or a
+    // worker is gone, no hint stays, and it is tried once more.
+    fn put_source<R: Read>(
         &self,
         client: &mut Client<N>,
+        script: &Reading<R>,
+        hints: &mut Hints<N>,
+        put: Put,
+        name: &[u8],
+        source: &[u8],
+    ) -> Result<Receipt, ServiceFault>
+        ensures { PutAnswers (Puts put name.now source.now) name.now source.now client.old.member client.new.member result }
+    {
+        let (rt, alloc, service) = (self.rt, self.alloc, self.service);
+        let prepared = match hints.take(script.position(), source) {
+            Some(prepared) => Ok(prepared),
+            None => service.prepare(rt, alloc, client, source),
+        };
+        let refused = match prepared {
+            Ok(prepared) => {
+                if !service.is_busy() {
+                    hints.look_ahead(rt, alloc, service, client, script.position(), script.held());
+                }
+                service.put_prepared(rt, alloc, client, put, name, prepared)
+            }
+            Err(fault) => {
+                drop(fault);
+                return service.put(rt, alloc, client, put, name, source);
+            }
+        };
+        match refused {
+            Err(ServiceFault::OutOfMemory) | Err(ServiceFault::WorkersGone) => {
+                hints.forget();
+                service.put(rt, alloc, client, put, name, source)
+            }
+            answer => answer,
+        }
+    }
+
+    // Adds or replaces a unit, whose source this is.
+    fn change<R: Read, W: Write, E: Write>(
+        &self,
+        client: &mut Client<N>,
+        script: &Reading<R>,
+        hints: &mut Hints<N>,
         put: Put,
         name: &[u8],
         source: &[u8],
@@ -50,9 +94,7 @@ impl<'a, N: Named + Send + Sync + 'static, H: Wait, D: Disk> Player<'a, N, H, D>
         ensures { CallsAndTells (PutAnswers (Puts put name.now source.now) name.now source.now) (SaysChange source.now)
             (talk client.old.member (W.contents answers.old)) (talk client.new.member (W.contents answers.new)) result }
     {
-        let answer = self
-            .service
-            .put(self.rt, self.alloc, client, put, name, source);
+        let answer = self.put_source(client, script, hints, put, name, source);
         tell_change(self.alloc, answer, source, answers, explanations)
     }
 
@@ -61,6 +103,7 @@ impl<'a, N: Named + Send + Sync + 'static, H: Wait, D: Disk> Player<'a, N, H, D>
         &self,
         client: &mut Client<N>,
         script: &mut Reading<R>,
+        hints: &mut Hints<N>,
         put: Put,
         name: &[u8],
         length: usize,
@@ -73,7 +116,17 @@ impl<'a, N: Named + Send + Sync + 'static, H: Wait, D: Disk> Player<'a, N, H, D>
     {
         match script.source(self.alloc, length)? {
             Sent::Source(source) => {
-                self.change(client, put, name, source.as_slice(), answers, explanations)
+                let source = source.as_slice();
+                self.change(
+                    client,
+                    script,
+                    hints,
+                    put,
+                    name,
+                    source,
+                    answers,
+                    explanations,
+                )
             }
             Sent::NoRoom => tell_no_memory(answers, explanations),
             Sent::Unended => script.refuse_and_skip(answers, explanations),
@@ -277,6 +330,7 @@ impl<'a, N: Named + Send + Sync + 'static, H: Wait, D: Disk> Player<'a, N, H, D>
         &self,
         client: &mut Client<N>,
         script: &mut Reading<R>,
+        hints: &mut Hints<N>,
         dialect: Dialect,
         line: &[u8],
         answers: &mut W,
@@ -292,6 +346,7 @@ impl<'a, N: Named + Send + Sync + 'static, H: Wait, D: Disk> Player<'a, N, H, D>
                 self.put(
                     client,
                     script,
+                    hints,
                     Put::Add,
                     name,
                     length,
@@ -303,6 +358,7 @@ impl<'a, N: Named + Send + Sync + 'static, H: Wait, D: Disk> Player<'a, N, H, D>
                 self.put(
                     client,
                     script,
+                    hints,
                     Put::Replace,
                     name,
                     length,
@@ -334,6 +390,7 @@ impl<'a, N: Named + Send + Sync + 'static, H: Wait, D: Disk> Player<'a, N, H, D>
         &self,
         client: &mut Client<N>,
         script: &mut Reading<R>,
+        hints: &mut Hints<N>,
         dialect: Dialect,
         most: Option<usize>,
         answers: &mut W,
@@ -344,12 +401,15 @@ impl<'a, N: Named + Send + Sync + 'static, H: Wait, D: Disk> Player<'a, N, H, D>
         ensures grows { Grows client.old.member client.new.member }
     {
         let mut line = [0u8; LINE_BYTES];
+        let mut held = Held::new(client);
         // Each line but the last takes a byte at least.
         for lines in 0..=MOST_BYTES {
-            match script.next_line(&mut line, most, lines)? {
+            held.count(client);
+            match script.next_line(&mut line, held.limit(most, lines))? {
                 NextLine::Line(length) => self.obey(
                     client,
                     script,
+                    hints,
                     dialect,
                     &line[..length],
                     answers,
@@ -376,7 +436,18 @@ impl<'a, N: Named + Send + Sync + 'static, H: Wait, D: Disk> Player<'a, N, H, D>
         ensures played { IsPlayedBy dialect most script.old.rest (talk client.old.member (W.contents answers.old)) (talk client.new.member (W.contents answers.new)) result }
         ensures grows { Grows client.old.member client.new.member }
     {
-        match self.play_lines(client, script, dialect, most, answers, explanations) {
+        let mut hints = Hints::new(self.alloc);
+        let played = self.play_lines(
+            client,
+            script,
+            &mut hints,
+            dialect,
+            most,
+            answers,
+            explanations,
+        );
+        drop(hints);
+        match played {
             Ok(()) => Ok(()),
             Err(fault) => match tell_fault(fault, answers, explanations) {
                 Ok(()) => Err(fault),

@@ -8,7 +8,7 @@ ghost use Rattle.cc_script.specs.declared.fault.ScriptFault.TheVariants.{BadLine
 ghost use Rattle.cc_session.specs.internal.Steps.{HasSent, IsNoLine, IsSentAs, MayFollow};
 
 use cc_answers::tell_fault;
-use cc_script::{LINE_BYTES, NextLine, Script, ScriptFault};
+use cc_script::{LINE_BYTES, MOST_BYTES, NextLine, Script, ScriptFault};
 use std::alloc::Global;
 use std::io::{Read, Write};
 use std::marker::Model;
@@ -62,29 +62,35 @@ impl<R: Read> Reading<R> {
         }
     }
 
-    // The script's next line, behind so many that are done; 52 where these are all that may be, and one more comes.
+    // How many bytes of it were handed out.
+    pub(crate) fn position(&self) -> usize {
+        MOST_BYTES.saturating_sub(self.script.left())
+    }
+
+    // What was read of it and not handed out yet.
+    pub(crate) fn held(&self) -> &[u8] {
+        self.script.held()
+    }
+
+    // The script's next line; where one comes, and there is a limit, that fault.
     #[tactic(auto, using(crate::proofs::Playing::some_left))]
     pub(crate) fn next_line(
         &mut self,
         line: &mut [u8; LINE_BYTES],
-        most: Option<usize>,
-        lines: usize,
+        limit: Option<ScriptFault>,
     ) -> Result<NextLine, ScriptFault>
         ensures within { IfOk result IsWithinLine }
-        ensures few { IfOk result (MayFollow most lines) }
-        ensures refused { IfErr result (IsNoLine most lines self.old self.new.left) }
+        ensures few { IfOk result (MayFollow limit) }
+        ensures refused { IfErr result (IsNoLine limit self.old self.new.left) }
         ensures bytes { IfOk result (λ next. Between self.old self.new (λ before after. IsNext before next line.new after)) }
     {
         let next = self.script.next_line(&mut self.reader, line)?;
         match next {
             NextLine::End => Ok(next),
-            NextLine::Line(_) | NextLine::TooLong => {
-                if most == Some(lines) {
-                    Err(ScriptFault::ScriptTooLong)
-                } else {
-                    Ok(next)
-                }
-            }
+            NextLine::Line(_) | NextLine::TooLong => match limit {
+                Some(fault) => Err(fault),
+                None => Ok(next),
+            },
         }
     }
 

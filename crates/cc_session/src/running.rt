@@ -6,6 +6,7 @@ ghost use Rattle.cc_disk.specs.Images.{OnlyReads};
 ghost use Rattle.cc_library.specs.Answers.{OpenFaults};
 ghost use Rattle.cc_library.specs.Apply.{Units};
 ghost use Rattle.cc_library.specs.Recovered.{Recovers};
+ghost use Rattle.cc_service.specs.Opened.{IsOpened};
 ghost use Rattle.cc_service.specs.Since.{IsPast};
 ghost use Rattle.cc_service.specs.Client.{members};
 ghost use Rattle.cc_session.specs.Session.{EndsSince, HaveCalled, IsEnded, SessionEnds};
@@ -18,7 +19,7 @@ use crate::reading::Reading;
 use crate::telling::{refused, tell_estranged};
 use cc_answers::tell_no_memory;
 use cc_disk::Disk;
-use cc_library::{Library, LibraryFault, UnitMap};
+use cc_library::{Library, LibraryFault};
 use cc_script::{Dialect, ScriptFault};
 use cc_service::{Client, Closed, Fresh, Gate, Named, NoGate, Service, ServiceFault};
 use std::alloc::Global;
@@ -28,23 +29,23 @@ use std::snapshot::Snapshot;
 use std::sync::Wait;
 use std::thread::Threads;
 
-// What a service begins with: its disk, which is known as it was before, the map that it recovers to, and what no type names yet.
+// What a service begins with: the library as its opening left it, whose disk is known as it was before, and what no type names yet.
 #[derive(Drop)]
 pub(crate) struct Begun<D: Disk> {
-    pub(crate) disk: D,
+    pub(crate) library: Library<D>,
     pub(crate) before: Snapshot<D>,
-    pub(crate) base: Snapshot<UnitMap>,
     pub(crate) fresh: Fresh,
 }
 
-// What a service on this disk begins with. The library is opened to learn what the disk recovers to, which a service's type names.
+// What a service on this disk begins with. The library's map is what the service's type names.
 pub(crate) fn begin<D: Disk + Drop>(alloc: Global, disk: D) -> Result<Begun<D>, (LibraryFault, D)>
-    ensures base { IfOk result (λ b. IsTrue D.honest → (units : Units) → Recovers (D.seen b.disk) units → units ≡ b.base.value) }
-    ensures sound { IfOk result (λ b. D.failures b.disk ≡ D.failures disk) }
+    ensures opened { IfOk result (λ b. IsOpened D.Disk b.library) }
+    ensures recovered { IfOk result (λ b. IsTrue D.honest → Recovers (D.seen b.library.disk) b.library.units) }
+    ensures sound { IfOk result (λ b. D.failures b.library.disk ≡ D.failures disk) }
     ensures refused { IfErr result (λ e. OpenFaults D.honest (D.seen disk) (D.failures disk) (D.failures e.1) e.0) }
     ensures before { IfOk result (λ b. b.before.value ≡ disk) }
-    ensures reads { IfOk result (λ b. IsTrue D.honest → OnlyReads D.seen D.may_leave D.moment D.left_since disk b.disk) }
-    ensures past { IfOk result (λ b. IsTrue D.honest → IsPast D.Disk (D.moment b.before.value) (D.may_leave b.before.value) b.disk) }
+    ensures reads { IfOk result (λ b. IsTrue D.honest → OnlyReads D.seen D.may_leave D.moment D.left_since disk b.library.disk) }
+    ensures past { IfOk result (λ b. IsTrue D.honest → IsPast D.Disk (D.moment b.before.value) (D.may_leave b.before.value) b.library.disk) }
     ensures reads_refused { IfErr result (λ e. IsTrue D.honest → OnlyReads D.seen D.may_leave D.moment D.left_since disk e.1) }
 {
     let before = Snapshot::of(&disk);
@@ -52,16 +53,13 @@ pub(crate) fn begin<D: Disk + Drop>(alloc: Global, disk: D) -> Result<Begun<D>, 
         Ok(library) => library,
         Err(refused) => return Err(refused),
     };
-    let base = Snapshot::of(library.units());
-    let disk = library.into_disk();
     match Fresh::new(alloc) {
         Ok(fresh) => Ok(Begun {
-            disk,
+            library,
             before,
-            base,
             fresh,
         }),
-        Err(_) => Err((LibraryFault::OutOfMemory, disk)),
+        Err(_) => Err((LibraryFault::OutOfMemory, library.into_disk())),
     }
 }
 
@@ -206,26 +204,27 @@ where
     requires ledger { begun.fresh.ledger ≡ N.name }
     requires parts { N.parts ≡ 1025 }
     requires queue { begun.fresh.queue ≡ N.queue }
-    requires named { IsTrue D.honest → (units : Units) → Recovers (D.seen begun.disk) units → units ≡ N.base }
-    requires past { IsTrue D.honest → IsPast D.Disk N.from N.left begun.disk }
+    requires opened { IsOpened D.Disk begun.library }
+    requires recovered { IsTrue D.honest → Recovers (D.seen begun.library.disk) begun.library.units }
+    requires named { IsTrue D.honest → begun.library.units ≡ N.base }
+    requires past { IsTrue D.honest → IsPast D.Disk N.from N.left begun.library.disk }
     requires some { 1 ≤ workers }
     requires few { workers ≤ 8 }
     requires fresh { script.old.left ≡ 16777216 }
-    ensures { EndsSince D.Disk N.from N.left (Unit {0}) (HaveCalled script.old.rest (W.contents answers.old) (W.contents answers.new) result.1) begun.disk result.0 result.1 }
+    ensures { EndsSince D.Disk N.from N.left (Unit {0}) (HaveCalled script.old.rest (W.contents answers.old) (W.contents answers.new) result.1) begun.library.disk result.0 result.1 }
 {
     let Begun {
-        disk,
+        library,
         before: _,
-        base: _,
         fresh,
     } = begun;
     let Ok(mut clients) = Vec::with_capacity(alloc, 1) else {
         drop(fresh);
         let fault = ServiceFault::Opening(LibraryFault::OutOfMemory);
         let number = refused(alloc, fault, answers, explanations);
-        return (disk, SessionEnd::Fault(number));
+        return (library.into_disk(), SessionEnd::Fault(number));
     };
-    match Service::<N, D>::open(rt, alloc, fresh, disk, workers, gate) {
+    match Service::<N, D>::over(rt, alloc, fresh, library, workers, gate) {
         Ok(service) => {
             let played = play_alone(
                 rt,

@@ -9,10 +9,11 @@ ghost use Rattle.cc_library.specs.Apply.{Units};
 ghost use Rattle.cc_library.specs.Recovered.{Recovers};
 ghost use Rattle.cc_service.specs.Client.{members};
 ghost use Rattle.cc_service.specs.Fault.{fault_number};
+ghost use Rattle.cc_service.specs.Opened.{IsOpened};
 ghost use Rattle.cc_service.specs.Since.{IsPast};
 ghost use Rattle.cc_service.specs.declared.fault.ServiceFault.TheVariants.{TooManyClients};
 ghost use Rattle.cc_session.specs.Session.{EndsSince, HasEnded};
-ghost use Rattle.cc_session.specs.declared.end.SessionEnd.TheVariants.{Fault};
+ghost use Rattle.cc_session.specs.declared.end.SessionEnd.TheVariants.{Fault, Finished};
 ghost use Rattle.cc_session.specs.Spooling.{HasDone, HaveServed, ServingEnds, given_by};
 
 use crate::attending::attend;
@@ -20,13 +21,13 @@ use crate::bounds::{Bounds, Meter};
 use crate::end::SessionEnd;
 use crate::running::{Begun, begin, finish};
 use crate::steward::Steward;
-use crate::telling::refused;
+use crate::telling::tell_end;
 use cc_disk::Disk;
 use cc_library::LibraryFault;
 use cc_service::{Client, Gate, Named, Service, ServiceFault};
 use cc_spool::Spool;
 use std::alloc::{AllocError, Global};
-use std::io::Write;
+use std::io::{self, Write};
 use std::marker::Brand;
 use std::sync::Wait;
 use std::thread;
@@ -186,7 +187,7 @@ struct Worked<N: Named, S> {
 }
 
 // A client for each spool does what this gives. Where the service has too few of them nothing is done.
-fn work<N, H, S, W, E, D, T>(
+fn work<N, H, S, E, D, T>(
     rt: &H,
     alloc: Global,
     service: &Service<N, D>,
@@ -194,14 +195,12 @@ fn work<N, H, S, W, E, D, T>(
     spools: Vec<S>,
     meter: &Meter,
     steward: &mut T,
-    answers: &mut W,
     explanations: &mut E,
 ) -> Worked<N, S>
 where
     N: Named + Send + Sync + 'static,
     H: Threads + Wait + Send + Sync,
     S: Spool + Send + Drop,
-    W: Write,
     E: Write,
     D: Disk + Send,
     T: Steward,
@@ -228,7 +227,8 @@ where
             }
         }
         Err(fault) => {
-            let number = refused(alloc, fault, answers, explanations);
+            let number = fault.number();
+            drop(fault);
             Worked {
                 clients,
                 spools,
@@ -247,19 +247,17 @@ pub struct Served<D: Drop, S: Drop> {
 }
 
 // What is left where no service was opened, for this reason.
-fn unserved<S: Spool + Drop, W: Write, E: Write, D: Disk + Drop>(
-    alloc: Global,
+fn unserved<S: Spool + Drop, D: Disk + Drop>(
     spools: Vec<S>,
     disk: D,
     fault: ServiceFault,
-    answers: &mut W,
-    explanations: &mut E,
 ) -> Served<D, S>
     ensures disk { result.disk ≡ disk }
     ensures spools { result.spools ≡ spools }
     ensures end { result.end ≡ Fault (fault_number fault) }
 {
-    let number = refused(alloc, fault, answers, explanations);
+    let number = fault.number();
+    drop(fault);
     Served {
         disk,
         spools,
@@ -268,7 +266,7 @@ fn unserved<S: Spool + Drop, W: Write, E: Write, D: Disk + Drop>(
 }
 
 // The clients of a service do what the spools give, and it is ended.
-fn serve_opened<N, H, S, W, E, D, T>(
+fn serve_opened<N, H, S, E, D, T>(
     rt: &H,
     alloc: Global,
     service: Service<N, D>,
@@ -276,14 +274,12 @@ fn serve_opened<N, H, S, W, E, D, T>(
     spools: Vec<S>,
     bounds: Bounds,
     steward: &mut T,
-    answers: &mut W,
     explanations: &mut E,
 ) -> Served<D, S>
 where
     N: Named + Send + Sync + 'static,
     H: Threads + Wait + Send + Sync,
     S: Spool + Send + Drop,
-    W: Write,
     E: Write,
     D: Disk + Send + Drop,
     T: Steward,
@@ -307,10 +303,17 @@ where
         spools,
         &meter,
         steward,
-        answers,
         explanations,
     );
-    let (disk, end) = finish(rt, alloc, service, clients, worked, answers, explanations);
+    let (disk, end) = finish(
+        rt,
+        alloc,
+        service,
+        clients,
+        worked,
+        &mut io::sink(),
+        &mut io::sink(),
+    );
     if worked == SessionEnd::Finished {
         steward.ended(meter.generation(end), explanations);
     }
@@ -318,7 +321,7 @@ where
 }
 
 // Opens a service for the spools, where there is room for them.
-fn serve_begun<N, H, S, W, E, D, G, T>(
+fn serve_begun<N, H, S, E, D, G, T>(
     rt: &H,
     alloc: Global,
     begun: Begun<D>,
@@ -327,14 +330,12 @@ fn serve_begun<N, H, S, W, E, D, G, T>(
     gate: G,
     bounds: Bounds,
     steward: &mut T,
-    answers: &mut W,
     explanations: &mut E,
 ) -> Served<D, S>
 where
     N: Named + Send + Sync + 'static,
     H: Threads + Wait + Copy + Send + Sync + 'static,
     S: Spool + Send + Drop,
-    W: Write,
     E: Write,
     D: Disk + Send + Drop,
     G: Gate + Drop + Send + Sync + 'static,
@@ -342,25 +343,26 @@ where
     requires ledger { begun.fresh.ledger ≡ N.name }
     requires parts { N.parts ≡ 1025 }
     requires queue { begun.fresh.queue ≡ N.queue }
-    requires named { IsTrue D.honest → (units : Units) → Recovers (D.seen begun.disk) units → units ≡ N.base }
-    requires past { IsTrue D.honest → IsPast D.Disk N.from N.left begun.disk }
+    requires opened { IsOpened D.Disk begun.library }
+    requires recovered { IsTrue D.honest → Recovers (D.seen begun.library.disk) begun.library.units }
+    requires named { IsTrue D.honest → begun.library.units ≡ N.base }
+    requires past { IsTrue D.honest → IsPast D.Disk N.from N.left begun.library.disk }
     requires some { 1 ≤ workers }
     requires few { workers ≤ 8 }
     ensures { let before = map (given_by S.taken S.ended) spools.items in let after = map (given_by S.taken S.ended) result.spools.items in
-        EndsSince D.Disk N.from N.left (after ≡ before) (HaveServed before after) begun.disk result.disk result.end }
+        EndsSince D.Disk N.from N.left (after ≡ before) (HaveServed before after) begun.library.disk result.disk result.end }
 {
     let Begun {
-        disk,
+        library,
         before: _,
-        base: _,
         fresh,
     } = begun;
     let Ok(room) = room_for(alloc, spools.len()) else {
         drop(fresh);
         let fault = ServiceFault::Opening(LibraryFault::OutOfMemory);
-        return unserved(alloc, spools, disk, fault, answers, explanations);
+        return unserved(spools, library.into_disk(), fault);
     };
-    match Service::<N, D>::open(rt, alloc, fresh, disk, workers, gate) {
+    match Service::<N, D>::over(rt, alloc, fresh, library, workers, gate) {
         Ok(service) => serve_opened(
             rt,
             alloc,
@@ -369,13 +371,52 @@ where
             spools,
             bounds,
             steward,
-            answers,
             explanations,
         ),
         Err((fault, disk)) => {
             drop(room);
-            unserved(alloc, spools, disk, fault, answers, explanations)
+            unserved(spools, disk, fault)
         }
+    }
+}
+
+// Serves as `serve` does, and writes no line of a fault.
+pub(crate) fn serve_quietly<H, S, E, D, G, T>(
+    rt: &H,
+    alloc: Global,
+    spools: Vec<S>,
+    explanations: &mut E,
+    disk: D,
+    workers: usize,
+    gate: G,
+    bounds: Bounds,
+    steward: &mut T,
+) -> Served<D, S>
+where
+    H: Threads + Wait + Copy + Send + Sync + 'static,
+    S: Spool + Send + Drop,
+    E: Write,
+    D: Disk + Send + Drop,
+    G: Gate + Drop + Send + Sync + 'static,
+    T: Steward,
+    requires some { 1 ≤ workers }
+    requires few { workers ≤ 8 }
+    ensures answers { ServingEnds D.Disk
+        (map (given_by S.taken S.ended) spools.items) (map (given_by S.taken S.ended) result.spools.items) disk result.disk result.end }
+{
+    match begin(alloc, disk) {
+        Ok(begun) => serve_begun::<Brand, H, S, E, D, G, T>(
+            rt,
+            alloc,
+            begun,
+            spools,
+            workers,
+            gate,
+            bounds,
+            steward,
+            explanations,
+        ),
+        Err((fault, disk)) => unserved(spools, disk, ServiceFault::Opening(fault)),
     }
 }
 
@@ -412,23 +453,20 @@ where
     requires few { workers ≤ 8 }
     ensures answers { ServingEnds D.Disk
         (map (given_by S.taken S.ended) spools.items) (map (given_by S.taken S.ended) result.spools.items) disk result.disk result.end }
+    // Nothing is written where no fault ended it.
+    ensures still { result.end ≡ Finished → W.contents writer.new ≡ W.contents writer.old }
 {
-    match begin(alloc, disk) {
-        Ok(begun) => serve_begun::<Brand, H, S, W, E, D, G, T>(
-            rt,
-            alloc,
-            begun,
-            spools,
-            workers,
-            gate,
-            bounds,
-            steward,
-            writer,
-            explanations,
-        ),
-        Err((fault, disk)) => {
-            let fault = ServiceFault::Opening(fault);
-            unserved(alloc, spools, disk, fault, writer, explanations)
-        }
-    }
+    let left = serve_quietly(
+        rt,
+        alloc,
+        spools,
+        explanations,
+        disk,
+        workers,
+        gate,
+        bounds,
+        steward,
+    );
+    tell_end(alloc, left.end, writer, explanations);
+    left
 }

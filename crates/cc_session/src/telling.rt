@@ -4,8 +4,10 @@ ghost use Rattle.std.specs.Prelude.{◌≡◌, List, ℕ};
 ghost use Rattle.cc_answers.specs.Telling.{Tells};
 ghost use Rattle.cc_answers.specs.Text.{position_text};
 ghost use Rattle.cc_service.specs.Fault.{fault_number};
+ghost use Rattle.cc_session.specs.declared.end.SessionEnd.TheVariants.{Finished};
 ghost use Rattle.cc_session.specs.Telling.{change_text, done_text, refusal_text, where_text};
 
+use crate::end::SessionEnd;
 use cc_answers::{Refusal, Stands, tell_number, tell_ok, tell_refusal};
 use cc_history::Receipt;
 use cc_script::ScriptFault;
@@ -81,6 +83,27 @@ pub(crate) fn tell_estranged<W: Write, E: Write>(
         stands: Stands::Nowhere,
     };
     let _ = tell_refusal(alloc, refusal, &[], answers, explanations);
+}
+
+// Writes the line of the fault that ended a service, where one did.
+pub(crate) fn tell_end<W: Write, E: Write>(
+    alloc: Global,
+    end: SessionEnd,
+    answers: &mut W,
+    explanations: &mut E,
+)
+    ensures { end ≡ Finished → W.contents answers.new ≡ W.contents answers.old }
+{
+    match end {
+        SessionEnd::Finished => {}
+        SessionEnd::Fault(number) => {
+            let refusal = Refusal {
+                number,
+                stands: Stands::Nowhere,
+            };
+            let _ = tell_refusal(alloc, refusal, &[], answers, explanations);
+        }
+    }
 }
 
 // Writes that a change was made, or why not, for the source that was sent.

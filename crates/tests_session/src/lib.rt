@@ -1,7 +1,7 @@
 //! Tests of sessions, from outside: scripts with their answers, scripts that are refused, streams and disks that fail.
 //!
 //! `helpers` runs a script on a formatted disk, `scripts` has the worked scripts, `audits` those that audit, `earlier` a library of before
-//! selection, `refusals` what is refused, `failing` readers and writers that fail, `files` a library in a file, `spools` scripts of
+//! selection, `refusals` what is refused, `failing` readers and writers that fail, `hints` sources that are handed in before their turn, `files` a library in a file, `spools` scripts of
 //! several clients, `serving` many clients at once, `generations` one service behind the other, `showing` images and sources of units.
 #![tactic(auto)]
 
@@ -17,6 +17,8 @@ mod files;
 mod generations;
 #[cfg(test)]
 mod helpers;
+#[cfg(test)]
+mod hints;
 #[cfg(test)]
 mod names;
 #[cfg(test)]

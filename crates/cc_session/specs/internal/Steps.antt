@@ -8,22 +8,49 @@ use Rattle.cc_script.specs.declared.script.NextLine.TheVariants.{Line, TooLong, 
 use Rattle.cc_script.specs.declared.fault.ScriptFault.{ScriptFault}
 use Rattle.cc_script.specs.declared.fault.ScriptFault.TheVariants.{BadLine, EndOfScript, ScriptTooLong, ReadFault, WriteFault}
 use Rattle.cc_script.specs.declared.command.Dialect.{Dialect}
-use Rattle.cc_session.specs.Playing.{IsBegun, IsEnding, IsPlayed, IsStoppedBy, Talk, talk}
+use Rattle.cc_history.specs.Held.{at_most_told, receipts_bytes}
+use Rattle.cc_history.specs.History.{MemberView}
+use Rattle.cc_history.specs.declared.entry.Receipt.{Receipt}
+use Rattle.cc_session.specs.Playing.{IsBegun, IsEnding, IsLight, IsPlayed, IsStoppedBy, Talk, held_since, talk}
+use Rattle.cc_session.specs.declared.held.Held.{Held}
 use Rattle.cc_session.specs.declared.end.SessionEnd.{SessionEnd}
 use Rattle.cc_session.specs.declared.end.SessionEnd.TheVariants.{Finished, Fault}
 use Rattle.cc_session.specs.declared.reading.Sent.{Sent}
 use Rattle.cc_session.specs.declared.reading.Sent.TheVariants.{Source, NoRoom, Unended}
 
--- no line comes behind so many: it can't be read; or as many are done as may be, 52, and more of the script is left
-abbrev pub IsNoLine : (most : Option ℕ) (lines : ℕ) (before : Ahead) (left : ℕ) → ScriptFault → Type 0
-IsNoLine most lines before left fault =
-    IsNotRead before left fault ⊎ ((fault ≡ ScriptTooLong) × (most ≡ Some lines) × IfSome before.rest (λ bytes. bytes ≢ []))
+-- what ends a script behind so many lines if more of it is left: 52, if as many are done as may be, or the client's receipts since its beginning hold too much
+abbrev pub EndsBehind : (most : Option ℕ) (first : MemberView) (lines : ℕ) (now : MemberView) → ScriptFault → Type 0
+EndsBehind most first lines now BadLine = ⊥
+EndsBehind most first lines now EndOfScript = ⊥
+EndsBehind most first lines now ScriptTooLong = (bound : ℕ) × (most ≡ Some bound) × ((lines ≡ bound) ⊎ (268435456 < held_since first now))
+EndsBehind most first lines now ReadFault = ⊥
+EndsBehind most first lines now WriteFault = ⊥
 
--- a line that comes behind so many may be done
-abbrev pub MayFollow : (most : Option ℕ) (lines : ℕ) → NextLine → Type 0
-MayFollow most lines (Line length) = most ≢ Some lines
-MayFollow most lines TooLong = most ≢ Some lines
-MayFollow most lines End = Unit {0}
+-- a further line may be done
+abbrev pub MayGoOn : (most : Option ℕ) (first : MemberView) (lines : ℕ) (now : MemberView) → Type 0
+MayGoOn most first lines now = (most ≢ Some lines) × IsLight most first now
+
+-- which fault it is; none if a further line may be done
+abbrev pub IsLimit : (most : Option ℕ) (first : MemberView) (lines : ℕ) (now : MemberView) → Option ScriptFault → Type 0
+IsLimit most first lines now None = MayGoOn most first lines now
+IsLimit most first lines now (Some fault) = EndsBehind most first lines now fault
+
+-- no line comes: it can't be read; or more of the script is left, which is to be ended so
+abbrev pub IsNoLine : (limit : Option ScriptFault) (before : Ahead) (left : ℕ) → ScriptFault → Type 0
+IsNoLine limit before left fault = IsNotRead before left fault ⊎ ((limit ≡ Some fault) × IfSome before.rest (λ bytes. bytes ≢ []))
+
+-- a line that comes may be done
+abbrev pub MayFollow : (limit : Option ScriptFault) → NextLine → Type 0
+MayFollow limit (Line length) = limit ≡ None
+MayFollow limit TooLong = limit ≡ None
+MayFollow limit End = Unit {0}
+
+-- The receipts of a client are counted that came after these.
+pub record CountsSince (first now : List Receipt) (held : Held) : Type 0 where
+  pub more : List Receipt
+  pub now_is : now ≡ first ++ more
+  pub seen : held.seen ≡ length now
+  pub bytes : held.bytes ≡ at_most_told (receipts_bytes more)
 
 -- this many bytes are taken from what is left, and the line's end behind them; or a byte more, which is no line's end
 abbrev pub HasSent : (before : List ℕ) (count : ℕ) → Sent → (after : List ℕ) → Type 0

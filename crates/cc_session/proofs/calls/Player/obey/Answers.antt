@@ -1,5 +1,5 @@
 -- Each line is what it asks for.
-use Rattle.std.proofs.Common.{◌≡◌, [], None, Some, refl}
+use Rattle.std.proofs.Common.{[], None, Some, refl}
 use Rattle.cc_answers.specs.Telling.{script_fault_text}
 use Rattle.cc_script.specs.Line.{Add, Replace, Withdraw, Names, Run, Compact, Audit, Image, Source, asked_of}
 use Rattle.cc_script.specs.declared.fault.ScriptFault.TheVariants.{BadLine}

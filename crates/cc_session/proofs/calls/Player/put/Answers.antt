@@ -11,12 +11,12 @@ use Rattle.cc_session.proofs.calls.Player.put.Goals as goal
 pub returns-in-Source-clause-done : goal.returns-in-Source-clause-done
 returns-in-Source-clause-done g c =
     let read = rw c.in-Source.is at c.in_ok-source.ensures.bytes in
-    put_step c.change.result (Puts c.args.put) c.args.name.now c.in-Source.source c.as_slice.result.now c.as_slice.ensures.value c.args.length c.args.script.now c.source.new.self
+    put_step c.change.result (Puts c.args.put) c.args.name.now c.in-Source.source c.as_slice-source.result.now c.as_slice-source.ensures.value c.args.length c.args.script.now c.source.new.self
     (talk c.args.client.now.member (g.W.Write.contents c.args.answers.now)) (talk c.change.new.client.member (g.W.Write.contents c.change.new.answers)) read c.change.ensures
 
 pub returns-in-Source-clause-grows : goal.returns-in-Source-clause-grows
 returns-in-Source-clause-grows g c =
-    put_grows (Puts c.args.put c.args.name.now c.as_slice.result.now) c.args.name.now c.as_slice.result.now c.args.client.now.member c.change.new.client.member c.change.ensures.0 c.change.ensures.1
+    put_grows (Puts c.args.put c.args.name.now c.as_slice-source.result.now) c.args.name.now c.as_slice-source.result.now c.args.client.now.member c.change.new.client.member c.change.ensures.0 c.change.ensures.1
 
 pub returns-in-Unended-clause-done : goal.returns-in-Unended-clause-done
 returns-in-Unended-clause-done g c =

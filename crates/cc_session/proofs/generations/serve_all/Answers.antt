@@ -1,12 +1,15 @@
 -- The first generation, and then one more.
 use Rattle.std.proofs.Common.{zero, suc, map}
 use Rattle.cc_session.specs.Spooling.{ServingEnds, given_by}
-use Rattle.cc_session.proofs.Chains.{serves_one_more, serves_still}
-use Rattle.cc_session.proofs.generations.serve_on.Goals.{in-None, in-Some+then-not-goes_on}
-use Rattle.cc_session.proofs.generations.serve_on.Goals as goal
+use Rattle.cc_session.proofs.Chains.{goes_on_by, serves_one_more, serves_still}
+use Rattle.cc_session.proofs.generations.serve_all.Goals.{in-None, in-Some+then-not-goes_on}
+use Rattle.cc_session.proofs.generations.serve_all.Goals as goal
+
+pub returns-then-not-is_well : goal.returns-then-not-is_well
+returns-then-not-is_well g c = record { generations = (zero, c.serve_quietly-left.ensures.answers) }
 
 pub loop-init : goal.loop-init
-loop-init g c = (zero, c.serve-left.ensures.answers)
+loop-init g c = (zero, c.serve_quietly-left.ensures.answers, c.is_well.ensures c.if-not-is_well.false)
 
 pub loop-preserved : goal.loop-preserved
 loop-preserved g c =
@@ -16,10 +19,12 @@ loop-preserved g c =
     let so_far = c.loop.invariant in
     let looked = c.goes_on.ensures in
     let now = c.goes_on.new.left in
-    let next = c.serve-left-in-loop.result in (
+    let next = c.serve_quietly-left-in-loop.result in (
       suc so_far.0,
       serves_one_more Ends so_far.0 (map by c.args.spools.items) (map by c.loop.left.spools.items) (map by now.spools.items) (map by next.spools.items) c.args.disk c.loop.left.disk now.disk
-          next.disk c.loop.left.end next.end (looked.finished c.if-not-goes_on.false) looked.spools looked.disk so_far.1 c.serve-left-in-loop.ensures.answers,
+          next.disk c.loop.left.end next.end (goes_on_by so_far.0 c.loop.left.end so_far.2 (looked.may c.if-not-goes_on.false)) looked.spools looked.disk so_far.1
+          c.serve_quietly-left-in-loop.ensures.answers,
+      tt,
     )
 
 pub returns : goal.returns
@@ -31,7 +36,7 @@ returns g c =
     let left = c.loop.left in
     record {
       generations = elim c.match-next.branch [
-        | in-None w ↦ rw w.left-is so_far
+        | in-None w ↦ rw w.left-is (so_far.0, so_far.1)
         | in-Some+then-not-goes_on w ↦
             let looked = w.goes_on.ensures in
             let now = w.goes_on.new.left in

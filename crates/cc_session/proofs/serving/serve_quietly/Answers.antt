@@ -4,7 +4,7 @@ use Rattle.std.specs.FinMap.{empty}
 use Rattle.cc_service.specs.declared.fault.ServiceFault.TheVariants.{Opening}
 use Rattle.cc_session.specs.Spooling.{HaveServed, given_by}
 use Rattle.cc_session.proofs.Ends.{ends_on, unserved_by}
-use Rattle.cc_session.proofs.serving.serve.Goals as goal
+use Rattle.cc_session.proofs.serving.serve_quietly.Goals as goal
 
 pub returns-in-Ok : goal.returns-in-Ok
 returns-in-Ok g c =
@@ -14,7 +14,7 @@ returns-in-Ok g c =
     let before = map by c.args.spools.items in
     let after = map by c.serve_begun.result.spools.items in
     record {
-      answers = ends_on D (after ≡ before) (HaveServed before after) c.in-Ok.begun.before.value c.args.disk c.in-Ok.begun.disk
+      answers = ends_on D (after ≡ before) (HaveServed before after) c.in-Ok.begun.before.value c.args.disk c.in-Ok.begun.library.disk
           c.serve_begun.result.disk c.serve_begun.result.end e.before e.sound e.reads c.serve_begun.ensures;
     }
 
