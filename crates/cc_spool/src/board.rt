@@ -13,6 +13,7 @@ use crate::layout::FolderLayout;
 use crate::names::{is_plain, since_1970};
 use crate::refusal::Refusal;
 use std::alloc::Global;
+use std::cmp::Ordering;
 use std::mem;
 use std::time::{Duration, Instant};
 
@@ -56,6 +57,8 @@ pub(crate) struct Candidate {
 // A name that could not be claimed.
 #[derive(Drop)]
 struct Passed {
+    // By which it is found: each name of a look is looked for among all of these, and numbers are compared sooner than names.
+    key: u64,
     name: String,
     // For how long it is passed over, in seconds, and until when.
     pass: u64,
@@ -84,7 +87,7 @@ pub(crate) struct Board {
     waiting: Vec<Candidate>,
     // Those that were passed over and are to be tried after these.
     again: Vec<Candidate>,
-    // Those that are passed over, in the order of the names.
+    // Those that are passed over, in the order of their keys, and of one key in that of the names.
     passed: Vec<Passed>,
     // Those that came to be passed over since the last look.
     fresh: Vec<Passed>,
@@ -94,6 +97,25 @@ pub(crate) struct Board {
     // After which name to look, if there were more than are kept, and none of those could be claimed.
     from: Option<String>,
     last: Option<Look>,
+}
+
+// The key of a name. Names that have one key are told apart all the same.
+fn key_of(name: &str) -> u64 {
+    let mut key = 0xcbf2_9ce4_8422_2325u64;
+    for byte in name.as_bytes() {
+        key = (key ^ u64::from(*byte)).wrapping_mul(0x0100_0000_01b3);
+    }
+    key
+}
+
+impl Passed {
+    // Whether it comes before a name that has this key, or after it.
+    fn order(&self, key: u64, name: &str) -> Ordering {
+        match self.key.cmp(&key) {
+            Ordering::Equal => self.name.as_str().cmp(name),
+            other => other,
+        }
+    }
 }
 
 // The earlier of two moments, of which the first may not be.
@@ -199,6 +221,7 @@ impl Board {
         self.next_try = earlier(self.next_try, until);
         // If there is no memory it is tried at the next look.
         let _ = self.fresh.push(Passed {
+            key: key_of(name.as_str()),
             name,
             pass,
             until,
@@ -299,7 +322,7 @@ impl Board {
         if !self.fresh.is_empty() {
             self.passed.append(&mut self.fresh)?;
             self.passed
-                .sort_unstable_by(|a, b| a.name.as_str().cmp(b.name.as_str()));
+                .sort_unstable_by(|a, b| a.order(b.key, b.name.as_str()));
         }
         for it in self.passed.iter_mut() {
             it.is_seen = false;
@@ -333,10 +356,8 @@ impl Board {
 
     // Whether a name that was seen is passed over.
     fn is_passed(&mut self, name: &str) -> bool {
-        let Ok(place) = self
-            .passed
-            .binary_search_by(|it| it.name.as_str().cmp(name))
-        else {
+        let key = key_of(name);
+        let Ok(place) = self.passed.binary_search_by(|it| it.order(key, name)) else {
             return false;
         };
         match self.passed.get_mut(place) {
