@@ -187,7 +187,7 @@ fn clients(rt: HostRuntime) {
     }
 }
 
-static REFUSED: [&[&str]; 14] = [
+static REFUSED: [&[&str]; 18] = [
     &["cclib", "serve"],
     &["cclib", "serve", "a.disk"],
     &["cclib", "serve", "a.disk", "spool", "more"],
