@@ -111,18 +111,18 @@ fn scripts_that_end_behind_a_line(rt: HostRuntime) -> Result<(), Fail> {
 }
 
 // What is added, and what is run of it: `a` never ends, `b` ends at once, and `c` takes more than 10,000,000 instructions for the sum of the numbers
-// below 3,000,000, which is 4,499,998,500,000, as a word -1,127,226,208.
+// below 2,000,000, which is 1,999,999,000,000, as a word -1,455,759,936.
 static RUNS: [Case; 7] = [
     ("add a 26\nint main(void){while(1){}}\n", "ok 1\n", None),
     ("add b 16\nint main(void){}\n", "ok 2\n", None),
     (
-        "add c 82\nint main(void){int i;int s=0;for(i=0;i<3000000;i++){s+=i;}write_word(s);return 7;}\n",
+        "add c 82\nint main(void){int i;int s=0;for(i=0;i<2000000;i++){s+=i;}write_word(s);return 7;}\n",
         "ok 3\n",
         None,
     ),
     ("run a 25000000\n", "going\n", None),
     ("run b 25000000\n", "exited 0\n", None),
-    ("run c 250000000\n", "-1127226208\nexited 7\n", None),
+    ("run c 25000000\n", "-1455759936\nexited 7\n", None),
     (
         "run a 10000001\nlist\n",
         "going\nunit a\nunit b\nunit c\nok 8\n",
@@ -135,14 +135,14 @@ static CUTS: [Case; 8] = [
     ("add a 26\nint main(void){while(1){}}\n", "ok 1\n", None),
     ("add b 16\nint main(void){}\n", "ok 2\n", None),
     (
-        "add c 82\nint main(void){int i;int s=0;for(i=0;i<3000000;i++){s+=i;}write_word(s);return 7;}\n",
+        "add c 82\nint main(void){int i;int s=0;for(i=0;i<2000000;i++){s+=i;}write_word(s);return 7;}\n",
         "ok 3\n",
         None,
     ),
     ("run a 10000000\n", "going\n", None),
     ("run a 10000001\n", "fault 61 Stopped\n", Some(61)),
     ("run b 25000000\n", "exited 0\n", None),
-    ("run c 250000000\nlist\n", "fault 61 Stopped\n", Some(61)),
+    ("run c 25000000\nlist\n", "fault 61 Stopped\n", Some(61)),
     ("list\n", "unit a\nunit b\nunit c\nok 8\n", None),
 ];
 
