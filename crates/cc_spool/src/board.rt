@@ -200,11 +200,6 @@ impl Board {
         Ok(false)
     }
 
-    /// A script was claimed: the next look is for all names.
-    pub(crate) fn begin_anew(&mut self) {
-        self.from = None;
-    }
-
     /// Passes over a name that could not be claimed.
     pub(crate) fn pass_over(&mut self, candidate: Candidate, now: Instant) {
         let Candidate { name, passed } = candidate;

@@ -179,6 +179,13 @@ impl FolderLayout {
         self.look_along(self.part(part))
     }
 
+    /// What has the folder's name: a link that is there, and not what it leads to.
+    pub(crate) fn look_at_name(&self) -> Result<Option<Found>, Refusal> {
+        let path = self.path.as_str().trim_end_matches('/');
+        let path = if path.is_empty() { "/" } else { path };
+        self.look_along(String::from_str(self.alloc, path))
+    }
+
     /// Whether something is at the path of a part. An `Err` where that is not known.
     pub(crate) fn has(&self, part: &str) -> Result<bool, Refusal> {
         match self.look_at(part) {

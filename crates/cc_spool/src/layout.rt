@@ -73,7 +73,7 @@ pub(crate) struct Common {
     // How many clients there are, and for how many seconds one may do a script while others wait.
     clients: u64,
     patience: u64,
-    // Whether the answers in `done` that may not go yet take more than they may.
+    // Whether the answers in `done` that may not go yet take more than they may. As long as they were not counted, that is taken to be so.
     is_full: AtomicBool,
     // Whether the folder could not be used for a while.
     is_lost: AtomicBool,
@@ -116,7 +116,7 @@ impl FolderLayout {
                     leaving: AtomicU64::new(0),
                     clients: limits.clients as u64,
                     patience: u64::from(limits.patience),
-                    is_full: AtomicBool::new(false),
+                    is_full: AtomicBool::new(true),
                     is_lost: AtomicBool::new(false),
                 },
             )?,

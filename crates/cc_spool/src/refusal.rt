@@ -28,6 +28,8 @@ pub(crate) enum Refusal {
     NoSpool,
     /// The folder is another user's.
     Foreign,
+    /// Everybody may write to the folder.
+    Wide,
     /// The folder or a part of it is not the server's.
     NotOwn,
 }
@@ -79,7 +81,11 @@ impl From<Refusal> for io::Error {
             ),
             Refusal::Foreign => (
                 io::ErrorKind::PermissionDenied,
-                "it belongs to another user than the server, who could put anything in the place of `lock`",
+                "it, or a link that is its name, belongs to another user than the server, who could put anything in its place",
+            ),
+            Refusal::Wide => (
+                io::ErrorKind::PermissionDenied,
+                "everybody may write to it, and could have the server write elsewhere: `chmod o-w` takes that away",
             ),
             Refusal::NotOwn => (
                 io::ErrorKind::PermissionDenied,

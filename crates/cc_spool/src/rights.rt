@@ -81,11 +81,20 @@ fn make_folder(layout: &FolderLayout) -> Result<(), Refusal> {
     Ok(())
 }
 
-// An `Err` if the folder is not of the user whose file this start made in it. Who has the folder can put a link in the place of `lock` at any
-// moment, and a file would be made along it.
+// An `Err` if the folder is not of the user whose file this start made in it, or everybody may write to it: who may can put a link in the place
+// of `lock` or of a part at any moment, and a file would be made along it. So may who has a link that is the folder's name; root may in any case.
 fn must_be_own(layout: &FolderLayout, made: &Found) -> Result<(), Refusal> {
-    match layout.look_at(".")? {
-        Some(found) if found.user == made.user => Ok(()),
+    let Some(found) = layout.look_at(".")? else {
+        return Err(Refusal::Foreign);
+    };
+    if found.user != made.user {
+        return Err(Refusal::Foreign);
+    }
+    if found.rights() & 0o002 != 0 {
+        return Err(Refusal::Wide);
+    }
+    match layout.look_at_name()? {
+        Some(named) if named.user == made.user || named.user == 0 => Ok(()),
         _ => Err(Refusal::Foreign),
     }
 }
@@ -127,8 +136,8 @@ fn take(layout: &mut FolderLayout, process: u32) -> Result<Option<Held>, Refusal
 ///
 /// What is not there of it is made: the folder with 0755; `cur` with 0700, `new` and `tmp` with 3777, `done` with 0755; where the folder has
 /// the set-group-id bit `cur` with 2700 and the others with 2770. What is there keeps its rights. Then it tries what a server does in it.
-/// An `Err` where one of these is refused, which leaves what was made; or where a part is there and `lock` is not; or if the folder is another
-/// user's, before `lock` is opened.
+/// An `Err` where one of these is refused, which leaves what was made; or where a part is there and `lock` is not; or, before `lock` is opened, if
+/// the folder, or a link that is its name, is another user's, or everybody may write to the folder.
 pub fn take_folder(layout: &mut FolderLayout, process: u32) -> io::Result<Option<Held>> {
     Ok(take(layout, process)?)
 }

@@ -627,6 +627,17 @@ fn a_folder_that_is_no_spool(rt: HostRuntime) {
     must(&rt, folder.remove_all(), "its end");
 }
 
+#[test]
+fn a_folder_that_everybody_may_write_to(rt: HostRuntime) {
+    let path = "a_folder_that_everybody_may_write_to.spool";
+    let folder = Folder { rt, path };
+    must(&rt, folder.make("", ""), "a directory");
+    must(&rt, folder.set_rights("", 0o1777), "everybody's");
+    must(&rt, folder.is_refused(), "it is refused");
+    must(&rt, !folder.is_there(".", "lock"), "no lock is made");
+    must(&rt, folder.remove_all(), "its end");
+}
+
 // What stands in a folder before it is cleared: a part, a name, and whether that is taken away.
 static OLD: [(&str, &str, bool); 8] = [
     ("tmp", "old", true),
