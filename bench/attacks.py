@@ -1911,6 +1911,43 @@ def tmp_filled(place):
     must(after - before <= 0.5 * busy(), f"a start takes {after:.1f} s, and {before:.1f} s before")
 
 
+@attack("a stranger's file system (FUSE, with allow_other) is mounted on names of theirs in `new`: a script, and `stop`", 120)
+def mounted(place):
+    """fusermount mounts for a user on a file of that user's, and with `user_allow_other` in /etc/fuse.conf others reach it too: then a look at
+    it waits as long as its owner likes. A server that looks at such a name goes on with the others, and ends."""
+    library = ctypes.CDLL(None, use_errno=True)
+    server = place.serve()
+    os.kill(server.pid, signal.SIGSTOP)
+    paths, files = [], []
+    try:
+        for it in range(6):
+            paths.append(place.file("new", f"-m{it}"))
+            refusal(STRANGER, lambda it=it: os.rename(put_own(place, f"mine{it}"), place.file("new", f"-m{it}")))
+            files.append(os.open("/dev/fuse", os.O_RDWR))
+            how = f"fd={files[-1]},rootmode=100000,user_id={STRANGER},group_id={STRANGER},allow_other"
+            if library.mount(b"stranger", paths[-1].encode(), b"fuse", 6, how.encode()):
+                raise NotTried("nothing can be mounted")
+        os.kill(server.pid, signal.SIGCONT)
+        time.sleep(1)
+        took, text = waits(place, 15)
+        wrong = [f"a script is not taken for {took:.0f} s"] * (not text.startswith("ok "))
+        with open(f"{place.spool}/stop", "w"):
+            pass
+        try:
+            server.wait(15)
+        except subprocess.TimeoutExpired:
+            wrong.append("`stop` does not end the server within 15 s")
+        all_must(wrong)
+    except FileNotFoundError:
+        raise NotTried("there is no /dev/fuse") from None
+    finally:
+        server.kill()
+        for path in paths:
+            library.umount2(path.encode(), 2)
+        for file in files:
+            os.close(file)
+
+
 @attack("FOLDER is a link that a stranger has made, in a folder like /tmp, to a folder of the server's user", 60)
 def folder_link(place):
     """The server makes no spool along a link of somebody else's: who has made the link may let it lead elsewhere, to a folder of theirs."""
