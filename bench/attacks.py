@@ -1722,6 +1722,288 @@ def stop_at_start(place):
         raise Broken("a `stop` that was made while the server started was taken away") from None
 
 
+# ---- what a reader of the threat model tried
+
+
+def many_names(place, part, count, form, make):
+    """A stranger's process that gives so many names of a part to few files, 60,000 each, and stays."""
+
+    def fill(say):
+        for it in range(count):
+            if it % 60_000 == 0:
+                first = place.file(part, form % it)
+                make(first)
+            else:
+                os.link(first, place.file(part, form % it))
+        say("")
+        signal.pause()
+
+    return place.other(fill)
+
+
+def waits(place, seconds):
+    """How long a `submit list` of the victim takes, and its answer; it takes its script back after so many seconds."""
+    begin = time.time()
+    done = place.submit("--wait", str(seconds), "list", user=VICTIM)
+    return time.time() - begin, done.stdout
+
+
+@attack("300,000 FIFOs in `new` and a flow of small scripts whose names come first: a script of another user", 400)
+def starved(place):
+    """Names that can't be claimed hide no script, also if the server claims others meanwhile: each look for the names after those that were
+    kept has to come, and not begin with the first ones again."""
+    server = place.serve()
+    many_names(place, "new", 300_000, "0%07d", os.mkfifo)
+
+    def flow(say):
+        say("")
+        count, left = 0, []
+        while True:
+            left = [it for it in left if os.path.lexists(it)]
+            if len(left) < 4:
+                left.append(place.file("new", f"-{count:07d}"))
+                os.rename(put_own(place, f"mine{count}", ""), left[-1])
+                count += 1
+            else:
+                time.sleep(0.005)
+
+    alone = waits(place, 60)
+    must(alone[1].startswith("ok "), f"beside the names alone a script is answered {alone[1]!r} after {alone[0]:.0f} s")
+    place.other(flow)
+    time.sleep(2)
+    took, text = waits(place, 90)
+    place.stop(server)
+    must(text.startswith("ok "), f"a script is not taken for {took:.0f} s ({alone[0]:.1f} s beside the names alone): {text!r}")
+
+
+@attack("100,000 FIFOs in `new`, whose time a stranger changes 50 times a second: an idle server, and a script", 400)
+def touched(place):
+    """Who may write to `new` may change its time, so that a look is due. An idle server takes at most 5 in 100 of a processor all the same."""
+    server = place.serve()
+    before = asks(place, server, 5)
+    many_names(place, "new", FIFOS, "0%07d", os.mkfifo)
+
+    def touch(say):
+        say("")
+        while True:
+            os.utime(place.file("new"))
+            time.sleep(0.02)
+
+    place.other(touch)
+    time.sleep(5)
+    after = asks(place, server, 9)
+    idle = idles(server, 15)
+    wrong = [f"the idle server takes {100 * idle:.0f} in 100 of a processor"] * (idle > 0.05)
+    wrong += [f"a script takes {after[0]:.2f} s, and {before[0]:.2f} s before"] * (after[0] - before[0] > 0.5 * busy())
+    all_must(wrong)
+
+
+def fetched(place):
+    """How many KiB the answers in `done` have."""
+    return sum(os.path.getsize(place.file("done", it)) for it in os.listdir(place.file("done"))) >> 10
+
+
+def large_answers(place, count, name, lines=20):
+    """So many scripts of a stranger's, whose answers have 60 KB a line."""
+
+    def put_all():
+        for it in range(count):
+            os.rename(put_own(place, f"mine{name}{it}", "source big\n" * lines), place.file("new", f"{name}{it:04d}"))
+
+    refusal(STRANGER, put_all)
+
+
+def serve_little(place, *options):
+    """A server whose `done` may have 1 MiB, and a unit with a large source."""
+    is_first = not os.path.exists(place.disk)
+    server = place.start("--format", AREA, "--done", str(1 << 20), *options)
+    if is_first:
+        place.wait_for_server(server)
+        done = place.submit("add", "big", script=SUM + "/*" + "x" * 60_000 + "*/")
+        must(done.returncode == 0, f"the unit can't be added: {done.stdout!r}")
+    return server
+
+
+@attack("`done` is full, and that was reported; then 300 scripts come, and 64 clients look: how many are taken all the same", 200)
+def done_passed(place):
+    """While the answers that may not go take more than `--done` no script is taken, whichever clients look at once."""
+    server = serve_little(place, "--clients", "64")
+    large_answers(place, 2, "a")
+    for _ in range(100):
+        place.submit("--wait", "1", "list")
+        with open(f"{place.work}/told") as file:
+            if "no script is taken" in file.read():
+                break
+    large_answers(place, 300, "b", 1)
+    time.sleep(10)
+    left = sum(it.startswith("b") for it in os.listdir(place.file("new")))
+    place.stop(server)
+    must(left == 300, f"{300 - left} of 300 scripts are taken within 10 s")
+
+
+@attack("`done` is full, and the server starts again, three times: how much there is in `done` then", 200)
+def done_after_start(place):
+    """What was in `done` before a start counts too."""
+    seen = []
+    for it in range(4):
+        server = serve_little(place, "--clients", "1")
+        large_answers(place, 4, f"s{it}")
+        time.sleep(5)
+        seen.append(fetched(place))
+        place.stop(server)
+    must(seen[-1] <= 3 * 1024, f"`done` may have 1,024 KiB; after each start it has {seen} KiB")
+
+
+@attack("an answer that is fetched after more than ten minutes, when a stranger has filled `done` and left a script of its name", 200)
+def fetched_late(place):
+    """A `submit` that was stopped (Ctrl-Z, a machine that sleeps), or a person who comes back, has the answer to their own script or none."""
+    server = serve_little(place, "--clients", "2")
+    names = Watch(place.file("new")).names(20)
+    victim = place.sending("run", "big", "100000")
+    victim.stdin.close()
+    victim.stdin = None
+    name = next(names)
+    os.kill(victim.pid, signal.SIGSTOP)
+    path = place.file("done", name)
+    for _ in range(400):
+        if os.path.exists(path):
+            break
+        time.sleep(0.02)
+    with open(path) as file:
+        whole = file.read()
+    said = refusal(STRANGER, lambda: os.rename(put_own(place, "mine", "list\n"), place.file("new", name)))
+    must(said is None, f"the stranger gets {said}")
+    os.utime(path, (time.time() - 700, time.time() - 700))
+    large_answers(place, 8, "f")
+    for _ in range(300):
+        time.sleep(0.1)
+        if os.path.exists(path) and os.path.getmtime(path) > time.time() - 600:
+            break
+    os.kill(victim.pid, signal.SIGCONT)
+    text = victim.communicate(timeout=30)[0]
+    place.stop(server)
+    must(text == whole or victim.returncode, f"the answer {whole!r} of the victim is now {text!r}, with status {victim.returncode}")
+
+
+def readies(place):
+    """How long a server's start takes until it reports that it takes scripts."""
+    with open(f"{place.work}/told", "w"):
+        pass
+    begin = time.time()
+    server = place.start()
+    for _ in range(6000):
+        with open(f"{place.work}/told") as file:
+            if "ready" in file.read():
+                break
+        time.sleep(0.01)
+    took = time.time() - begin
+    place.stop(server)
+    return took
+
+
+@attack("600,000 names in `tmp`, each of a script: how long a start takes, and each next generation's", 300)
+def tmp_filled(place):
+    """What a generation's start removes from `tmp` keeps others waiting for a bounded time: at most half a second more."""
+    place.make()
+    before = readies(place)
+    many_names(place, "tmp", 600_000, "n%07d", lambda path: os.close(os.open(path, os.O_CREAT | os.O_WRONLY)))
+    after = readies(place)
+    must(after - before <= 0.5 * busy(), f"a start takes {after:.1f} s, and {before:.1f} s before")
+
+
+@attack("a stranger's file system (FUSE, with allow_other) is mounted on names of theirs in `new`: a script, and `stop`", 120)
+def mounted(place):
+    """fusermount mounts for a user on a file of that user's, and with `user_allow_other` in /etc/fuse.conf others reach it too: then a look at
+    it waits as long as its owner likes. A server that looks at such a name goes on with the others, and ends."""
+    library = ctypes.CDLL(None, use_errno=True)
+    server = place.serve()
+    os.kill(server.pid, signal.SIGSTOP)
+    paths, files = [], []
+    try:
+        for it in range(6):
+            paths.append(place.file("new", f"-m{it}"))
+            refusal(STRANGER, lambda it=it: os.rename(put_own(place, f"mine{it}"), place.file("new", f"-m{it}")))
+            files.append(os.open("/dev/fuse", os.O_RDWR))
+            how = f"fd={files[-1]},rootmode=100000,user_id={STRANGER},group_id={STRANGER},allow_other"
+            if library.mount(b"stranger", paths[-1].encode(), b"fuse", 6, how.encode()):
+                raise NotTried("nothing can be mounted")
+        os.kill(server.pid, signal.SIGCONT)
+        time.sleep(1)
+        took, text = waits(place, 15)
+        wrong = [f"a script is not taken for {took:.0f} s"] * (not text.startswith("ok "))
+        with open(f"{place.spool}/stop", "w"):
+            pass
+        try:
+            server.wait(15)
+        except subprocess.TimeoutExpired:
+            wrong.append("`stop` does not end the server within 15 s")
+        all_must(wrong)
+    except FileNotFoundError:
+        raise NotTried("there is no /dev/fuse") from None
+    finally:
+        server.kill()
+        for path in paths:
+            library.umount2(path.encode(), 2)
+        for file in files:
+            os.close(file)
+
+
+@attack("FOLDER is a link that a stranger has made, in a folder like /tmp, to a folder of the server's user", 60)
+def folder_link(place):
+    """The server makes no spool along a link of somebody else's: who has made the link may let it lead elsewhere, to a folder of theirs."""
+    os.chmod(place.work, 0o1777)
+    home = f"{place.work}/home"
+    os.mkdir(home, 0o700)
+    os.chown(home, SERVER, SERVER)
+    said = refusal(STRANGER, lambda: os.symlink(home, place.spool))
+    must(said is None, f"the stranger gets {said}")
+    server = place.start("--format", AREA)
+    try:
+        said = server.communicate(timeout=5)[0]
+    except subprocess.TimeoutExpired:
+        said = "a server that works"
+    wrong = [f"the server says {said!r}"] * (not said.startswith("fault 56"))
+    all_must(wrong + [f"made along the link: {sorted(os.listdir(home))}"] * bool(os.listdir(home)))
+
+
+@attack("FOLDER has 0777: a stranger puts a link at `done`, and a script of the name of a file that the server's user has elsewhere", 60)
+def folder_wide(place):
+    """A folder in which others can replace a part is not served: else the server writes a file with a stranger's name and text elsewhere."""
+    home = f"{place.work}/home"
+    for path in (place.spool, home):
+        os.mkdir(path)
+        os.chown(path, SERVER, SERVER)
+    os.chmod(place.spool, 0o777)
+    server = place.start("--format", AREA)
+    try:
+        place.wait_for_server(server)
+    except Broken:
+        return
+    source = "int main(void){return 0;}/*\nssh-ed25519 AAAA stranger\n*/"
+    place.submit("add", "evil", script=source, user=STRANGER)
+
+    def replace():
+        os.rename(place.file("done").rstrip("/"), f"{place.spool}/gone")
+        os.symlink(home, f"{place.spool}/done")
+        os.rename(put_own(place, "mine", "source evil\n"), place.file("new", "authorized_keys"))
+
+    said = refusal(STRANGER, replace)
+    time.sleep(3)
+    all_must([f"the server has written {it} elsewhere (the stranger gets {said})" for it in os.listdir(home)])
+
+
+@attack("`done` has 3777 from before: `serve` reports it", 60)
+def done_reported(place):
+    """With it a stranger puts a directory at an answer's name, and the answer never comes: so it is wider than 0755."""
+    place.make()
+    os.chmod(place.file("done"), 0o3777)
+    with open(f"{place.work}/told", "w"):
+        pass
+    place.stop(place.serve())
+    with open(f"{place.work}/told") as file:
+        must(re.search(r"done has the rights", file.read()), "`done` with 3777 is not reported")
+
+
 # ---- what the documents have to say
 
 SENTENCES = [
@@ -1882,6 +2164,29 @@ def install_foreign(place):
     done = here.install("--remove")
     wrong += [f"--remove of that one: status {done.returncode}, left {sorted(here.stands())}"] * (done.returncode != 0 or bool(here.stands()))
     all_must(wrong)
+
+
+@attack("install into a PREFIX/bin that others may write to: a link at each cclib.new.PID that may come")
+def install_link(place):
+    """What install writes beside its place is a new file: along a link of somebody else's it overwrites nothing."""
+    here = Tree(place)
+    precious = f"{place.work}/precious"
+    write(precious, "precious\n")
+    os.makedirs(f"{here.prefix}/bin")
+    os.chmod(f"{here.prefix}/bin", 0o777)
+
+    def plant(say):
+        say("")
+        while True:
+            for it in os.listdir("/proc"):
+                if it.isdigit():
+                    allowed(os.symlink, precious, f"{here.prefix}/bin/cclib.new.{it}")
+
+    place.other(plant)
+    time.sleep(0.5)
+    here.install()
+    with open(precious) as file:
+        must(file.read() == "precious\n", "along a link at cclib.new.PID install has overwritten a file of root's")
 
 
 @attack("./cclib and ./install by a symlink, by a link to a link, and by a relative path under CDPATH")
