@@ -1776,28 +1776,6 @@ def starved(place):
     must(text.startswith("ok "), f"a script is not taken for {took:.0f} s ({alone[0]:.1f} s beside the names alone): {text!r}")
 
 
-@attack("100,000 FIFOs in `new`, whose time a stranger changes 50 times a second: an idle server, and a script", 400)
-def touched(place):
-    """Who may write to `new` may change its time, so that a look is due. An idle server takes at most 5 in 100 of a processor all the same."""
-    server = place.serve()
-    before = asks(place, server, 5)
-    many_names(place, "new", FIFOS, "0%07d", os.mkfifo)
-
-    def touch(say):
-        say("")
-        while True:
-            os.utime(place.file("new"))
-            time.sleep(0.02)
-
-    place.other(touch)
-    time.sleep(5)
-    after = asks(place, server, 9)
-    idle = idles(server, 15)
-    wrong = [f"the idle server takes {100 * idle:.0f} in 100 of a processor"] * (idle > 0.05)
-    wrong += [f"a script takes {after[0]:.2f} s, and {before[0]:.2f} s before"] * (after[0] - before[0] > 0.5 * busy())
-    all_must(wrong)
-
-
 def fetched(place):
     """How many KiB the answers in `done` have."""
     return sum(os.path.getsize(place.file("done", it)) for it in os.listdir(place.file("done"))) >> 10
@@ -1852,100 +1830,6 @@ def done_after_start(place):
         seen.append(fetched(place))
         place.stop(server)
     must(seen[-1] <= 3 * 1024, f"`done` may have 1,024 KiB; after each start it has {seen} KiB")
-
-
-@attack("an answer that is fetched after more than ten minutes, when a stranger has filled `done` and left a script of its name", 200)
-def fetched_late(place):
-    """A `submit` that was stopped (Ctrl-Z, a machine that sleeps), or a person who comes back, has the answer to their own script or none."""
-    server = serve_little(place, "--clients", "2")
-    names = Watch(place.file("new")).names(20)
-    victim = place.sending("run", "big", "100000")
-    victim.stdin.close()
-    victim.stdin = None
-    name = next(names)
-    os.kill(victim.pid, signal.SIGSTOP)
-    path = place.file("done", name)
-    for _ in range(400):
-        if os.path.exists(path):
-            break
-        time.sleep(0.02)
-    with open(path) as file:
-        whole = file.read()
-    said = refusal(STRANGER, lambda: os.rename(put_own(place, "mine", "list\n"), place.file("new", name)))
-    must(said is None, f"the stranger gets {said}")
-    os.utime(path, (time.time() - 700, time.time() - 700))
-    large_answers(place, 8, "f")
-    for _ in range(300):
-        time.sleep(0.1)
-        if os.path.exists(path) and os.path.getmtime(path) > time.time() - 600:
-            break
-    os.kill(victim.pid, signal.SIGCONT)
-    text = victim.communicate(timeout=30)[0]
-    place.stop(server)
-    must(text == whole or victim.returncode, f"the answer {whole!r} of the victim is now {text!r}, with status {victim.returncode}")
-
-
-def readies(place):
-    """How long a server's start takes until it reports that it takes scripts."""
-    with open(f"{place.work}/told", "w"):
-        pass
-    begin = time.time()
-    server = place.start()
-    for _ in range(6000):
-        with open(f"{place.work}/told") as file:
-            if "ready" in file.read():
-                break
-        time.sleep(0.01)
-    took = time.time() - begin
-    place.stop(server)
-    return took
-
-
-@attack("600,000 names in `tmp`, each of a script: how long a start takes, and each next generation's", 300)
-def tmp_filled(place):
-    """What a generation's start removes from `tmp` keeps others waiting for a bounded time: at most half a second more."""
-    place.make()
-    before = readies(place)
-    many_names(place, "tmp", 600_000, "n%07d", lambda path: os.close(os.open(path, os.O_CREAT | os.O_WRONLY)))
-    after = readies(place)
-    must(after - before <= 0.5 * busy(), f"a start takes {after:.1f} s, and {before:.1f} s before")
-
-
-@attack("a stranger's file system (FUSE, with allow_other) is mounted on names of theirs in `new`: a script, and `stop`", 120)
-def mounted(place):
-    """fusermount mounts for a user on a file of that user's, and with `user_allow_other` in /etc/fuse.conf others reach it too: then a look at
-    it waits as long as its owner likes. A server that looks at such a name goes on with the others, and ends."""
-    library = ctypes.CDLL(None, use_errno=True)
-    server = place.serve()
-    os.kill(server.pid, signal.SIGSTOP)
-    paths, files = [], []
-    try:
-        for it in range(6):
-            paths.append(place.file("new", f"-m{it}"))
-            refusal(STRANGER, lambda it=it: os.rename(put_own(place, f"mine{it}"), place.file("new", f"-m{it}")))
-            files.append(os.open("/dev/fuse", os.O_RDWR))
-            how = f"fd={files[-1]},rootmode=100000,user_id={STRANGER},group_id={STRANGER},allow_other"
-            if library.mount(b"stranger", paths[-1].encode(), b"fuse", 6, how.encode()):
-                raise NotTried("nothing can be mounted")
-        os.kill(server.pid, signal.SIGCONT)
-        time.sleep(1)
-        took, text = waits(place, 15)
-        wrong = [f"a script is not taken for {took:.0f} s"] * (not text.startswith("ok "))
-        with open(f"{place.spool}/stop", "w"):
-            pass
-        try:
-            server.wait(15)
-        except subprocess.TimeoutExpired:
-            wrong.append("`stop` does not end the server within 15 s")
-        all_must(wrong)
-    except FileNotFoundError:
-        raise NotTried("there is no /dev/fuse") from None
-    finally:
-        server.kill()
-        for path in paths:
-            library.umount2(path.encode(), 2)
-        for file in files:
-            os.close(file)
 
 
 @attack("FOLDER is a link that a stranger has made, in a folder like /tmp, to a folder of the server's user", 60)
