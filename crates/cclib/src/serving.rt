@@ -79,7 +79,7 @@ fn serve_taken<R, W: Write, E: Write>(
     told: &mut E,
 ) -> Result<u8, AllocError>
 where
-    R: AllocGlobal + Clock + Threads + Wait + Copy + Send + Sync + 'static,
+    R: AllocGlobal + Threads + Wait + Clock + Copy + Send + Sync + 'static,
     requires some { 1 ≤ asked.now.workers }
     requires few { asked.now.workers ≤ 8 }
     ensures { IfOk result (λ status. status ≤ 1) }
@@ -134,7 +134,7 @@ pub fn serve_folder<R, E: Write + Drop>(
     errors: E,
 ) -> Result<u8, AllocError>
 where
-    R: AllocGlobal + Clock + Print + Threads + Wait + Copy + Send + Sync + 'static,
+    R: AllocGlobal + Print + Threads + Wait + Clock + Copy + Send + Sync + 'static,
     requires some { 1 ≤ asked.now.workers }
     requires few { asked.now.workers ≤ 8 }
     ensures { IfOk result (λ status. status ≤ 1) }
