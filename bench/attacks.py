@@ -935,9 +935,9 @@ def closed_submit(place):
     all_must(try_closed(Served, SUBMIT, look_at_spool, VICTIM))
 
 
-# `serve` reads nothing, and prints one line when it ends: `served N`. Where that can't be printed all that it was for is done all the same, so
-# that either status is taken for right.
-SERVE = {"0": (0,), "1": (0, 1), "2": (0,), "01": (0, 1), "02": (0,), "12": (0, 1), "012": (0, 1)}
+# `serve` reads nothing, and prints one line when it ends: `served N`. If that can't be printed all that it was for is done all the same, and the
+# status is 1.
+SERVE = {"0": (0,), "1": (1,), "2": (0,), "01": (1,), "02": (0,), "12": (1,), "012": (1,)}
 
 
 def numbers_of(process):

@@ -64,7 +64,10 @@ fn has(disk: &mut FileDisk, offset: usize, wanted: &[u8]) -> bool {
 // Whether the disk has a library with a record: the gate of the first one, in the area that byte 0 names, is open.
 fn has_record(disk: &mut FileDisk) -> bool {
     let mut header = [0u8; 16];
-    if !has(disk, 1, LIBRARY) || disk.read_at(0, &mut header).is_err() {
+    if disk.size() < 16
+        || disk.read_at(0, &mut header).is_err()
+        || !header[1..].starts_with(LIBRARY)
+    {
         return false;
     }
     let area = u32::from_le_bytes([header[8], header[9], header[10], header[11]]);

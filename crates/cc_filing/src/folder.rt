@@ -175,6 +175,8 @@ pub fn take_to_serve<W: Write, E: Write>(
         days: asked.keep,
         bytes: asked.done,
         is_quiet,
+        patience: asked.patience,
+        clients: asked.clients,
     };
     let mut layout = FolderLayout::for_server(*files, alloc, folder, limits)?;
     let held = match take(&mut layout, process::id(files.process())) {

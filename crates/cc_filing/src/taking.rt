@@ -8,9 +8,10 @@ use crate::filing::disk_of;
 use cc_answers::{Telling, explain_words};
 use cc_command_line::Wanted;
 use cc_library::LibraryFault;
+use cc_screen::Screen;
 use cc_tasks::{PartFault, take_out, write_part};
 use std::alloc::{AllocError, Global};
-use std::io::{self, BufWriter, Print, Write};
+use std::io::{self, BufWriter, IsTerminal, Print, Write};
 
 /// What is told where there is no disk on the file for 35.
 const NO_FILE: &str =
@@ -74,8 +75,8 @@ fn write_found<W: Write, E: Write>(
     }
 }
 
-/// Writes a part of a unit of the library in a file to standard output: its image as Intel HEX, or its source to the byte; the status. The error
-/// is lack of memory before it began.
+/// Writes a part of a unit of the library in a file to standard output: its image as Intel HEX, or its source to the byte; the status. On a
+/// terminal control bytes of the source are shown as `?`. The error is lack of memory before it began.
 pub fn take_out_of_file<R: AllocGlobal + Print, E: Write + Drop>(
     rt: &R,
     files: &HostRuntime,
@@ -83,12 +84,13 @@ pub fn take_out_of_file<R: AllocGlobal + Print, E: Write + Drop>(
     is_quiet: bool,
     errors: E,
 ) -> Result<u8, AllocError> {
-    let (Ok(mut writer), Ok(errors)) = (
+    let (Ok(buffered), Ok(errors)) = (
         BufWriter::new(rt.alloc(), io::writer(rt)),
         BufWriter::new(rt.alloc(), errors),
     ) else {
         return Err(AllocError);
     };
+    let mut writer = Screen::new(buffered, files.stdout().is_terminal());
     let mut told = Telling { errors, is_quiet };
     let found = bytes_of(rt.alloc(), files, wanted, &mut told);
     Ok(write_found(found, &mut writer, &mut told))

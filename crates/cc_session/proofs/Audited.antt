@@ -12,9 +12,9 @@ use Rattle.cc_history.specs.declared.reply.Reply.TheVariants as reply
 use Rattle.cc_history.specs.History.{MemberView}
 use Rattle.cc_service.specs.Serving.{GetAnswers, ListAnswers}
 use Rattle.cc_service.specs.declared.fault.ServiceFault.{ServiceFault}
-use Rattle.cc_session.specs.Playing.{Audits, AuditsEach, CallsAndWrites, ListsAndAudits, Talk, talk}
-use Rattle.cc_session.specs.Telling.{SaysAudit, SaysRefusal, no_memory_text, refusal_text}
-use Rattle.cc_session.specs.internal.Calls.{AuditsName, AuditsNames, DoesAndTells, TellsAudit}
+use Rattle.cc_session.specs.Playing.{Audits, AuditsEach, CallsAndWrites, Talk, talk}
+use Rattle.cc_session.specs.Telling.{SaysAudit, no_memory_text, refusal_text}
+use Rattle.cc_session.specs.internal.Calls.{AuditsName, DoesAndTells}
 use Rattle.cc_session.proofs.Playing.{appended}
 
 -- the names from an index on are the one there and those after it

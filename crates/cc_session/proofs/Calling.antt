@@ -7,8 +7,6 @@ use Rattle.cc_session.specs.Session.{HaveCalled}
 use Rattle.cc_session.specs.Playing.{IsPlayedBy, talk}
 use Rattle.cc_session.specs.internal.Steps.{EndsFor}
 use Rattle.cc_session.specs.declared.end.SessionEnd.{SessionEnd}
-use Rattle.cc_session.specs.declared.end.SessionEnd.TheVariants.{Fault, Finished}
-use Rattle.cc_script.specs.Fault as faults
 
 pub called_by : {T : Type 0} (answer : Result T ScriptFault) (played : SessionEnd) (script before last after : Option (List ℕ)) (end : SessionEnd) (clients : List MemberView) (first now : MemberView)
     → first.receipts ≡ [] → clients ≡ now ∷ [] → IsPlayedBy Plain None script (talk first before) (talk now last) answer → EndsFor answer played → (end ≡ played → after ≡ last)

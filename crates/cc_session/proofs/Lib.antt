@@ -1,6 +1,7 @@
 pub mod Audited
 pub mod Calling
 pub mod Chains
+pub mod Cutting
 pub mod Ends
 pub mod Growing
 pub mod Lines

@@ -8,12 +8,13 @@ use Rattle.cc_script.specs.Line.{ScriptRequest, asked_of}
 use Rattle.cc_script.specs.Reading.{Ahead, Between, HasMore, IsLine, IsNext, IsNotRead}
 use Rattle.cc_script.specs.declared.command.Dialect.{Dialect}
 use Rattle.cc_script.specs.declared.fault.ScriptFault.{ScriptFault}
-use Rattle.cc_script.specs.declared.fault.ScriptFault.TheVariants.{BadLine, EndOfScript, ScriptTooLong, ReadFault, WriteFault}
+use Rattle.cc_script.specs.declared.fault.ScriptFault.TheVariants.{BadLine, EndOfScript, ScriptTooLong, ReadFault, WriteFault, Stopped}
 use Rattle.cc_script.specs.declared.script.NextLine.TheVariants.{End, Line, TooLong}
-use Rattle.cc_answers.specs.Telling.{Tells, script_fault_text}
+use Rattle.cc_answers.specs.Telling.{script_fault_text}
 use Rattle.cc_history.specs.History.{MemberView}
-use Rattle.cc_session.specs.Playing.{BeginsBad, BeginsLong, EndsInSource, EndsNoSource, Grows, HasUnended, IsBegun, IsCutIn, IsCutShort, IsEnding, IsEndedBy, IsLight, IsPlayed, IsPlayedBy, IsPlayedInPart, IsPlayedUpTo, IsStep, IsStopped, IsStoppedBy, IsTooLong, IsWithin, Obeys, Plays, Talk, Turn, Writes, talk}
-use Rattle.cc_session.specs.internal.Steps.{EndsBehind, IsHalted, IsLimit, IsNoLine, IsNotDone, MayGoOn}
+use Rattle.cc_session.specs.Playing.{BeginsBad, CutsLine, CutsNext, HasUnended, IsBegun, IsBounded, IsCutIn, IsCutShort, IsEnding, IsEndedBy, IsLight, IsPlayed, IsPlayedInPart, IsPlayedTill, IsPlayedUpTo, IsStep, IsStopped, IsStoppedBy, IsTooLong, IsWithin, Obeys, Plays, Talk, Turn, Writes, asked_by_line, talk}
+use Rattle.cc_session.specs.internal.Steps.{EndsBehind, IsLimit, IsNoLine, IsNotDone, IsObeyedNot, MayGoOn}
+use Rattle.cc_session.proofs.Cutting.{cut_obeyed}
 use Rattle.cc_session.proofs.Playing.{asks_short, between_none, between_on, known, known_both, known_by, known_map, known_then, more_before, obeyed_step, played, played_up_to, plays_on, too_long, too_long_step, unread_before}
 
 -- ---- lines that are done
@@ -173,7 +174,7 @@ at_bound most script first lines rest now bound some = subst (λ (o : Option ℕ
 
 -- a fault ended it
 abbrev pub IsHaltedBy : Dialect → (most : Option ℕ) → (script : Option (List ℕ)) (first last : Talk) → ScriptFault → Type 0
-IsHaltedBy dialect most script first last fault = IsEnding fault × IfSome script (λ b. IsStoppedBy dialect most fault b first last)
+IsHaltedBy dialect most script first last fault = IsEnding most fault × IfSome script (λ b. IsStoppedBy dialect most fault b first last)
 
 -- the next line could not be read, or not to its end
 unread_ends : (dialect : Dialect) (most : Option ℕ) (x y : Ahead) (count : ℕ) (start now last : Talk) (left : ℕ) (fault : ScriptFault) → x.left ≡ 16777216 → Between x y (Played dialect most count start now)
@@ -183,6 +184,7 @@ unread_ends dialect most x y count start now last left EndOfScript whole one beg
 unread_ends dialect most x y count start now last left ScriptTooLong whole one begun why = (tt, too_long_there dialect most x y count start now last whole one why.1 begun)
 unread_ends dialect most x y count start now last left ReadFault whole one begun why = (tt, anywhere dialect most x y count start now last one begun)
 unread_ends dialect most x y count start now last left WriteFault whole one begun why = absurd why
+unread_ends dialect most x y count start now last left Stopped whole one begun why = absurd why
 
 -- more of it is left, which is to be ended so
 limit_ends : (dialect : Dialect) (most : Option ℕ) (x y : Ahead) (count : ℕ) (start now : Talk) (fault : ScriptFault) → Between x y (Played dialect most count start now)
@@ -197,6 +199,18 @@ limit_ends dialect most x y count start now ScriptTooLong one bound some = (
 )
 limit_ends dialect most x y count start now ReadFault one bound some = absurd bound
 limit_ends dialect most x y count start now WriteFault one bound some = absurd bound
+limit_ends dialect most x y count start now Stopped one bound some = (
+  bound,
+  known_then x y (Played dialect most count start now) (λ b. b ≢ []) (λ b. IsPlayedTill dialect most b start now) one some (λ b m it left. record {
+    turns = it.turns;
+    few = few_of dialect most count start now b m it;
+    rest = m;
+    between = now;
+    plays = it.plays;
+    left = left;
+    then_is = inl refl;
+  }),
+)
 
 -- none came, for that reason, or since it can't be read
 pub no_line_ends : (dialect : Dialect) (most : Option ℕ) (x y : Ahead) (count : ℕ) (start now : Talk) (left : ℕ) (limit : Option ScriptFault) (fault : ScriptFault) → x.left ≡ 16777216
@@ -242,11 +256,12 @@ bad_line dialect y m old new n line few next (inr (bad, wrote)) =
     ))
 
 -- a line that was not obeyed, or whose answer could not be written
-pub line_ends : (dialect : Dialect) (most : Option ℕ) (x y m : Ahead) (count : ℕ) (start old new : Talk) (n : ℕ) (line : List ℕ) (fault : ScriptFault) → n ≤ 128 → MayGoOn most start.client count old.client → x.left ≡ 16777216
+line_ends : (dialect : Dialect) (most : Option ℕ) (x y m : Ahead) (count : ℕ) (start old new : Talk) (n : ℕ) (line : List ℕ) (fault : ScriptFault) → n ≤ 128 → MayGoOn most start.client count old.client → x.left ≡ 16777216
     → Between x y (Played dialect most count start old) → Between y m (λ b a. IsNext b (Line n) line a)
     → IsNotDone (λ b a o w. Obeys (asked_of dialect (take n line)) b a o w) (λ rest. IsCutShort (asked_of dialect (take n line)) rest) (λ rest. HasUnended (asked_of dialect (take n line)) rest) m old new fault
     → IsHaltedBy dialect most x.rest start new fault
 line_ends dialect most x y m count start old new n line BadLine few more whole one next ended = absurd ended
+line_ends dialect most x y m count start old new n line Stopped few more whole one next ended = absurd ended
 line_ends dialect most x y m count start old new n line EndOfScript few more whole one next ended =
     let stops = known_then y m (λ b a. IsNext b (Line n) line a) (λ rest. IsCutShort (asked_of dialect (take n line)) rest)
     (Halts dialect most count old old (λ script. IsCutIn dialect most start.client))
@@ -288,6 +303,43 @@ line_ends dialect most x y m count start old new n line WriteFault few more whol
             | inr step ↦ inr (subst (λ (l : ℕ). IsWithin most (l + 1)) (sym it.many) (within_more most count it.few more.0), more.1, step.0, step.1, step.2)
           ])),
     )
+
+-- a `run` was cut
+cut_ends : (dialect : Dialect) (most : Option ℕ) (x y m : Ahead) (count : ℕ) (start old new : Talk) (n : ℕ) (line : List ℕ) → n ≤ 128 → MayGoOn most start.client count old.client
+    → Between x y (Played dialect most count start old) → Between y m (λ b a. IsNext b (Line n) line a) → IsBounded most → CutsLine (asked_of dialect (take n line)) old new
+    → IsHaltedBy dialect most x.rest start new Stopped
+cut_ends dialect most x y m count start old new n line few more one next bounded cut =
+    let there = known_by y m (λ b a. IsNext b (Line n) line a) (λ b. (b ≢ []) × CutsNext dialect b old new) next (λ b k is. (
+      is.0,
+      record {
+        line = take n line;
+        rest = k;
+        is_line = is.1;
+        cut = subst (λ (asked : Option ScriptRequest). CutsLine asked old new) (sym (asks_short dialect (take n line) (short n line few))) cut;
+      },
+    )) in (
+      bounded,
+      known_then x y (Played dialect most count start old) (λ b. (b ≢ []) × CutsNext dialect b old new) (λ b. IsPlayedTill dialect most b start new) one there (λ b k it cuts. record {
+        turns = it.turns;
+        few = few_of dialect most count start old b k it;
+        rest = k;
+        between = old;
+        plays = it.plays;
+        left = cuts.0;
+        then_is = inr (subst (λ (l : ℕ). IsWithin most (l + 1)) (sym it.many) (within_more most count it.few more.0), more.1, cuts.1);
+      }),
+    )
+
+-- a line was not obeyed
+pub obey_ends : (dialect : Dialect) (most : Option ℕ) (x y m : Ahead) (count : ℕ) (start old new : Talk) (n : ℕ) (line : List ℕ) (fault : ScriptFault) → n ≤ 128 → MayGoOn most start.client count old.client → x.left ≡ 16777216
+    → Between x y (Played dialect most count start old) → Between y m (λ b a. IsNext b (Line n) line a) → IsObeyedNot most (asked_of dialect (take n line)) m old new fault
+    → IsHaltedBy dialect most x.rest start new fault
+obey_ends dialect most x y m count start old new n line BadLine few more whole one next ended = line_ends dialect most x y m count start old new n line BadLine few more whole one next ended
+obey_ends dialect most x y m count start old new n line EndOfScript few more whole one next ended = line_ends dialect most x y m count start old new n line EndOfScript few more whole one next ended
+obey_ends dialect most x y m count start old new n line ScriptTooLong few more whole one next ended = line_ends dialect most x y m count start old new n line ScriptTooLong few more whole one next ended
+obey_ends dialect most x y m count start old new n line ReadFault few more whole one next ended = line_ends dialect most x y m count start old new n line ReadFault few more whole one next ended
+obey_ends dialect most x y m count start old new n line WriteFault few more whole one next ended = line_ends dialect most x y m count start old new n line WriteFault few more whole one next ended
+obey_ends dialect most x y m count start old new n line Stopped few more whole one next ended = cut_ends dialect most x y m count start old new n line few more one next ended.0 ended.1
 
 -- more lines than a script may have bytes
 pub lines_end : (dialect : Dialect) (most : Option ℕ) (x y : Ahead) (count : ℕ) (start now : Talk) → 16777216 < count → Between x y (Played dialect most count start now)
@@ -332,16 +384,23 @@ in_part dialect most EndOfScript script old between new same it = part_of dialec
 in_part dialect most ScriptTooLong script old between new same it = part_of dialect most script (IsTooLong most script old.client) old between new same it
 in_part dialect most ReadFault script old between new same it = part_of dialect most script (λ lines rest client. Unit {0}) old between new same it
 in_part dialect most WriteFault script old between new same it = in_part_of dialect most script old between new same it
+in_part dialect most Stopped script old between new same it =
+    played_up_to dialect most script old it.turns it.rest it.between new it.few it.plays (elim it.then_is [
+      | inl as_it_was ↦ inl (same ∙ ap (λ (t : Talk). t.client) as_it_was)
+      | inr (few, light, cuts) ↦
+          let step = cut_obeyed (asked_by_line dialect cuts.line) cuts.rest it.between between new same cuts.cut in
+          inr (few, light, cuts.rest, step.0, record { line = cuts.line; rest = cuts.rest; is_line = cuts.is_line; obeyed = step.1 })
+    ])
 
 -- the script was done as far as the fault says, and then the fault's line was written
-pub line_written : (dialect : Dialect) (most : Option ℕ) (script : Option (List ℕ)) (old between new : Talk) (fault : ScriptFault) → IsEnding fault × IfSome script (λ b. IsStoppedBy dialect most fault b old between)
+pub line_written : (dialect : Dialect) (most : Option ℕ) (script : Option (List ℕ)) (old between new : Talk) (fault : ScriptFault) → IsEnding most fault × IfSome script (λ b. IsStoppedBy dialect most fault b old between)
     → Writes (script_fault_text fault) between new → IsStopped dialect most script old new fault
 line_written dialect most script old between new fault it wrote =
     (it.0, known_map script (λ b. IsStoppedBy dialect most fault b old between) (λ b. IsEndedBy dialect most fault b old new) it.1 (λ b by. (between, by, wrote)))
 
 -- if the line could not be written the fault is 54
 pub line_unwritten : (dialect : Dialect) (most : Option ℕ) (script : Option (List ℕ)) (old between new : Talk) (fault unwritten : ScriptFault) → new.client ≡ between.client → unwritten ≡ WriteFault
-    → IsEnding fault × IfSome script (λ b. IsStoppedBy dialect most fault b old between) → IsStopped dialect most script old new unwritten
+    → IsEnding most fault × IfSome script (λ b. IsStoppedBy dialect most fault b old between) → IsStopped dialect most script old new unwritten
 line_unwritten dialect most script old between new fault unwritten same is it =
     subst (λ (f : ScriptFault). IsStopped dialect most script old new f) (sym is) (
       tt,

@@ -10,12 +10,12 @@ use Rattle.cc_script.specs.Line.{ScriptRequest, asked_of}
 use Rattle.cc_script.specs.Reading.{Ahead, Between, HasMore, IsLine, IsLineEnd, IsNext, IsNoSource, IsNotRead, IsRead, IsSource, Known, rest_from}
 use Rattle.cc_script.specs.declared.command.Dialect.{Dialect}
 use Rattle.cc_script.specs.declared.fault.ScriptFault.{ScriptFault}
-use Rattle.cc_script.specs.declared.fault.ScriptFault.TheVariants.{BadLine, EndOfScript, ScriptTooLong, ReadFault, WriteFault}
+use Rattle.cc_script.specs.declared.fault.ScriptFault.TheVariants.{BadLine, EndOfScript, ScriptTooLong, ReadFault, WriteFault, Stopped}
 use Rattle.cc_script.specs.declared.script.NextLine.{NextLine}
 use Rattle.cc_script.specs.declared.script.NextLine.TheVariants.{End, Line, TooLong}
 use Rattle.cc_answers.specs.Telling.{Tells, script_fault_text}
 use Rattle.cc_history.specs.History.{MemberView}
-use Rattle.cc_session.specs.Playing.{IsBegun, IsLight, IsPlayed, IsPlayedInPart, IsStep, IsUnended, IsWithin, Obeys, Plays, Talk, Turn, Writes, asked_by_line, talk}
+use Rattle.cc_session.specs.Playing.{IsBegun, IsLight, IsPlayed, IsPlayedInPart, IsStep, IsWithin, Obeys, Plays, Talk, Turn, Writes, asked_by_line, talk}
 use Rattle.cc_session.specs.internal.Calls.{DoesAndTells}
 use Rattle.cc_session.specs.internal.Steps.{HasSent, IsDone, IsNotDone, IsSentAs, IsShortOf}
 use Rattle.cc_session.specs.declared.reading.Sent.{Sent}
@@ -138,6 +138,7 @@ unread_before x y P left EndOfScript one why = absurd why
 unread_before x y P left ScriptTooLong one why = (why.0, more_before x y P one why.1)
 unread_before x y P left ReadFault one why = tt
 unread_before x y P left WriteFault one why = absurd why
+unread_before x y P left Stopped one why = absurd why
 
 -- a source, or the end of its line
 pub no_source : (x y : Ahead) (P : List ℕ → List ℕ → Type 0) (count left : ℕ) (fault : ScriptFault) → Between x y P → IsNotRead y left fault → IsNoSource x count left fault
@@ -146,6 +147,7 @@ no_source x y P count left EndOfScript one why = absurd why
 no_source x y P count left ScriptTooLong one why = unread_before x y P left ScriptTooLong one why
 no_source x y P count left ReadFault one why = tt
 no_source x y P count left WriteFault one why = absurd why
+no_source x y P count left Stopped one why = absurd why
 
 -- then nothing was done
 pub not_read : (Does : List ℕ → List ℕ → Talk → Talk → Type 0) (IsShort IsBad : List ℕ → Type 0) (x : Ahead) (left : ℕ) (old new : Talk) (fault : ScriptFault)
@@ -155,6 +157,7 @@ not_read Does IsShort IsBad x left old new EndOfScript begun why = absurd why
 not_read Does IsShort IsBad x left old new ScriptTooLong begun why = (begun, why.1)
 not_read Does IsShort IsBad x left old new ReadFault begun why = begun
 not_read Does IsShort IsBad x left old new WriteFault begun why = absurd why
+not_read Does IsShort IsBad x left old new Stopped begun why = absurd why
 
 pub not_sent : (Does : List ℕ → List ℕ → Talk → Talk → Type 0) (IsBad : List ℕ → Type 0) (x : Ahead) (count left : ℕ) (h : Talk) (fault : ScriptFault)
     → IsNoSource x count left fault → IsNotDone Does (IsShortOf count) IsBad x h h fault
@@ -163,6 +166,7 @@ not_sent Does IsBad x count left h EndOfScript why = (refl, why)
 not_sent Does IsBad x count left h ScriptTooLong why = not_read Does (IsShortOf count) IsBad x left h h ScriptTooLong (inl refl) why
 not_sent Does IsBad x count left h ReadFault why = inl refl
 not_sent Does IsBad x count left h WriteFault why = absurd why
+not_sent Does IsBad x count left h Stopped why = absurd why
 
 -- ---- lines
 

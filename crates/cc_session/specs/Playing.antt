@@ -5,7 +5,7 @@ use Rattle.cc_script.specs.Line.{ScriptRequest, Add, Replace, Withdraw, Names, R
 use Rattle.cc_script.specs.Reading.{IsLine}
 use Rattle.cc_script.specs.declared.command.Dialect.{Dialect}
 use Rattle.cc_script.specs.declared.fault.ScriptFault.{ScriptFault}
-use Rattle.cc_script.specs.declared.fault.ScriptFault.TheVariants.{BadLine, EndOfScript, ScriptTooLong, ReadFault, WriteFault}
+use Rattle.cc_script.specs.declared.fault.ScriptFault.TheVariants.{BadLine, EndOfScript, ScriptTooLong, ReadFault, WriteFault, Stopped}
 use Rattle.cc_answers.specs.Text.{line}
 use Rattle.cc_answers.specs.Telling.{script_fault_text}
 use Rattle.cc_task.specs.declared.part.Part.TheVariants as part
@@ -16,7 +16,7 @@ use Rattle.cc_history.specs.Held.{receipts_bytes}
 use Rattle.cc_history.specs.History.{MemberView}
 use Rattle.cc_service.specs.Serving.{Adds, Replaces, GetAnswers, ListAnswers, PutAnswers, WithdrawAnswers}
 use Rattle.cc_service.specs.declared.fault.ServiceFault.{ServiceFault}
-use Rattle.cc_session.specs.Telling.{SaysAudit, SaysChange, SaysNames, SaysRefusal, SaysRun, SaysShown, done_text, no_memory_text}
+use Rattle.cc_session.specs.Telling.{IsCutRun, SaysAudit, SaysChange, SaysNames, SaysRefusal, SaysRun, SaysShown, done_text, no_memory_text}
 
 -- a client, and what the writer of its answers holds, if that is known
 pub record Talk : Type 0 where
@@ -216,19 +216,53 @@ pub record IsPlayedUpTo (dialect : Dialect) (most : Option ℕ) (script : List �
 abbrev pub IsCutIn : Dialect → (most : Option ℕ) (first : MemberView) (lines : ℕ) (rest : List ℕ) (now : MemberView) → Type 0
 IsCutIn dialect most first lines rest now = IsWithin most (lines + 1) × IsLight most first now × EndsInSource dialect rest
 
--- the faults that end a script: 51 to 54
-abbrev pub IsEnding : ScriptFault → Type 0
-IsEnding BadLine = ⊥
-IsEnding fault = Unit {0}
+-- the unit of a `run` was fetched, whose image is not at its end behind some of the steps, and nothing was written of it
+abbrev pub CutsRun : (name : List ℕ) (steps : ℕ) (old new : Talk) → Type 0
+CutsRun name steps old new = (receipt : Receipt) × GetAnswers name old.client new.client (Ok receipt) × IsCutRun steps receipt.entry.reply × (new.written ≡ old.written)
+
+-- so of a line that asks for it
+abbrev pub CutsLine : Option ScriptRequest → (old new : Talk) → Type 0
+CutsLine (Some (Run name steps)) old new = CutsRun name steps old new
+CutsLine asked old new = ⊥
+
+-- the next line is such a one
+pub record CutsNext (dialect : Dialect) (before : List ℕ) (old new : Talk) : Type 0 where
+  pub line : List ℕ
+  pub rest : List ℕ
+  pub is_line : IsLine before line rest
+  pub cut : CutsLine (asked_by_line dialect line) old new
+
+-- A prefix of the script is done, all answers to it are written, and more of it is left. Nothing of that was done, or the next line is a `run` that was
+-- cut.
+pub record IsPlayedTill (dialect : Dialect) (most : Option ℕ) (script : List ℕ) (first last : Talk) : Type 0 where
+  pub turns : List Turn
+  pub few : IsWithin most (length turns)
+  pub rest : List ℕ
+  pub between : Talk
+  pub plays : Plays dialect (IsLight most first.client) script first turns rest between
+  pub left : rest ≢ []
+  pub then_is : (last ≡ between) ⊎ (IsWithin most (length turns + 1) × IsLight most first.client between.client × CutsNext dialect rest between last)
+
+-- there is a bound on the lines
+abbrev pub IsBounded : (most : Option ℕ) → Type 0
+IsBounded None = ⊥
+IsBounded (Some most) = Unit {0}
+
+-- the faults that end a script: 51 to 54; of one with a bound also 61
+abbrev pub IsEnding : (most : Option ℕ) → ScriptFault → Type 0
+IsEnding most BadLine = ⊥
+IsEnding most Stopped = IsBounded most
+IsEnding most fault = Unit {0}
 
 -- How far a script was done that such a fault ended. That it could not be read, 53, or that an answer could not be written, 54, is known to
--- its reader and its writer alone.
+-- its reader and its writer alone; that it is to end, 61, to whoever is asked that.
 abbrev pub IsStoppedBy : Dialect → (most : Option ℕ) → ScriptFault → (script : List ℕ) (first last : Talk) → Type 0
 IsStoppedBy dialect most BadLine script first last = ⊥
 IsStoppedBy dialect most EndOfScript script first last = IsPlayedUpTo dialect most script (IsCutIn dialect most first.client) first last
 IsStoppedBy dialect most ScriptTooLong script first last = IsPlayedUpTo dialect most script (IsTooLong most script first.client) first last
 IsStoppedBy dialect most ReadFault script first last = IsPlayedUpTo dialect most script (λ lines rest client. Unit {0}) first last
 IsStoppedBy dialect most WriteFault script first last = IsPlayedInPart dialect most script first last
+IsStoppedBy dialect most Stopped script first last = IsPlayedTill dialect most script first last
 
 -- so, and then the fault's line was written; 54 has none
 abbrev pub IsEndedBy : Dialect → (most : Option ℕ) → ScriptFault → (script : List ℕ) (first last : Talk) → Type 0
@@ -243,7 +277,7 @@ Grows old new = (new.number ≡ old.number) × ((more : List Receipt) × (new.re
 
 -- a fault that ends scripts ended it, and it is done as far as that says
 abbrev pub IsStopped : Dialect → (most : Option ℕ) (script : Option (List ℕ)) (old new : Talk) → ScriptFault → Type 0
-IsStopped dialect most script old new fault = IsEnding fault × IfSome script (λ bytes. IsEndedBy dialect most fault bytes old new)
+IsStopped dialect most script old new fault = IsEnding most fault × IfSome script (λ bytes. IsEndedBy dialect most fault bytes old new)
 
 -- it is done whole; or a fault ended it, and it is done as far as that says
 abbrev pub IsPlayedBy : {T : Type 0} → Dialect → (most : Option ℕ) (script : Option (List ℕ)) (old new : Talk) → Result T ScriptFault → Type 0

@@ -42,7 +42,7 @@ abbrev pub HaveCalled : (script before after : Option (List ℕ)) (end : Session
 HaveCalled script before after end clients Finished = HasCalled script before after Finished end clients (IsPlayed Plain None)
 HaveCalled script before after end clients (Fault number) =
     ((number ≡ 30) × (clients ≡ []))
-    ⊎ ((fault : ScriptFault) × IsEnding fault × (number ≡ faults.fault_number fault) × HasCalled script before after (Fault number) end clients (IsEndedBy Plain None fault))
+    ⊎ ((fault : ScriptFault) × IsEnding None fault × (number ≡ faults.fault_number fault) × HasCalled script before after (Fault number) end clients (IsEndedBy Plain None fault))
 
 -- What is left of a service that was opened: its library, with the history of its calls, from the map on to which the bytes recover.
 -- Its clients have receipts of their own calls, in their order, and this holds of the history and of them.

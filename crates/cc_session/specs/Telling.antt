@@ -1,11 +1,14 @@
 -- What is written of what a service answered, byte for byte.
-use Rattle.std.specs.Prelude.{◌≡◌, ◌⊎◌, ℕ, Bool, true, false, List, [], Option, Result, Ok, Err, codes}
+use Rattle.std.specs.Prelude.{◌≡◌, ◌⊎◌, ◌<◌, ℕ, Bool, true, false, List, [], Result, Ok, Err, codes}
 use Rattle.cc_link.specs.Text.{text_fault_place}
 use Rattle.cc_link.specs.declared.audit_answer.Audit.{Audit}
 use Rattle.cc_library.specs.unit.StoredUnit.{StoredUnit}
 use Rattle.cc_history.specs.declared.entry.Receipt.{Receipt}
 use Rattle.cc_history.specs.declared.reply.Reply.{Reply}
 use Rattle.cc_history.specs.declared.reply.Reply.TheVariants.{Unit, Names}
+use Rattle.cc_rv32.specs.Machine.{machine_behavior}
+use Rattle.cc_rv32.specs.declared.image.Image.{Image}
+use Rattle.cc_rv32.specs.declared.outcome.MachineOutcome.TheVariants.{Going}
 use Rattle.cc_task.specs.declared.part.Part.{Part}
 use Rattle.cc_answers.specs.Run.{IsRunOf}
 use Rattle.cc_answers.specs.Text.{fault_line, function_text, line, place_text, run_text}
@@ -60,6 +63,16 @@ pub record IsRunText (steps : ℕ) (reply : Reply) (text : List ℕ) : Type 0 wh
   pub run : ImageRun
   pub ran : IsRunOf unit.image steps [] run
   pub text_is : text ≡ run_text run
+
+-- behind some of the steps, and fewer than all, an image is not at its end
+abbrev pub IsCutOff : Image → (steps : ℕ) → Type 0
+IsCutOff image steps = (done : ℕ) × (done < steps) × ((machine_behavior image [] done).outcome ≡ Going)
+
+-- so the image of the reply's unit
+pub record IsCutRun (steps : ℕ) (reply : Reply) : Type 0 where
+  pub unit : StoredUnit
+  pub found : reply ≡ Unit unit
+  pub cut : IsCutOff unit.image steps
 
 -- of a run: what the image of the unit that was found does; or that memory ran out
 abbrev pub SaysRun : (steps : ℕ) → Result Receipt ServiceFault → (text : List ℕ) → Type 0

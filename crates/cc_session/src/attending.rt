@@ -8,6 +8,7 @@ ghost use Rattle.cc_session.specs.internal.Ends.{EndOf};
 
 use crate::bounds::Meter;
 use crate::calls::Player;
+use crate::patience::{Others, Patience, Unhurried};
 use crate::reading::Reading;
 use cc_disk::Disk;
 use cc_script::{Dialect, ScriptFault};
@@ -46,9 +47,49 @@ where
     ensures played { IsPlayedBy dialect most (R.remaining reader.old) (talk client.old.member (W.contents writer.old)) (talk client.new.member (W.contents writer.new)) result }
     ensures grows { Grows client.old.member client.new.member }
 {
+    play_while(
+        rt,
+        alloc,
+        service,
+        client,
+        reader,
+        writer,
+        explanations,
+        dialect,
+        most,
+        &Unhurried,
+    )
+}
+
+// Does so while there is patience, if there is a bound.
+fn play_while<N, H, R: Read, W: Write, E: Write, D, P: Patience>(
+    rt: &H,
+    alloc: Global,
+    service: &Service<N, D>,
+    client: &mut Client<N>,
+    reader: &mut R,
+    writer: &mut W,
+    explanations: &mut E,
+    dialect: Dialect,
+    most: Option<usize>,
+    patience: &P,
+) -> Result<(), ScriptFault>
+where
+    N: Named + Send + Sync + 'static,
+    H: Wait,
+    D: Disk,
+    ensures played { IsPlayedBy dialect most (R.remaining reader.old) (talk client.old.member (W.contents writer.old)) (talk client.new.member (W.contents writer.new)) result }
+    ensures grows { Grows client.old.member client.new.member }
+{
     let mut script = Reading::new(reader);
-    let player = Player { rt, alloc, service };
-    player.play(client, &mut script, dialect, most, writer, explanations)
+    let player = Player {
+        rt,
+        alloc,
+        service,
+        most,
+        patience,
+    };
+    player.play(client, &mut script, dialect, writer, explanations)
 }
 
 // The number of the fault that ended a script.
@@ -69,6 +110,7 @@ fn attend_script<N, H, S, D>(
     service: &Service<N, D>,
     client: &mut Client<N>,
     spool: &mut S,
+    meter: &Meter,
     mut script: S::Script,
     mut answer: S::Answer,
 )
@@ -81,7 +123,7 @@ where
     ensures done { (delivered : Delivered) × (S.ended spool.new ≡ S.ended spool.old ++ delivered ∷ [])
         × IsDoneBy (taken_as (S.Script.remaining script) (S.Answer.contents answer)) delivered client.old.member client.new.member }
 {
-    let played = play(
+    let played = play_while(
         rt,
         alloc,
         service,
@@ -91,6 +133,10 @@ where
         &mut io::sink(),
         Dialect::Served,
         Some(MOST_LINES),
+        &Others {
+            spool: &*spool,
+            meter,
+        },
     );
     spool.deliver(script, answer, end_of(played));
 }
@@ -121,7 +167,7 @@ where
     if let Some((script, answer)) = spool.next() {
         meter.begin_script();
         let seen = client.receipts().len();
-        attend_script(rt, alloc, service, client, spool, script, answer);
+        attend_script(rt, alloc, service, client, spool, meter, script, answer);
         let entries = client.receipts().len().saturating_sub(seen);
         meter.end_script(entries as u64, client.held_since(seen));
     }
@@ -132,7 +178,10 @@ where
 /// meter is full that all clients of the service share. Of each 65,536 lines are done at most, and none behind those whose receipts hold more
 /// than 256 MiB; of one that has more the answer ends in the line of 52.
 ///
-/// A fault that ends a script, 51 to 54, ends it alone: its answer is handed over with the fault's number, and the next is taken. The line
+/// A script that has been at work for long ends by 61 behind the line at work, or within a `run`, if others wait (`is_long`, `is_awaited`) or the
+/// meter is full, and if it has more.
+///
+/// A fault that ends a script, 51 to 54 or 61, ends it alone: its answer is handed over with the fault's number, and the next is taken. The line
 /// of the fault is the answer's last, but of 54 there is none: what becomes of an answer that can't be written is the spool's matter.
 pub fn attend<N, H, S, D>(
     rt: &H,

@@ -5,18 +5,19 @@ ghost use Rattle.cc_answers.specs.Telling.{Tells};
 ghost use Rattle.cc_script.specs.Line.{asked_of};
 ghost use Rattle.cc_history.specs.History.{MemberView};
 ghost use Rattle.cc_service.specs.Serving.{GetAnswers, ListAnswers, PutAnswers, Puts, WithdrawAnswers};
-ghost use Rattle.cc_session.specs.Playing.{Audits, Compacts, Grows, HasUnended, IsCutShort, IsPlayedBy, IsSent, IsUnended, Obeys, talk};
-ghost use Rattle.cc_session.specs.Telling.{SaysChange, SaysNames, SaysRun, SaysShown};
-ghost use Rattle.cc_session.specs.internal.Calls.{AuditsName, AuditsNames, CallsAndTells, DoesAndTells, TellsAudit};
-ghost use Rattle.cc_session.specs.internal.Steps.{IsDone, IsHalted, IsShortOf};
+ghost use Rattle.cc_session.specs.Playing.{Audits, Compacts, Grows, IsPlayedBy, IsSent, IsUnended, talk};
+ghost use Rattle.cc_session.specs.Telling.{SaysChange, SaysNames, SaysShown};
+ghost use Rattle.cc_session.specs.internal.Calls.{AuditsName, AuditsNames, CallsAndTells, DoesAndTells, RunsAndTells, TellsAudit, TellsRun};
+ghost use Rattle.cc_session.specs.internal.Steps.{IsDone, IsHalted, IsObeyed, IsShortOf};
 
 use crate::auditing::audit_found;
 use crate::held::Held;
+use crate::patience::{Patience, run_in_slices};
 use crate::reading::{Reading, Sent};
 use crate::showing::text_of;
 use crate::telling::{refuse, tell_change, tell_done};
 use cc_answers::{
-    run_image, tell_audit, tell_fault, tell_names, tell_no_memory, tell_ok, tell_run, tell_text,
+    tell_audit, tell_fault, tell_names, tell_no_memory, tell_ok, tell_run, tell_text,
 };
 use cc_disk::Disk;
 use cc_library::Name;
@@ -29,15 +30,17 @@ use std::alloc::Global;
 use std::io::{Read, Write};
 use std::sync::Wait;
 
-// What plays the scripts of a service's clients.
+// What plays the scripts of a service's clients: of each so many lines at most, if there is a bound, and then while there is patience.
 #[derive(Drop)]
-pub(crate) struct Player<'a, N: Named, H, D: Disk> {
+pub(crate) struct Player<'a, N: Named, H, D: Disk, P> {
     pub(crate) rt: &'a H,
     pub(crate) alloc: Global,
     pub(crate) service: &'a Service<N, D>,
+    pub(crate) most: Option<usize>,
+    pub(crate) patience: &'a P,
 }
 
-impl<'a, N: Named + Send + Sync + 'static, H: Wait, D: Disk> Player<'a, N, H, D> {
+impl<'a, N: Named + Send + Sync + 'static, H: Wait, D: Disk, P: Patience> Player<'a, N, H, D, P> {
     // Adds or replaces a unit, whose source this is.
     fn change<W: Write, E: Write>(
         &self,
@@ -112,7 +115,7 @@ impl<'a, N: Named + Send + Sync + 'static, H: Wait, D: Disk> Player<'a, N, H, D>
         }
     }
 
-    // Runs the image of a unit that was found.
+    // Runs the image of a unit that was found, or begins to.
     fn run_found<W: Write, E: Write>(
         &self,
         found: Found,
@@ -120,10 +123,12 @@ impl<'a, N: Named + Send + Sync + 'static, H: Wait, D: Disk> Player<'a, N, H, D>
         answers: &mut W,
         explanations: &mut E,
     ) -> Result<(), ScriptFault>
-        ensures { (text : List ℕ) × SaysRun steps (Ok found) text × Tells (W.contents answers.old) (W.contents answers.new) text result }
+        ensures { TellsRun self.now.most steps found (W.contents answers.old) (W.contents answers.new) result }
     {
-        match run_image(self.alloc, &found.unit().stored().image, &[], steps) {
-            Ok(run) => tell_run(&run, answers),
+        let image = &found.unit().stored().image;
+        match run_in_slices(self.alloc, image, steps, self.most.is_some(), self.patience) {
+            Ok(Some(run)) => tell_run(&run, answers),
+            Ok(None) => Err(ScriptFault::Stopped),
             Err(_) => tell_no_memory(answers, explanations),
         }
     }
@@ -137,7 +142,7 @@ impl<'a, N: Named + Send + Sync + 'static, H: Wait, D: Disk> Player<'a, N, H, D>
         answers: &mut W,
         explanations: &mut E,
     ) -> Result<(), ScriptFault>
-        ensures { CallsAndTells (GetAnswers name.now) (SaysRun steps) (talk client.old.member (W.contents answers.old)) (talk client.new.member (W.contents answers.new)) result }
+        ensures { RunsAndTells self.now.most name.now steps (talk client.old.member (W.contents answers.old)) (talk client.new.member (W.contents answers.new)) result }
     {
         match self.service.get(self.rt, self.alloc, client, name) {
             Ok(found) => self.run_found(found, steps, answers, explanations),
@@ -283,8 +288,7 @@ impl<'a, N: Named + Send + Sync + 'static, H: Wait, D: Disk> Player<'a, N, H, D>
         answers: &mut W,
         explanations: &mut E,
     ) -> Result<(), ScriptFault>
-        ensures done { IsDone (λ before after old new. Obeys (asked_of dialect line.now) before after old new)
-            (λ rest. IsCutShort (asked_of dialect line.now) rest) (λ rest. HasUnended (asked_of dialect line.now) rest)
+        ensures done { IsObeyed self.now.most (asked_of dialect line.now)
             script.old script.new (talk client.old.member (W.contents answers.old)) (talk client.new.member (W.contents answers.new)) result }
         ensures grows { Grows client.old.member client.new.member }
     {
@@ -330,18 +334,17 @@ impl<'a, N: Named + Send + Sync + 'static, H: Wait, D: Disk> Player<'a, N, H, D>
         }
     }
 
-    // Does what a script of this dialect asks for, up to its end or a fault that ends it; if there is a bound, so many lines at most.
+    // Does what a script of this dialect asks for, up to its end or a fault that ends it.
     fn play_lines<R: Read, W: Write, E: Write>(
         &self,
         client: &mut Client<N>,
         script: &mut Reading<R>,
         dialect: Dialect,
-        most: Option<usize>,
         answers: &mut W,
         explanations: &mut E,
     ) -> Result<(), ScriptFault>
         requires { script.old.left ≡ 16777216 }
-        ensures halted { IsHalted dialect most script.old.rest (talk client.old.member (W.contents answers.old)) (talk client.new.member (W.contents answers.new)) result }
+        ensures halted { IsHalted dialect self.now.most script.old.rest (talk client.old.member (W.contents answers.old)) (talk client.new.member (W.contents answers.new)) result }
         ensures grows { Grows client.old.member client.new.member }
     {
         let mut line = [0u8; LINE_BYTES];
@@ -349,7 +352,8 @@ impl<'a, N: Named + Send + Sync + 'static, H: Wait, D: Disk> Player<'a, N, H, D>
         // Each line but the last takes a byte at least.
         for lines in 0..=MOST_BYTES {
             held.count(client);
-            match script.next_line(&mut line, held.limit(most, lines))? {
+            let limit = held.limit(self.most, lines, self.patience);
+            match script.next_line(&mut line, limit)? {
                 NextLine::Line(length) => self.obey(
                     client,
                     script,
@@ -371,15 +375,14 @@ impl<'a, N: Named + Send + Sync + 'static, H: Wait, D: Disk> Player<'a, N, H, D>
         client: &mut Client<N>,
         script: &mut Reading<R>,
         dialect: Dialect,
-        most: Option<usize>,
         answers: &mut W,
         explanations: &mut E,
     ) -> Result<(), ScriptFault>
         requires { script.old.left ≡ 16777216 }
-        ensures played { IsPlayedBy dialect most script.old.rest (talk client.old.member (W.contents answers.old)) (talk client.new.member (W.contents answers.new)) result }
+        ensures played { IsPlayedBy dialect self.now.most script.old.rest (talk client.old.member (W.contents answers.old)) (talk client.new.member (W.contents answers.new)) result }
         ensures grows { Grows client.old.member client.new.member }
     {
-        match self.play_lines(client, script, dialect, most, answers, explanations) {
+        match self.play_lines(client, script, dialect, answers, explanations) {
             Ok(()) => Ok(()),
             Err(fault) => match tell_fault(fault, answers, explanations) {
                 Ok(()) => Err(fault),

@@ -4,6 +4,7 @@ ghost use Rattle.cc_history.specs.History.{MemberView};
 ghost use Rattle.cc_session.specs.Playing.{Grows};
 ghost use Rattle.cc_session.specs.internal.Steps.{CountsSince, IsLimit};
 
+use crate::patience::Patience;
 use cc_script::ScriptFault;
 use cc_service::{Client, Named};
 
@@ -42,13 +43,19 @@ impl Held {
 
     // The fault that ends a script behind so many lines where more of it is left; none where a further line may be done.
     #[tactic(auto, using(crate::proofs::Weighing::much, crate::proofs::Weighing::light))]
-    pub(crate) fn limit(&self, most: Option<usize>, lines: usize) -> Option<ScriptFault>
+    pub(crate) fn limit<P: Patience>(
+        &self,
+        most: Option<usize>,
+        lines: usize,
+        patience: &P,
+    ) -> Option<ScriptFault>
         ensures { (first now : MemberView) → CountsSince first.receipts now.receipts self.now → IsLimit most first lines now result }
     {
         match most {
             Some(most) if most == lines || MOST_HELD < self.bytes => {
                 Some(ScriptFault::ScriptTooLong)
             }
+            Some(_) if 0 < lines && patience.is_out() => Some(ScriptFault::Stopped),
             Some(_) | None => None,
         }
     }

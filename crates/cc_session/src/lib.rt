@@ -3,7 +3,7 @@
 //!
 //! `running` opens the service and ends it, `serving` does so for many clients, `generations` one such service behind the other, `attending`
 //! does one script, or those of a spool, by a client of a service that runs. `bounds` says when a service is ended so that the next begins,
-//! `steward` who is told of it. `reading` reads a script, `held` says how far it may go, `calls` does its commands, `auditing` audits a unit,
+//! `steward` who is told of it. `reading` reads a script, `held` says how far it may go, `patience` whether others wait, `calls` does its commands, `auditing` audits a unit,
 //! `showing` has the text of its image or its source, `telling` tells what the service answered, `end` is how a session ended. Which commands
 //! a script has is the matter of `cc_script`, where scripts come from that of `cc_spool`, how an answer is written and a fault explained that
 //! of `cc_answers`.
@@ -18,6 +18,7 @@ mod calls;
 mod end;
 mod generations;
 mod held;
+mod patience;
 mod reading;
 mod running;
 mod serving;

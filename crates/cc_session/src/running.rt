@@ -14,6 +14,7 @@ ghost use Rattle.cc_session.specs.internal.Steps.{EndsFor};
 
 use crate::calls::Player;
 use crate::end::SessionEnd;
+use crate::patience::Unhurried;
 use crate::reading::Reading;
 use crate::telling::{refused, tell_estranged};
 use cc_answers::tell_no_memory;
@@ -125,15 +126,14 @@ where
 {
     match service.client(rt, alloc) {
         Ok(mut client) => {
-            let player = Player { rt, alloc, service };
-            let played = player.play(
-                &mut client,
-                script,
-                Dialect::Plain,
-                None,
-                answers,
-                explanations,
-            );
+            let player = Player {
+                rt,
+                alloc,
+                service,
+                most: None,
+                patience: &Unhurried,
+            };
+            let played = player.play(&mut client, script, Dialect::Plain, answers, explanations);
             clients.push_reserved(client);
             ended(played)
         }

@@ -9,7 +9,7 @@ pub record Taken : Type 0 where
 abbrev pub taken_as : (script begun : Option (List ℕ)) → Taken
 taken_as script begun = record { script = script; begun = begun }
 
--- an answer that was handed over: what its writer holds, if that is known; and the number of the fault that ended its script, 51 to 54, if one did
+-- an answer that was handed over: what its writer holds, if that is known; and the number of the fault that ended its script, 51 to 54 or 61, if one did
 pub record Delivered : Type 0 where
   pub answer : Option (List ℕ)
   pub end : Option ℕ

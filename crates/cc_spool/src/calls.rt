@@ -192,14 +192,14 @@ impl FolderLayout {
         self.open_along(OpenOptions::new().read(true), self.part(part))
     }
 
-    /// Opens `lock`, and makes it where it is not there.
+    /// Opens `lock`, which is there: no file is made along a link that has its place.
     pub(crate) fn open_lock(&self) -> Result<File, Refusal> {
         let mut how = OpenOptions::new();
-        how.read(true).write(true).create(true);
+        how.read(true).write(true);
         self.open_along(&how, self.part("lock"))
     }
 
-    /// Makes a file in the folder itself.
+    /// Makes a file in the folder itself, if nothing has its name, a link neither.
     pub(crate) fn make_part_file(&self, part: &str) -> Result<File, Refusal> {
         let mut how = OpenOptions::new();
         how.write(true).create_new(true).mode(0o600);

@@ -170,12 +170,21 @@ fn begin(layout: &FolderLayout, name: &str, file: File) -> ClaimResult {
     }
 }
 
+/// Whether the script of that name can be claimed; none if it is gone. Nothing is opened for that.
+pub(crate) fn may_be_claimed(layout: &FolderLayout, name: &str) -> Option<bool> {
+    match layout.look(Place::Waiting, name) {
+        Ok(Some(found)) => Some(found.is_file() && is_unused(layout, name)),
+        Ok(None) => None,
+        Err(_) => Some(false),
+    }
+}
+
 /// Claims the script of that name, where that can be done.
 pub(crate) fn claim(layout: &FolderLayout, name: &str) -> ClaimResult {
-    match layout.look(Place::Waiting, name) {
-        Ok(Some(found)) if found.is_file() && is_unused(layout, name) => {}
-        Ok(None) => return ClaimResult::Gone,
-        _ => return ClaimResult::Left,
+    match may_be_claimed(layout, name) {
+        Some(true) => {}
+        Some(false) => return ClaimResult::Left,
+        None => return ClaimResult::Gone,
     }
     // Only one can make it.
     let Ok(file) = layout.make(Place::Answer, name) else {

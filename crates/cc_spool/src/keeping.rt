@@ -26,15 +26,19 @@ const EACH_IF_FULL: u64 = 10;
 
 const DAY: i64 = 86_400;
 
-/// How many answers a server keeps.
+/// How many answers a server keeps, and for how long it does one script.
 #[derive(Clone, Copy, Drop)]
 pub struct Limits {
-    /// For how many days.
+    /// For how many days it keeps an answer.
     pub days: u32,
-    /// How many bytes of them.
+    /// How many bytes of answers it keeps.
     pub bytes: u64,
     /// Whether nothing is reported on standard error.
     pub is_quiet: bool,
+    /// For how many seconds a script may be at work while others wait.
+    pub patience: u32,
+    /// How many clients the server has.
+    pub clients: usize,
 }
 
 // An answer in `done`.
@@ -80,11 +84,6 @@ impl Keeping {
         taken: u64,
     ) -> Result<Option<u64>, Refusal> {
         let now = Instant::now(&layout.rt)?;
-        let Some(cleared) = self.cleared else {
-            // A generation's start has just done it.
-            self.cleared = Some(now);
-            return Ok(None);
-        };
         // Once they are counted to take too much they are looked at; then, if none of them may go, now and again.
         let each = if taken <= self.limits.bytes {
             EACH
@@ -93,7 +92,10 @@ impl Keeping {
         } else {
             0
         };
-        if now.duration_since(cleared).as_secs() < each {
+        // The first time they are counted.
+        if let Some(cleared) = self.cleared
+            && now.duration_since(cleared).as_secs() < each
+        {
             return Ok(None);
         }
         self.cleared = Some(now);

@@ -39,6 +39,8 @@ const ALL: Limits = Limits {
     days: u32::MAX,
     bytes: u64::MAX,
     is_quiet: true,
+    patience: u32::MAX,
+    clients: usize::MAX,
 };
 
 /// A spool's folder.
@@ -62,8 +64,17 @@ pub(crate) struct Common {
     pub(crate) keeping: Mutex<Keeping>,
     // How many bytes the answers in `done` are counted to take.
     taken: AtomicU64,
-    // How many scripts were begun.
+    // How many scripts were begun, and how many clients do one.
     begun: AtomicU64,
+    busy: AtomicU64,
+    // How many clients have a number, and that of the one that is to end its script for one that waits: 0 if none is.
+    numbered: AtomicU64,
+    leaving: AtomicU64,
+    // How many clients there are, and for how many seconds one may do a script while others wait.
+    clients: u64,
+    patience: u64,
+    // Whether the answers in `done` that may not go yet take more than they may.
+    is_full: AtomicBool,
     // Whether the folder could not be used for a while.
     is_lost: AtomicBool,
 }
@@ -80,7 +91,7 @@ impl FolderLayout {
         FolderLayout::for_server(rt, alloc, path, ALL)
     }
 
-    /// The same, as a server has it that keeps so many answers.
+    /// The same, as a server has it that has these limits.
     pub fn for_server(
         rt: HostRuntime,
         alloc: Global,
@@ -100,6 +111,12 @@ impl FolderLayout {
                     keeping: Mutex::new(Keeping::new(limits)),
                     taken: AtomicU64::new(0),
                     begun: AtomicU64::new(0),
+                    busy: AtomicU64::new(0),
+                    numbered: AtomicU64::new(0),
+                    leaving: AtomicU64::new(0),
+                    clients: limits.clients as u64,
+                    patience: u64::from(limits.patience),
+                    is_full: AtomicBool::new(false),
                     is_lost: AtomicBool::new(false),
                 },
             )?,
@@ -137,12 +154,15 @@ impl FolderLayout {
 
     /// Takes the folder for this server, until what is returned is let go. None where another one has had it for a second.
     pub(crate) fn lock(&self) -> Result<Option<Held>, Refusal> {
-        if let Some(found) = self.look_at("lock")?
-            && !found.is_file()
-        {
-            return Err(Refusal::NoLock);
-        }
-        let file = self.open_lock()?;
+        let file = match self.look_at("lock")? {
+            Some(found) if !found.is_file() => return Err(Refusal::NoLock),
+            Some(_) => self.open_lock()?,
+            // Another server may have made it just now.
+            None => match self.make_part_file("lock") {
+                Ok(file) => file,
+                Err(_) => self.open_lock()?,
+            },
+        };
         for _ in 0..LOCK_TRIES {
             if take_lock(&file)? {
                 return Ok(Some(Held { file }));
@@ -205,14 +225,64 @@ impl FolderLayout {
         self.common.taken.store(bytes, Ordering::SeqCst);
     }
 
+    /// Whether the answers in `done` that may not go yet take more than they may.
+    pub(crate) fn is_full(&self) -> bool {
+        self.common.is_full.load(Ordering::SeqCst)
+    }
+
+    /// Notes that.
+    pub(crate) fn set_full(&self, is_full: bool) {
+        self.common.is_full.store(is_full, Ordering::SeqCst);
+    }
+
     /// How many scripts the clients of this server have begun.
     pub(crate) fn begun(&self) -> u64 {
         self.common.begun.load(Ordering::SeqCst)
     }
 
-    /// Notes that one was begun.
+    /// Notes that a client began one.
     pub(crate) fn note_begun(&self) {
         self.common.begun.fetch_add(1, Ordering::SeqCst);
+        self.common.busy.fetch_add(1, Ordering::SeqCst);
+    }
+
+    /// Notes that a client is at the end of one that it began.
+    pub(crate) fn note_ended(&self, client: u64) {
+        self.common.busy.fetch_sub(1, Ordering::SeqCst);
+        if self.is_leaving(client) {
+            self.common.leaving.store(0, Ordering::SeqCst);
+        }
+    }
+
+    /// A number that no other client has, from 1 on.
+    pub(crate) fn number(&self) -> u64 {
+        let before = self.common.numbered.fetch_add(1, Ordering::SeqCst);
+        before.saturating_add(1)
+    }
+
+    /// Whether a client is to end its script for one that waits.
+    pub(crate) fn is_leaving(&self, client: u64) -> bool {
+        self.common.leaving.load(Ordering::SeqCst) == client
+    }
+
+    /// Whether no client is to end its script for one that waits.
+    pub(crate) fn is_none_leaving(&self) -> bool {
+        self.common.leaving.load(Ordering::SeqCst) == 0
+    }
+
+    /// A client is to end its script for one that waits. It is asked by who has the board, so one at a time.
+    pub(crate) fn leave(&self, client: u64) {
+        self.common.leaving.store(client, Ordering::SeqCst);
+    }
+
+    /// Whether each client does a script.
+    pub(crate) fn are_all_busy(&self) -> bool {
+        self.common.clients <= self.common.busy.load(Ordering::SeqCst)
+    }
+
+    /// For how many seconds a script may be at work while others wait.
+    pub(crate) fn patience(&self) -> u64 {
+        self.common.patience
     }
 
     /// Whether the server is asked to end.

@@ -10,7 +10,7 @@ use std::alloc::{AllocError, Global};
 use std::collections::VecDeque;
 use std::io::{Read, Write};
 
-/// An answer that was handed over, and the number of the fault that ended its script, 51 to 54, where one did. At 54 the answer may be cut
+/// An answer that was handed over, and the number of the fault that ended its script, 51 to 54 or 61, if one did. At 54 the answer may be cut
 /// anywhere, and has no line of it.
 #[derive(Drop)]
 pub struct Answered<W: Drop> {
@@ -26,6 +26,9 @@ pub struct MemorySpool<R: Drop, W: Drop> {
     answered: Vec<Answered<W>>,
     taken: History<(R, W)>,
     ended: History<Answered<W>>,
+    // What it answers of the script that is being done.
+    is_long: bool,
+    is_awaited: bool,
 }
 
 impl<R: Read + Drop + Send, W: Write + Drop + Send> MemorySpool<R, W> {
@@ -44,7 +47,22 @@ impl<R: Read + Drop + Send, W: Write + Drop + Send> MemorySpool<R, W> {
             answered,
             taken: History::new(),
             ended: History::new(),
+            is_long: false,
+            is_awaited: false,
         })
+    }
+
+    /// From now on each script counts as one that has been at work for long, or for which others wait.
+    pub fn set_awaited(&mut self, is_long: bool, is_awaited: bool)
+        ensures waiting { self.new.waiting ≡ self.old.waiting }
+        ensures answered { self.new.answered ≡ self.old.answered }
+        ensures taken { self.new.taken ≡ self.old.taken }
+        ensures ended { self.new.ended ≡ self.old.ended }
+        ensures long { self.new.is_long ≡ is_long }
+        ensures awaited { self.new.is_awaited ≡ is_awaited }
+    {
+        self.is_long = is_long;
+        self.is_awaited = is_awaited;
     }
 
     /// The answers so far, in turn.
@@ -86,6 +104,18 @@ impl<R: Read + Drop + Send, W: Write + Drop + Send> Spool for MemorySpool<R, W> 
         let job = self.waiting.pop_front()?;
         self.taken = self.taken.and(&job);
         Some(job)
+    }
+
+    fn is_long(&self) -> bool
+        ensures { result ≡ self.now.is_long }
+    {
+        self.is_long
+    }
+
+    fn is_awaited(&self) -> bool
+        ensures { result ≡ self.now.is_awaited }
+    {
+        self.is_awaited
     }
 
     fn deliver(&mut self, script: R, answer: W, fault: Option<u32>)

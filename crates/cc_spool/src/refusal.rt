@@ -26,6 +26,8 @@ pub(crate) enum Refusal {
     NoFolder,
     /// The folder has parts, and no `lock`.
     NoSpool,
+    /// The folder is another user's.
+    Foreign,
     /// The folder or a part of it is not the server's.
     NotOwn,
 }
@@ -74,6 +76,10 @@ impl From<Refusal> for io::Error {
             Refusal::NoSpool => (
                 io::ErrorKind::AlreadyExists,
                 "it has `cur`, `tmp`, `new` or `done` but no `lock`, so it is no spool",
+            ),
+            Refusal::Foreign => (
+                io::ErrorKind::PermissionDenied,
+                "it belongs to another user than the server, who could put anything in the place of `lock`",
             ),
             Refusal::NotOwn => (
                 io::ErrorKind::PermissionDenied,

@@ -81,6 +81,15 @@ fn make_folder(layout: &FolderLayout) -> Result<(), Refusal> {
     Ok(())
 }
 
+// An `Err` if the folder is not of the user whose file this start made in it. Who has the folder can put a link in the place of `lock` at any
+// moment, and a file would be made along it.
+fn must_be_own(layout: &FolderLayout, made: &Found) -> Result<(), Refusal> {
+    match layout.look_at(".")? {
+        Some(found) if found.user == made.user => Ok(()),
+        _ => Err(Refusal::Foreign),
+    }
+}
+
 // Makes a file and takes it away: what was written before it is older than this start.
 fn begin(layout: &FolderLayout, process: u32) -> Result<Found, Refusal> {
     let own = fresh_name(&layout.rt, layout.alloc, process)?;
@@ -98,6 +107,7 @@ fn take(layout: &mut FolderLayout, process: u32) -> Result<Option<Held>, Refusal
     make_folder(layout)?;
     must_be_spool(layout)?;
     let begun = begin(layout, process)?;
+    must_be_own(layout, &begun)?;
     let Some(held) = layout.lock()? else {
         return Ok(None);
     };
@@ -117,7 +127,8 @@ fn take(layout: &mut FolderLayout, process: u32) -> Result<Option<Held>, Refusal
 ///
 /// What is not there of it is made: the folder with 0755; `cur` with 0700, `new` and `tmp` with 3777, `done` with 0755; where the folder has
 /// the set-group-id bit `cur` with 2700 and the others with 2770. What is there keeps its rights. Then it tries what a server does in it.
-/// An `Err` where one of these is refused, which leaves what was made; or where a part is there and `lock` is not.
+/// An `Err` where one of these is refused, which leaves what was made; or where a part is there and `lock` is not; or if the folder is another
+/// user's, before `lock` is opened.
 pub fn take_folder(layout: &mut FolderLayout, process: u32) -> io::Result<Option<Held>> {
     Ok(take(layout, process)?)
 }
@@ -129,6 +140,8 @@ fn settle_folder(
     process: u32,
 ) -> Result<(), Refusal> {
     layout.hold(held)?;
+    // What was opened is what is there, and no other file along a link.
+    layout.must_be_held()?;
     layout.take_old_stop_back(begun)?;
     make_parts(layout)?;
     for part in [".", "cur", "tmp", "new", "done"] {
@@ -233,7 +246,7 @@ pub fn wide_parts(layout: &FolderLayout) -> io::Result<Vec<WidePart>> {
         ("cur", 0o700),
         ("tmp", 0o3777),
         ("new", 0o3777),
-        ("done", 0o3777),
+        ("done", 0o775),
     ] {
         note_wide(layout, part, most, &mut wide)?;
     }

@@ -20,7 +20,7 @@ pub trait Spool {
     ghost taken: { Self → List Taken };
 
     /// The answers that were handed over so far, in turn: of each what its writer holds, if that is known, and the number of the fault that
-    /// ended its script, 51 to 54, if one did.
+    /// ended its script, 51 to 54 or 61, if one did.
     ghost ended: { Self → List Delivered };
 
     /// Whether no more is to be taken.
@@ -34,7 +34,15 @@ pub trait Spool {
         ensures none { IfNone result (taken self.new ≡ taken self.old) }
         ensures ended { ended self.new ≡ ended self.old };
 
-    /// Hands the answer of the script over, which a fault of this number ended, 51 to 54, where one did. At 54 the answer may be cut
+    /// Whether the script that is being done has been at work for as long as a script may while others wait. It is asked after each line,
+    /// and takes a look at the clock at most.
+    fn is_long(&self) -> bool;
+
+    /// Whether others wait for the end of the script that is being done: a script waits and all clients are busy, or no more scripts are to
+    /// be taken.
+    fn is_awaited(&self) -> bool;
+
+    /// Hands the answer of the script over, which a fault of this number ended, 51 to 54 or 61, if one did. At 54 the answer may be cut
     /// anywhere, and has no line of it.
     fn deliver(&mut self, script: Self::Script, answer: Self::Answer, fault: Option<u32>)
         ensures taken { taken self.new ≡ taken self.old }

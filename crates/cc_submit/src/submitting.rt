@@ -8,12 +8,13 @@ ghost use Rattle.cc_submit.specs.internal.Sent.{asks_source, has_source, is_whol
 
 use cc_answers::{Persons, Telling, explain_bad_line, explain_no_command, explain_words, words_of};
 use cc_command_line::Submitter;
+use cc_screen::Screen;
 use cc_script::{Dialect, ScriptCommand, ScriptFault, command_of};
 use cc_spool::{FolderLayout, SpoolFault, Submission, fault_lines, source_in, submit};
 use cc_task::Task;
 use cc_tasks::perform_and_explain;
 use std::alloc::{AllocError, Global};
-use std::io::{self, BufWriter, Input, Print, Read, Write};
+use std::io::{self, BufWriter, Input, IsTerminal, Print, Read, Write};
 
 /// The most bytes of a source that are sent: one more than a source may have, so that the server sees that it is too long.
 const MOST_SOURCE: usize = 65_537;
@@ -369,7 +370,8 @@ fn leave<R: AllocGlobal + Input, W: Write, E: Write + Drop>(
     finish(rt, done, asked, sent, writer, told)
 }
 
-/// Leaves a script for the server of a folder, and prints its answer; the status. The error is lack of memory before it began.
+/// Leaves a script for the server of a folder, and prints its answer; the status. On a terminal control bytes of the answer are shown as `?`.
+/// The error is lack of memory before it began.
 pub fn submit_script<R: AllocGlobal + Input + Print, E: Write + Drop>(
     rt: &R,
     files: &HostRuntime,
@@ -379,12 +381,13 @@ pub fn submit_script<R: AllocGlobal + Input + Print, E: Write + Drop>(
     errors: E,
 ) -> Result<u8, AllocError> {
     let alloc = rt.alloc();
-    let (Ok(mut writer), Ok(errors)) = (
+    let (Ok(buffered), Ok(errors)) = (
         BufWriter::new(alloc, io::writer(rt)),
         BufWriter::new(alloc, errors),
     ) else {
         return Err(AllocError);
     };
+    let mut writer = Screen::new(buffered, files.stdout().is_terminal());
     let mut told = Telling {
         errors,
         is_quiet: persons.is_quiet,

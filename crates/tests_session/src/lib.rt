@@ -2,7 +2,8 @@
 //!
 //! `helpers` runs a script on a formatted disk, `scripts` has the worked scripts, `audits` those that audit, `earlier` a library of before
 //! selection, `refusals` what is refused, `failing` readers and writers that fail, `files` a library in a file, `spools` scripts of
-//! several clients, `serving` many clients at once, `generations` one service behind the other, `showing` images and sources of units.
+//! several clients, `serving` many clients at once, `generations` one service behind the other, `stopping` scripts that end while others
+//! wait, `showing` images and sources of units.
 #![tactic(auto)]
 
 #[cfg(test)]
@@ -29,3 +30,5 @@ mod serving;
 mod showing;
 #[cfg(test)]
 mod spools;
+#[cfg(test)]
+mod stopping;

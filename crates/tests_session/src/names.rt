@@ -145,6 +145,7 @@ fn names_of_a_script(rt: HostRuntime) -> Result<(), AllocError> {
         (ScriptFault::ScriptTooLong, 52),
         (ScriptFault::ReadFault, 53),
         (ScriptFault::WriteFault, 54),
+        (ScriptFault::Stopped, 61),
     ]?;
     assert!(rt; are_named(alloc, script)?);
     let spool = vec![in alloc;

@@ -1,8 +1,8 @@
 // A spool in a real folder: which things in `new` are scripts, what a start makes of what a kill left, and when an answer gives way to 54.
 
 use crate::helpers::{
-    End, Folder, Meanwhile, answer, answer_one, clears, counts, done, ends_so, is_answered, must,
-    put_as_written, recovered, renumber_one, second,
+    End, Folder, Meanwhile, answer, answer_one, begun, clears, counts, done, ends_so, is_answered,
+    is_soon_awaited, must, put_as_written, recovered, renumber_one, second,
 };
 use cc_spool::{FolderLayout, FolderSpool, Recovered, Spool};
 use std::io::{self, Read, Write};
@@ -543,8 +543,76 @@ fn names_that_hide_no_script(rt: HostRuntime) {
     must(&rt, done(folder, &mut spool) == 1, "the one after them");
     // They are passed over then.
     must(&rt, folder.write("new", "1", ""), "another one after them");
+    // A change within the clock's grain is seen by a later look.
+    thread::sleep(&rt, Duration::from_millis(200));
     must(&rt, done(folder, &mut spool) == 1, "it is the first");
     must(&rt, folder.end_spool(spool, held), "its end");
+}
+
+// Whether a client waits for nobody, though another one is busy too: nothing is there that can be claimed.
+fn is_left_alone(folder: Folder, spool: &FolderSpool) -> bool {
+    let is_alone = !spool.is_awaited();
+    is_alone && folder.make("new", "a-directory") && !spool.is_awaited()
+}
+
+#[test]
+fn when_others_wait_for_a_script(rt: HostRuntime) {
+    let path = "when_others_wait_for_a_script.spool";
+    let folder = Folder { rt, path };
+    let (layout, held) = folder.take_to_serve(2, 0).expect(&rt, "a folder");
+    let mut one = second(&layout, 100).expect(&rt, "a client");
+    let mut other = second(&layout, 100).expect(&rt, "another one");
+    must(&rt, put_plain(folder), "a script");
+    let (script, answer) = begun(&mut one).expect(&rt, "the script");
+    must(&rt, folder.write("new", "second", ""), "one more");
+    must(&rt, one.is_long(), "it has no time");
+    must(&rt, !one.is_awaited(), "the other client is free");
+    let (next, its) = begun(&mut other).expect(&rt, "that one");
+    must(&rt, is_left_alone(folder, &one), "nothing waits");
+    must(&rt, folder.write("new", "third", ""), "a third one");
+    must(&rt, is_soon_awaited(folder, &one), "that waits for one");
+    must(&rt, one.is_awaited(), "which stays so");
+    must(&rt, !other.is_awaited(), "one is enough");
+    one.deliver(script, answer, Some(61));
+    must(&rt, !other.is_awaited(), "now one client is free");
+    let (third, last) = begun(&mut one).expect(&rt, "the third one");
+    must(&rt, !other.is_awaited(), "nothing waits");
+    must(&rt, folder.write(".", "stop", ""), "a stop");
+    must(&rt, other.is_awaited(), "the end of the server waits");
+    other.deliver(next, its, None);
+    one.deliver(third, last, None);
+    must(&rt, folder.has("done", 3), "all are answered");
+    drop(layout);
+    drop(other);
+    must(&rt, folder.end_spool(one, held), "its end");
+}
+
+#[test]
+fn a_script_that_has_its_time(rt: HostRuntime) {
+    let path = "a_script_that_has_its_time.spool";
+    let folder = Folder { rt, path };
+    let (layout, held) = folder.take_to_serve(1, 3600).expect(&rt, "a folder");
+    let mut spool = FolderSpool::new(layout, 100);
+    must(&rt, put_plain(folder), "a script");
+    must(&rt, !spool.is_long(), "there is none");
+    let (script, answer) = begun(&mut spool).expect(&rt, "the script");
+    must(&rt, !spool.is_long(), "it has an hour");
+    spool.deliver(script, answer, None);
+    must(&rt, folder.end_spool(spool, held), "its end");
+}
+
+#[test]
+fn a_folder_of_another_user(rt: HostRuntime) {
+    let path = "a_folder_of_another_user.spool";
+    let folder = Folder { rt, path };
+    must(&rt, folder.make("", ""), "a folder");
+    // Who is not root can't give it away.
+    if folder.give("", 1) {
+        must(&rt, folder.is_refused(), "it is another user's");
+        must(&rt, !folder.is_there(".", "lock"), "no lock is made");
+        must(&rt, folder.has("", 0), "nor anything else");
+    }
+    must(&rt, folder.remove_all(), "its end");
 }
 
 #[test]

@@ -2,29 +2,32 @@
 use Rattle.std.specs.Prelude.{◌≡◌, ◌≢◌, ◌⊎◌, ◌<◌, ℕ, Bool, true, false, List, [], ◌∷◌, ◌++◌, length, take, Option, Some, None, IfSome, Result, Ok, Err, Vec}
 use Rattle.std.specs.declared.alloc.Global.{Global}
 use Rattle.cc_script.specs.Fault.{fault_number}
+use Rattle.cc_script.specs.Line.{ScriptRequest}
 use Rattle.cc_script.specs.Reading.{Ahead, Between, HasMore, IsLine, IsNotRead}
 use Rattle.cc_script.specs.declared.script.NextLine.{NextLine}
 use Rattle.cc_script.specs.declared.script.NextLine.TheVariants.{Line, TooLong, End}
 use Rattle.cc_script.specs.declared.fault.ScriptFault.{ScriptFault}
-use Rattle.cc_script.specs.declared.fault.ScriptFault.TheVariants.{BadLine, EndOfScript, ScriptTooLong, ReadFault, WriteFault}
+use Rattle.cc_script.specs.declared.fault.ScriptFault.TheVariants.{BadLine, EndOfScript, ScriptTooLong, ReadFault, WriteFault, Stopped}
 use Rattle.cc_script.specs.declared.command.Dialect.{Dialect}
 use Rattle.cc_history.specs.Held.{at_most_told, receipts_bytes}
 use Rattle.cc_history.specs.History.{MemberView}
 use Rattle.cc_history.specs.declared.entry.Receipt.{Receipt}
-use Rattle.cc_session.specs.Playing.{IsBegun, IsEnding, IsLight, IsPlayed, IsStoppedBy, Talk, held_since, talk}
+use Rattle.cc_session.specs.Playing.{CutsLine, HasUnended, IsBegun, IsBounded, IsCutShort, IsEnding, IsLight, IsPlayed, IsStoppedBy, Obeys, Talk, held_since, talk}
 use Rattle.cc_session.specs.declared.held.Held.{Held}
 use Rattle.cc_session.specs.declared.end.SessionEnd.{SessionEnd}
 use Rattle.cc_session.specs.declared.end.SessionEnd.TheVariants.{Finished, Fault}
 use Rattle.cc_session.specs.declared.reading.Sent.{Sent}
 use Rattle.cc_session.specs.declared.reading.Sent.TheVariants.{Source, NoRoom, Unended}
 
--- what ends a script behind so many lines if more of it is left: 52, if as many are done as may be, or the client's receipts since its beginning hold too much
+-- What ends a script behind so many lines if more of it is left: 52, if as many are done as may be, or the client's receipts since its beginning hold too
+-- much; 61, if there is a bound on its lines.
 abbrev pub EndsBehind : (most : Option ℕ) (first : MemberView) (lines : ℕ) (now : MemberView) → ScriptFault → Type 0
 EndsBehind most first lines now BadLine = ⊥
 EndsBehind most first lines now EndOfScript = ⊥
 EndsBehind most first lines now ScriptTooLong = (bound : ℕ) × (most ≡ Some bound) × ((lines ≡ bound) ⊎ (268435456 < held_since first now))
 EndsBehind most first lines now ReadFault = ⊥
 EndsBehind most first lines now WriteFault = ⊥
+EndsBehind most first lines now Stopped = IsBounded most
 
 -- a further line may be done
 abbrev pub MayGoOn : (most : Option ℕ) (first : MemberView) (lines : ℕ) (now : MemberView) → Type 0
@@ -77,6 +80,7 @@ IsNotDone Does IsShort IsBad before old new BadLine = ⊥
 IsNotDone Does IsShort IsBad before old new EndOfScript = (new ≡ old) × IfSome before.rest IsShort
 IsNotDone Does IsShort IsBad before old new ScriptTooLong = IsBegun (IfSome before.rest IsBad) old new × HasMore before
 IsNotDone Does IsShort IsBad before old new ReadFault = IsBegun (IfSome before.rest IsBad) old new
+IsNotDone Does IsShort IsBad before old new Stopped = ⊥
 IsNotDone Does IsShort IsBad before old new WriteFault =
     IfSome before.rest (λ b. (new.client ≡ old.client) ⊎ ((a : List ℕ) × (written : Option (List ℕ)) × Does b a old (talk new.client written)))
 
@@ -85,10 +89,20 @@ abbrev pub IsDone : {T : Type 0} → (Does : List ℕ → List ℕ → Talk → 
 IsDone Does IsShort IsBad before after old new (Ok done) = Between before after (λ b a. Does b a old new)
 IsDone Does IsShort IsBad before after old new (Err fault) = IsNotDone Does IsShort IsBad before old new fault
 
+-- a line that asks for this was not obeyed; or it is a `run` that was cut, 61
+abbrev pub IsObeyedNot : (most : Option ℕ) (asked : Option ScriptRequest) (before : Ahead) (old new : Talk) → ScriptFault → Type 0
+IsObeyedNot most asked before old new Stopped = IsBounded most × CutsLine asked old new
+IsObeyedNot most asked before old new fault = IsNotDone (λ b a o n. Obeys asked b a o n) (λ rest. IsCutShort asked rest) (λ rest. HasUnended asked rest) before old new fault
+
+-- it was, if it was answered
+abbrev pub IsObeyed : {T : Type 0} → (most : Option ℕ) (asked : Option ScriptRequest) (before after : Ahead) (old new : Talk) → Result T ScriptFault → Type 0
+IsObeyed most asked before after old new (Ok done) = Between before after (λ b a. Obeys asked b a old new)
+IsObeyed most asked before after old new (Err fault) = IsObeyedNot most asked before old new fault
+
 -- a script was done whole; or a fault ended it, whose line is not written yet, and it is done as far as that says
 abbrev pub IsHalted : {T : Type 0} → Dialect → (most : Option ℕ) (script : Option (List ℕ)) (old new : Talk) → Result T ScriptFault → Type 0
 IsHalted dialect most script old new (Ok done) = IfSome script (λ bytes. IsPlayed dialect most bytes old new)
-IsHalted dialect most script old new (Err fault) = IsEnding fault × IfSome script (λ bytes. IsStoppedBy dialect most fault bytes old new)
+IsHalted dialect most script old new (Err fault) = IsEnding most fault × IfSome script (λ bytes. IsStoppedBy dialect most fault bytes old new)
 
 -- how a session ends whose script was answered so
 abbrev pub EndsFor : {T : Type 0} → Result T ScriptFault → SessionEnd → Type 0
