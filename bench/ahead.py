@@ -167,6 +167,8 @@ def fuzz(work, count):
                 wrong = [it for it, (one, other) in enumerate(zip(now[1], before[1], strict=True)) if one != other]
                 fail(f"scripts {number + 1 - len(batch)} to {number} differ by `serve`: {wrong[:5]}, status {now[0]}, {before[0]}")
             batch = []
+        if (number + 1) % 1000 == 0 and number + 1 < count:
+            print(f"{number + 1} scripts so far", flush=True)
     print(f"{count} scripts: the same answers, status and bytes ({time.monotonic() - begin:.0f} s)")
 
 
