@@ -3,7 +3,7 @@
 ghost use Rattle.std.specs.Prelude.{◌≡◌, true, false, None, IfOk, if◌then◌else◌, take};
 ghost use Rattle.std.specs.Io.{WritesAtMost};
 ghost use Rattle.std.specs.Io.KnownBytes.{Appends, WriteAppends};
-ghost use Rattle.cc_screen.specs.Shown.{is_control, last_of, shown, shown_byte};
+ghost use Rattle.cc_screen.specs.internal.Shown.{is_control, last_of, shown, shown_byte};
 
 use std::io::{self, Write};
 
