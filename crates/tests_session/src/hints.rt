@@ -83,10 +83,10 @@ fn script_from(alloc: Global, first: usize) -> Result<(Vec<u8>, String), Fail> {
     let mut lines = String::new(alloc);
     let mut receipts = 0u64;
     for i in 0..2 * PIECES.len() {
-        let piece = &PIECES[(first + i) % PIECES.len()];
+        let piece = &PIECES[first.wrapping_add(i) % PIECES.len()];
         script.extend_from_slice(piece.text.as_bytes())?;
         if piece.is_counted {
-            receipts += 1;
+            receipts = receipts.saturating_add(1);
         }
         match piece.fault {
             Some(line) => lines.push_str(line)?,
