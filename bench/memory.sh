@@ -5,8 +5,8 @@
 #             functions and 24 locals: each answer is the usual one, or `fault 40 OutOfMemory` with status 1
 #   compile, list, store, service   a test: a compilation (40, and the next one is as ever); an addition to the instruction list (it hands its item back,
 #             leaves the list as it was, and goes through when it is made again); a change of the library (40, the map as before, no device call);
-#             a service's `add` (40, or 41 where it was the worker's, all as before, and the same call then as ever). What is refused in what the
-#             test makes for itself ends it before. None may hang
+#             a service's `add`, its text handed in first or not (40, or 41 where it was the worker's, all as before, and the same call then as
+#             ever). What is refused in what the test makes for itself ends it before. None may hang
 #   session, server   session.py refuse: a session of `cclib library`; fails.py memory: a server and its workers under two `submit`s
 # The program has to be built (./cclib), or CCLIB names one that is, and the tests (rt test in the crate); gcc makes the `malloc`.
 set -eu
@@ -89,7 +89,11 @@ case ${1:-} in
     compile) a_test tests_link memory::every_growth_of_compile '' ;;
     list) a_test tests_rtl list::a_refused_growth_hands_the_item_back '' ;;
     store) a_test tests_store library::memory::every_growth_comes_before_the_device '"not (opened|added)"|' ;;
-    service) a_test tests_service running::memory::every_growth_of_an_add '"(not opened|no workers|no memory)"|OutOfMemory|' ;;
+    service)
+        for name in every_growth_of_an_add every_growth_of_a_put_ahead; do
+            refused=0
+            a_test tests_service running::memory::$name '"(not opened|no workers|no memory)"|OutOfMemory|'
+        done ;;
     session) python3 "$top/bench/session.py" refuse "$work" ;;
     server) python3 "$top/bench/fails.py" memory ;;
     *) fail "program, compile, list, store, service, session or server" ;;

@@ -5,10 +5,12 @@
 # the listing, and, where qemu is there, run on a core that knows nothing of cclib, with the start of start.s. FOLDER (made, else a temporary
 # one) has the library and the images afterwards. CCLIB names the program, where it is not ./cclib. The status is 0 where all is as it should be.
 set -euo pipefail
-here=$(cd "$(dirname "$0")" && pwd)
+here=$(CDPATH='' cd -- "$(dirname -- "$(readlink -f -- "$0")")" && pwd)
 cclib=${CCLIB:-$here/../../cclib}
-if [ $# -gt 0 ]; then mkdir -p "$1"; out=$(cd "$1" && pwd); else out=$(mktemp -d); trap 'rm -rf "$out"' EXIT; fi
+if [ $# -gt 0 ]; then mkdir -p "$1"; out=$(CDPATH='' cd -- "$1" && pwd); else out=$(mktemp -d); trap 'rm -rf "$out"' EXIT; fi
 library=$out/team.disk
+# A library that somebody may have added to is not formatted anew.
+[ ! -e "$library" ] || { echo "team: $library is there: give another folder, or remove it" >&2; exit 1; }
 tool=riscv64-unknown-elf
 
 # What each unit reads when it is tried: the check sequence of CRC-16 ("123456789"), three frames, twenty seconds, seven readings.

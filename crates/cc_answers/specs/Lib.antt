@@ -1,4 +1,8 @@
 -- What an image does.
 pub mod Run
--- How what writes an answer may fail.
+-- What is written of an answer and of a fault.
+pub mod Text
+-- What is written of an answer to a script, and how that may fail.
 pub mod Telling
+-- What only private contracts speak of.
+pub mod internal

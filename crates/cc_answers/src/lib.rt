@@ -1,8 +1,8 @@
 //! What the program writes of an answer, and what it tells a person of a fault: of a task for a text as of a line of a script.
 //!
 //! `run` runs an image and writes what came of it, `stands` says where in a text a fault is and tells of it there, `line` writes a fault's
-//! line, `words` has what is told of a fault by its number, `commands` what is told of the commands of a script. `teller` has the two
-//! streams of a script's answers, and writes each answer to them; `person` is to whom the rest is told, or that nobody is.
+//! line, `words` has what is told of a fault by its number, `commands` what is told of the commands of a script. `script` writes each answer to
+//! a script; `person` is to whom the rest is told, or that nobody is.
 //!
 //! It knows neither tasks nor services, so both front ends stand on it: `cc_tasks` and `cc_session`. Hands out these, and the
 //! definitions that their contracts name (`specs/`).
@@ -12,14 +12,17 @@ mod commands;
 mod line;
 mod person;
 mod run;
+mod script;
 mod stands;
-mod teller;
 mod words;
 
 pub use commands::{explain_bad_line, explain_no_command, greet};
-pub use line::write_fault_line;
+pub use line::{name_of, write_fault_line};
 pub use person::{Persons, Telling};
-pub use run::{ImageRun, run_image, write_run};
+pub use run::{ImageRun, run_image, write_run, write_words};
+pub use script::{
+    Refusal, tell_audit, tell_fault, tell_names, tell_no_memory, tell_number, tell_ok,
+    tell_refusal, tell_run, tell_text,
+};
 pub use stands::{Stands, of_fault, write_told};
-pub use teller::{Refusal, Teller};
 pub use words::{explain_words, words_of, words_of_task};

@@ -1,7 +1,9 @@
 // What an image does.
 
-ghost use Rattle.std.specs.Prelude.{◌≡◌, IfOk};
+ghost use Rattle.std.specs.Prelude.{◌≡◌, IfOk, OnOk};
+ghost use Rattle.std.specs.Io.KnownBytes.{Appends};
 ghost use Rattle.cc_answers.specs.Run.{IsRunOf};
+ghost use Rattle.cc_answers.specs.Text.{machine_outcome_text, run_text, words_text};
 
 use cc_rv32::image::Image;
 use cc_rv32::machine::Machine;
@@ -37,14 +39,32 @@ pub fn run_image(
     }
 }
 
-/// Writes the words, one a line, and then what the run has come to.
-pub fn write_run<W: Write>(run: &ImageRun, writer: &mut W) -> io::Result<()> {
-    for word in run.output.as_slice() {
+/// Writes words as signed numbers, each on a line of its own.
+pub fn write_words<W: Write>(words: &[u32], writer: &mut W) -> io::Result<()>
+    ensures { OnOk result (Appends (W.contents writer.old) (W.contents writer.new) (words_text words.now)) }
+{
+    for word in words {
         writeln!(writer, "{}", word.cast_signed())?;
     }
-    match run.outcome {
+    Ok(())
+}
+
+// Writes what a run has come to.
+fn write_outcome<W: Write>(outcome: MachineOutcome, writer: &mut W) -> io::Result<()>
+    ensures { OnOk result (Appends (W.contents writer.old) (W.contents writer.new) (machine_outcome_text outcome)) }
+{
+    match outcome {
         MachineOutcome::Going => writeln!(writer, "going"),
         MachineOutcome::Exited(word) => writeln!(writer, "exited {}", word.cast_signed()),
         MachineOutcome::Trapped => writeln!(writer, "trapped"),
     }
+}
+
+/// Writes the words, one a line, and then what the run has come to.
+#[tactic(auto, using(crate::proofs::Writing::written_on))]
+pub fn write_run<W: Write>(run: &ImageRun, writer: &mut W) -> io::Result<()>
+    ensures { OnOk result (Appends (W.contents writer.old) (W.contents writer.new) (run_text run.now)) }
+{
+    write_words(run.output.as_slice(), writer)?;
+    write_outcome(run.outcome, writer)
 }

@@ -2,7 +2,6 @@
 
 use cc_diagnostic::{Diagnostic, of_name, of_syntax, of_typing};
 use cc_link::{PieceFault, TextFault};
-use cc_tokens::Place;
 use std::alloc::{AllocError, Global};
 use std::io::{self, Write};
 
@@ -15,14 +14,6 @@ pub enum Stands<'a> {
     Function(PieceFault),
     /// Nowhere in it.
     Nowhere,
-}
-
-/// The place, where there is one.
-pub(crate) fn place_of(stands: Stands<'_>) -> Option<Place> {
-    match stands {
-        Stands::Text(fault) => fault.place(),
-        Stands::Function(_) | Stands::Nowhere => None,
-    }
 }
 
 // What is told of a function that is not compiled; nothing of lack of memory.

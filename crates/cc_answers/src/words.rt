@@ -22,9 +22,10 @@ pub fn words_of(number: u32) -> Option<&'static str> {
         40 => Some("memory ran out"),
         41 => Some("a worker thread could not be started, or gave no answer"),
         51 => Some("the script ends within a source"),
-        52 => Some("the script has more bytes (16777216) or lines than it may have"),
+        52 => Some("the script has more bytes (16777216), lines or calls than it may have"),
         53 => Some("the script could not be read"),
         54 => Some("an answer could not be written"),
+        61 => Some("the script had been at work for long, and others waited"),
         _ => None,
     }
 }

@@ -21,4 +21,5 @@ IsAllowed (TakeOut wanted) = Unit {0}
 IsAllowed (Library asked) = IsArea asked.area × (1 ≤ asked.workers) × (asked.workers ≤ 8)
 IsAllowed (Serve asked) =
     IsArea asked.area × (1 ≤ asked.workers) × (asked.workers ≤ 8) × (1 ≤ asked.clients) × (asked.clients ≤ 64) × (1 ≤ asked.keep) × (asked.keep ≤ 3650)
+    × (1048576 ≤ asked.done) × (asked.done ≤ 1099511627776) × (1 ≤ asked.patience) × (asked.patience ≤ 86400)
 IsAllowed (Submit asked) = IsWait asked.wait

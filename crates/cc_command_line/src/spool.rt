@@ -19,6 +19,14 @@ pub const MOST_CLIENTS: u64 = 64;
 /// The most days for which a server keeps answers.
 pub const MOST_DAYS: u64 = 3650;
 
+/// The fewest and the most bytes of answers that a server keeps before it lets old ones go: 1 MiB and 1 TiB.
+pub const LEAST_DONE: u64 = 1_048_576;
+
+pub const MOST_DONE: u64 = 1_099_511_627_776;
+
+/// The most seconds for which a script may be at work while others wait.
+pub const MOST_PATIENCE: u64 = 86_400;
+
 /// The most seconds for which a script waits for a server.
 pub const MOST_WAIT: u64 = 86_400;
 
@@ -29,6 +37,14 @@ const CLIENTS_RULE: &str = "N is a decimal number from 1 to 64";
 const KEEP: &str = "keep";
 
 const KEEP_RULE: &str = "DAYS is a decimal number from 1 to 3650";
+
+const DONE: &str = "done";
+
+const DONE_RULE: &str = "BYTES is a decimal number from 1048576 to 1099511627776";
+
+const PATIENCE: &str = "patience";
+
+const PATIENCE_RULE: &str = "SECONDS is a decimal number from 1 to 86400";
 
 const WAIT: &str = "wait";
 
@@ -87,6 +103,11 @@ pub struct Server {
     pub clients: usize,
     /// For how many days answers that nobody took away are kept: 1 to 3,650.
     pub keep: u32,
+    /// How many bytes of answers are kept before the oldest go: 1 MiB to 1 TiB.
+    pub done: u64,
+    /// For how many seconds a script may be at work while others wait for a client, or the end of a generation or of the server waits for it: 1 to
+    /// 86,400.
+    pub patience: u32,
 }
 
 /// A script for a server.
@@ -126,6 +147,18 @@ pub(crate) fn serve_command<'a>(alloc: Global) -> Result<Command<'a>, AllocError
         "DAYS",
         "For how many days answers that nobody took away are kept: 1 to 3650",
     );
+    let done = option(
+        alloc,
+        DONE,
+        "BYTES",
+        "How many bytes of answers are kept before the oldest go: 1048576 to 1099511627776",
+    );
+    let patience = option(
+        alloc,
+        PATIENCE,
+        "SECONDS",
+        "For how long a script may be at work while others wait: 1 to 86400",
+    );
     let begun = Command::new(alloc, "serve")
         .about(
             "Do the scripts that others leave in a folder, many at a time, over a library in a file",
@@ -136,7 +169,9 @@ pub(crate) fn serve_command<'a>(alloc: Global) -> Result<Command<'a>, AllocError
     let begun = begun.arg(area)?.arg(workers_option(alloc))?;
     begun
         .arg(clients.default_value("4"))?
-        .arg(keep.default_value("7"))
+        .arg(keep.default_value("7"))?
+        .arg(done.default_value("1073741824"))?
+        .arg(patience.default_value("600"))
 }
 
 /// The command `submit` with its options.
@@ -232,6 +267,8 @@ pub(crate) fn serve_of(alloc: Global, given: &ArgMatches<'_>) -> Result<Work, Er
     let workers = number_given(alloc, given, WORKERS, 1, MOST_WORKERS, WORKERS_RULE)?;
     let clients = number_given(alloc, given, CLIENTS, 1, MOST_CLIENTS, CLIENTS_RULE)?;
     let keep = number_given(alloc, given, KEEP, 1, MOST_DAYS, KEEP_RULE)?;
+    let done = number_given(alloc, given, DONE, LEAST_DONE, MOST_DONE, DONE_RULE)?;
+    let patience = number_given(alloc, given, PATIENCE, 1, MOST_PATIENCE, PATIENCE_RULE)?;
     let Some(disk) = path_of(alloc, given, "DISK")? else {
         return Err(refused_serve(alloc, PATH_RULE)?);
     };
@@ -245,6 +282,8 @@ pub(crate) fn serve_of(alloc: Global, given: &ArgMatches<'_>) -> Result<Work, Er
         workers: workers as usize,
         clients: clients as usize,
         keep: keep as u32,
+        done,
+        patience: patience as u32,
     }))
 }
 

@@ -5,9 +5,9 @@ ghost use Rattle.std.proofs.lemmas.Bool.{false≢true};
 
 use crate::count::FailureCount;
 use crate::disk::{Disk, DiskFault};
-use std::fs::{self, OpenOptions};
+use std::fs::{self, OpenOptions, Permissions};
 use std::io::{self, Seek, SeekFrom};
-use std::os::unix::fs::{FileExt, FileTypeExt};
+use std::os::unix::fs::{FileExt, FileTypeExt, OpenOptionsExt, PermissionsExt};
 use std::path::Path;
 
 /// Where the name begins by which a journal on a disk is known.
@@ -15,6 +15,9 @@ const NAME: usize = 1;
 
 /// How many bytes a journal has up to the one that tells whether a record follows, with it.
 const BEGINNING: usize = 17;
+
+/// The rights of a file that is made: its owner's alone.
+const OWN: u32 = 0o600;
 
 /// A disk on a file of the operating system, whose length is the disk's size, or on a block device.
 ///
@@ -30,6 +33,29 @@ pub struct FileDisk {
     failed: FailureCount,
     // Whether a sync failed.
     lost: bool,
+}
+
+// Makes a file where nothing is.
+fn make_new(rt: &HostRuntime, path: &str) -> io::Result<fs::File> {
+    let mut how = OpenOptions::new();
+    how.read(true).write(true).create_new(true).mode(OWN);
+    let file = how.open(rt, path)?;
+    // The umask may have taken some of them.
+    file.set_permissions(Permissions::from_mode(OWN))?;
+    Ok(file)
+}
+
+// Opens a file, and makes it if it is not there. It has its rights from the first moment on, since whoever opens it once keeps what was opened.
+fn open_or_make(rt: &HostRuntime, path: &str) -> io::Result<fs::File> {
+    match make_new(rt, path) {
+        Ok(file) => Ok(file),
+        // It is there, or a link to it.
+        Err(_) => {
+            let mut how = OpenOptions::new();
+            how.read(true).write(true).create(true).mode(OWN);
+            how.open(rt, path)
+        }
+    }
 }
 
 // By hand, so that crates above call it and do not prove anew how each part is dropped.
@@ -50,6 +76,9 @@ impl FileDisk {
     ///
     /// A block device is not cut: the disk is its first `size` bytes, as they were but for the first ones, which are zeros.
     ///
+    /// A file that is not there yet is made with the rights 0600, whatever the umask: it has the sources of all units. One that is there keeps
+    /// its rights.
+    ///
     /// 35 where the system refuses, the device has fewer bytes, or another process has the file open as a disk, which is as
     /// before in the last two cases.
     pub fn create(rt: &HostRuntime, path: &str, size: usize) -> Result<FileDisk, DiskFault>
@@ -57,11 +86,24 @@ impl FileDisk {
         ensures failed { IfOk result (λ disk. disk.failed ≡ 0) }
         ensures sound { IfOk result (λ disk. disk.lost ≡ false) }
     {
-        let file = OpenOptions::new()
-            .read(true)
-            .write(true)
-            .create(true)
-            .open(rt, path)?;
+        FileDisk::on(rt, open_or_make(rt, path)?, path, size)
+    }
+
+    /// The same, where nothing may have the path: 35 if something has it, which is not touched.
+    pub fn create_new(rt: &HostRuntime, path: &str, size: usize) -> Result<FileDisk, DiskFault>
+        ensures size { IfOk result (λ disk. disk.size ≡ size) }
+        ensures failed { IfOk result (λ disk. disk.failed ≡ 0) }
+        ensures sound { IfOk result (λ disk. disk.lost ≡ false) }
+    {
+        FileDisk::on(rt, make_new(rt, path)?, path, size)
+    }
+
+    // A disk of zeros on this file, which has this path.
+    fn on(rt: &HostRuntime, file: fs::File, path: &str, size: usize) -> Result<FileDisk, DiskFault>
+        ensures size { IfOk result (λ disk. disk.size ≡ size) }
+        ensures failed { IfOk result (λ disk. disk.failed ≡ 0) }
+        ensures sound { IfOk result (λ disk. disk.lost ≡ false) }
+    {
         // The lock comes first: a file that is in use is not changed.
         lock(&file)?;
         let device = device_size(&file)?;

@@ -17,6 +17,8 @@ pub enum NoDisk {
     DeviceInUse,
     /// 35: the device has something that is no library.
     OtherContent,
+    /// 35: the name under which a library is made is that of one that has records.
+    Prepared,
 }
 
 impl NoDisk {
@@ -25,13 +27,18 @@ impl NoDisk {
         match self {
             NoDisk::Refused(fault) => *fault,
             NoDisk::SmallDevice => LibraryFault::Full,
-            NoDisk::DeviceInUse | NoDisk::OtherContent => LibraryFault::DiskFault,
+            NoDisk::DeviceInUse | NoDisk::OtherContent | NoDisk::Prepared => {
+                LibraryFault::DiskFault
+            }
         }
     }
 }
 
 /// The name in a library's header, at byte 1.
 const LIBRARY: &[u8] = b"CCLIB01";
+
+/// The first byte of a record that is in force.
+const OPEN_GATE: &[u8] = b"\xa5";
 
 /// By what others are known whose first 16 bytes may be zeros: tables of partitions, and the volumes and file systems of Linux.
 const OTHERS: [(usize, &[u8]); 7] = [
@@ -52,6 +59,32 @@ fn has(disk: &mut FileDisk, offset: usize, wanted: &[u8]) -> bool {
         return false;
     }
     disk.read_at(offset, &mut found).is_ok() && found.starts_with(wanted)
+}
+
+// Whether the disk has a library with a record: the gate of the first one, in the area that byte 0 names, is open.
+fn has_record(disk: &mut FileDisk) -> bool {
+    let mut header = [0u8; 16];
+    if disk.size() < 16
+        || disk.read_at(0, &mut header).is_err()
+        || !header[1..].starts_with(LIBRARY)
+    {
+        return false;
+    }
+    let area = u32::from_le_bytes([header[8], header[9], header[10], header[11]]);
+    let begin = if header[0] % 2 == 0 {
+        16
+    } else {
+        16 + area as usize
+    };
+    has(disk, begin, OPEN_GATE)
+}
+
+/// Whether a file has a library with a record. One that can't be opened, or that another process has open, counts as one.
+pub(crate) fn is_prepared(files: &HostRuntime, path: &str) -> bool {
+    match FileDisk::open(files, path) {
+        Ok(mut disk) => has_record(&mut disk),
+        Err(_) => true,
+    }
 }
 
 // Whether the disk has nothing but a library, or 16 zeros and none of the others.

@@ -2,7 +2,7 @@
 
 ghost use Rattle.std.specs.Prelude.{◌≡◌};
 
-use crate::device::{NoDisk, may_overwrite};
+use crate::device::{NoDisk, is_prepared, may_overwrite};
 use cc_answers::explain_words;
 use cc_disk::FileDisk;
 use cc_journal::format;
@@ -31,11 +31,21 @@ pub fn disk_of(files: &HostRuntime, path: &str, area: Option<u32>) -> Result<Fil
             Err(_) => Err(NoDisk::Refused(LibraryFault::DiskFault)),
         };
     };
-    let size = 16 + 2 * area as usize;
+    let size = size_for(area);
     may_overwrite(files, path, size)?;
-    let Ok(mut disk) = FileDisk::create(files, path, size) else {
-        return Err(NoDisk::Refused(LibraryFault::DiskFault));
-    };
+    match FileDisk::create(files, path, size) {
+        Ok(disk) => formatted(disk, area),
+        Err(_) => Err(NoDisk::Refused(LibraryFault::DiskFault)),
+    }
+}
+
+// How many bytes a library takes with areas of so many.
+fn size_for(area: u32) -> usize {
+    16 + 2 * area as usize
+}
+
+// A new disk, formatted.
+fn formatted(mut disk: FileDisk, area: u32) -> Result<FileDisk, NoDisk> {
     match format(&mut disk, area) {
         Ok(()) => Ok(disk),
         Err(fault) => {
@@ -43,6 +53,21 @@ pub fn disk_of(files: &HostRuntime, path: &str, area: Option<u32>) -> Result<Fil
             Err(NoDisk::Refused(LibraryFault::from(fault)))
         }
     }
+}
+
+/// Tells where others may read or write the file of a library, which has the sources of all units.
+pub fn tell_wide_disk<E: Write>(files: &HostRuntime, path: &str, told: &mut E) -> io::Result<()> {
+    let Ok(found) = fs::metadata(files, path) else {
+        return Ok(());
+    };
+    let rights = found.mode() & 0o7777;
+    if found.is_file() && rights & 0o077 != 0 {
+        writeln!(
+            told,
+            "cclib: {path} has the rights {rights:04o}, wider than 0600: others could read its sources, write it, or keep it from being opened"
+        )?;
+    }
+    told.flush()
 }
 
 // Gives a new disk its name, where nothing has it, and syncs that.
@@ -67,16 +92,29 @@ fn is_same(files: &HostRuntime, one: &str, other: &str) -> bool {
     }
 }
 
-// A new library's disk under a name that it has only until it is whole. A file of that name that has another one too is a library, of which a
-// server was killed between the two: it loses this name, and is not touched.
-fn disk_to_name(files: &HostRuntime, making: &str, area: u32) -> Result<FileDisk, NoDisk> {
-    if let Ok(found) = fs::symlink_metadata(files, making)
-        && found.nlink() > 1
-        && fs::remove_file(files, making).is_err()
-    {
+// Takes what has the name under which a library is made away: what a server left that was killed while it made one. A file that has another
+// name too is a library, of which a server was killed between the two: it loses this name, and is not touched. One that has records was
+// prepared by somebody, and stays.
+fn clear_name(files: &HostRuntime, making: &str) -> Result<(), NoDisk> {
+    let Ok(found) = fs::symlink_metadata(files, making) else {
+        return Ok(());
+    };
+    if found.is_file() && found.nlink() == 1 && is_prepared(files, making) {
+        return Err(NoDisk::Prepared);
+    }
+    if !found.is_file() || fs::remove_file(files, making).is_err() {
         return Err(NoDisk::Refused(LibraryFault::DiskFault));
     }
-    disk_of(files, making, Some(area))
+    Ok(())
+}
+
+// A new library's disk under a name that it has only until it is whole.
+fn disk_to_name(files: &HostRuntime, making: &str, area: u32) -> Result<FileDisk, NoDisk> {
+    clear_name(files, making)?;
+    match FileDisk::create_new(files, making, size_for(area)) {
+        Ok(disk) => formatted(disk, area),
+        Err(_) => Err(NoDisk::Refused(LibraryFault::DiskFault)),
+    }
 }
 
 /// The disk of a server: the file as it is; where nothing is there and an area is given, a new one. It gets its name when it is whole, so
@@ -124,6 +162,10 @@ fn explain<E: Write>(reason: NoDisk, path: &str, errors: &mut E) -> io::Result<(
         NoDisk::OtherContent => writeln!(
             errors,
             "cclib: the device has something that is no library; if it may be lost: dd if=/dev/zero of={path} bs=128K count=1"
+        )?,
+        NoDisk::Prepared => writeln!(
+            errors,
+            "cclib: {path}.new is a library with units, which `--format` would destroy: move it to {path}, or away"
         )?,
     }
     errors.flush()

@@ -3,12 +3,12 @@
 
 ghost use Rattle.std.specs.Prelude.{◌≡◌, ◌≢◌, IfErr, IfOk};
 
-use crate::filing::{disk_to_serve, no_disk};
+use crate::filing::{disk_to_serve, no_disk, tell_wide_disk};
 use cc_command_line::Server;
 use cc_disk::FileDisk;
 use cc_spool::{
-    FolderLayout, FolderSpool, Held, MOST_ENTRIES, Recovered, SpoolFault, WidePart, clear_old,
-    count_entries, recover, take_folder, wide_parts,
+    FolderLayout, FolderSpool, Held, Limits, MOST_ENTRIES, Recovered, SpoolFault, WidePart,
+    clear_old, count_entries, recover, take_folder, wide_parts,
 };
 use std::alloc::{AllocError, Global};
 use std::io::{self, Write};
@@ -25,7 +25,21 @@ pub enum NoFolder {
     Lost,
 }
 
-/// Writes the fault of a folder that can't be served, 56 or 57, and tells why; the status.
+// Writes the line of the fault of a folder that can't be served.
+fn write_fault<W: Write>(reason: &NoFolder, writer: &mut W) -> io::Result<()> {
+    let fault = match reason {
+        NoFolder::Refused(why) if why.kind() == io::ErrorKind::OutOfMemory => {
+            writer.write_all(b"fault 40 OutOfMemory\n")?;
+            return writer.flush();
+        }
+        NoFolder::Refused(_) | NoFolder::Lost => SpoolFault::FolderFault,
+        NoFolder::InUse => SpoolFault::FolderInUse,
+    };
+    writeln!(writer, "fault {} {fault}", fault.number())?;
+    writer.flush()
+}
+
+/// Writes the fault of a folder that can't be served, 56 or 57, or 40 if memory was refused, and tells why; the status.
 pub fn no_folder<W: Write, E: Write>(
     reason: NoFolder,
     folder: &str,
@@ -34,12 +48,7 @@ pub fn no_folder<W: Write, E: Write>(
 ) -> u8
     ensures { result ≡ 1 }
 {
-    let fault = match &reason {
-        NoFolder::Refused(_) | NoFolder::Lost => SpoolFault::FolderFault,
-        NoFolder::InUse => SpoolFault::FolderInUse,
-    };
-    let _ = writeln!(writer, "fault {} {fault}", fault.number());
-    let _ = writer.flush();
+    let _ = write_fault(&reason, writer);
     let _ = match &reason {
         NoFolder::Refused(why) => writeln!(told, "cclib: the folder {folder} can't be used: {why}"),
         NoFolder::InUse => writeln!(told, "cclib: another server works in the folder {folder}"),
@@ -73,7 +82,7 @@ fn tell_wide<E: Write>(folder: &str, parts: &[WidePart], told: &mut E) -> io::Re
 }
 
 // Tells what an earlier server had left.
-fn tell_recovered<E: Write>(begun: u64, kept: usize, told: &mut E) -> io::Result<()> {
+fn tell_recovered<E: Write>(begun: u64, kept: usize, stuck: u64, told: &mut E) -> io::Result<()> {
     if begun > 0 {
         let scripts = word(begun, "script", "scripts");
         writeln!(
@@ -86,6 +95,13 @@ fn tell_recovered<E: Write>(begun: u64, kept: usize, told: &mut E) -> io::Result
         writeln!(
             told,
             "cclib: not handed over yet: {kept} {answers} of an earlier server"
+        )?;
+    }
+    if stuck > 0 {
+        let names = word(stuck, "name", "names");
+        writeln!(
+            told,
+            "cclib: cur has {stuck} {names} that can't be taken away, as that of a directory that is not empty: nobody else can use these for scripts"
         )?;
     }
     told.flush()
@@ -108,12 +124,12 @@ fn clean_folder<E: Write>(
     asked: &Server,
     told: &mut E,
 ) -> io::Result<Vec<String>> {
-    let Recovered { begun, kept } = recover(layout)?;
+    let Recovered { begun, kept, stuck } = recover(layout)?;
     let wide = wide_parts(layout)?;
     let waiting = count_entries(layout, MOST_ENTRIES + 1)?;
     // What can't be told is no reason to end.
     let folder = asked.folder.as_str();
-    let _ = tell_recovered(begun, kept.len(), told);
+    let _ = tell_recovered(begun, kept.len(), stuck, told);
     let _ = tell_wide(folder, wide.as_slice(), told);
     let _ = tell_crowded(folder, waiting, told);
     Ok(kept)
@@ -148,13 +164,21 @@ pub fn take_to_serve<W: Write, E: Write>(
     files: &HostRuntime,
     alloc: Global,
     asked: &Server,
+    is_quiet: bool,
     writer: &mut W,
     told: &mut E,
 ) -> Result<Result<Taken, u8>, AllocError>
     ensures { IfOk result (λ taken. IfErr taken (λ status. status ≡ 1)) }
 {
     let folder = asked.folder.as_str();
-    let mut layout = FolderLayout::new(*files, alloc, folder)?;
+    let limits = Limits {
+        days: asked.keep,
+        bytes: asked.done,
+        is_quiet,
+        patience: asked.patience,
+        clients: asked.clients,
+    };
+    let mut layout = FolderLayout::for_server(*files, alloc, folder, limits)?;
     let held = match take(&mut layout, process::id(files.process())) {
         Ok(held) => held,
         Err(reason) => return Ok(Err(no_folder(reason, folder, writer, told))),
@@ -165,6 +189,7 @@ pub fn take_to_serve<W: Write, E: Write>(
         Ok(disk) => disk,
         Err(reason) => return Ok(Err(no_disk(reason, path, writer, told))),
     };
+    let _ = tell_wide_disk(files, path, told);
     let kept = match clean_folder(&layout, asked, told) {
         Ok(kept) => kept,
         Err(why) => {

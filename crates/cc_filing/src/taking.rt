@@ -1,15 +1,17 @@
 // The commands `image` and `source` with a library: a part of a unit that the library in a file keeps. The file is opened as for `library`, with
 // its lock, and nothing is written to it.
 
-ghost use Rattle.std.specs.Prelude.{◌≤◌};
+ghost use Rattle.std.specs.Prelude.{◌≡◌, ◌⊎◌, MatchResult};
+ghost use Rattle.std.specs.Io.KnownBytes.{Appends};
 
 use crate::filing::disk_of;
 use cc_answers::{Telling, explain_words};
 use cc_command_line::Wanted;
 use cc_library::LibraryFault;
-use cc_tasks::{Fault, PartFault, take_out};
+use cc_screen::Screen;
+use cc_tasks::{PartFault, take_out, write_part};
 use std::alloc::{AllocError, Global};
-use std::io::{self, BufWriter, Print, Write};
+use std::io::{self, BufWriter, IsTerminal, Print, Write};
 
 /// What is told where there is no disk on the file for 35.
 const NO_FILE: &str =
@@ -49,33 +51,32 @@ fn explain<E: Write>(fault: PartFault, errors: &mut E) -> io::Result<()> {
     errors.flush()
 }
 
-// Writes the bytes, or the fault's line; the status.
+// Writes the bytes, or the fault's line; the status. 0 says that the bytes were appended to what the writer held, and nothing else.
 fn write_found<W: Write, E: Write>(
     found: Result<Vec<u8>, PartFault>,
     writer: &mut W,
     errors: &mut E,
 ) -> u8
-    ensures { result ≤ 1 }
+    ensures { MatchResult found (λ bytes. ((result ≡ 0) × Appends (W.contents writer.old) (W.contents writer.new) bytes.items) ⊎ (result ≡ 1)) (λ _. result ≡ 1) }
 {
-    match found {
-        Ok(bytes) => {
-            let is_written = writer.write_all(bytes.as_slice()).is_ok() && writer.flush().is_ok();
-            if is_written {
-                return 0;
+    match write_part(&found, writer) {
+        Ok(()) => match found {
+            Ok(_) => 0,
+            Err(fault) => {
+                let _ = explain(fault, errors);
+                1
             }
-            let _ = explain_words(Fault::Write.number(), errors);
-        }
-        Err(fault) => {
-            let _ = writeln!(writer, "fault {} {fault}", fault.number());
-            let _ = writer.flush();
-            let _ = explain(fault, errors);
+        },
+        Err(unwritten) => {
+            let _ = explain_words(unwritten.number(), errors);
+            drop(unwritten);
+            1
         }
     }
-    1
 }
 
-/// Writes a part of a unit of the library in a file to standard output: its image as Intel HEX, or its source to the byte; the status. The error
-/// is lack of memory before it began.
+/// Writes a part of a unit of the library in a file to standard output: its image as Intel HEX, or its source to the byte; the status. On a
+/// terminal control bytes of the source are shown as `?`. The error is lack of memory before it began.
 pub fn take_out_of_file<R: AllocGlobal + Print, E: Write + Drop>(
     rt: &R,
     files: &HostRuntime,
@@ -83,12 +84,13 @@ pub fn take_out_of_file<R: AllocGlobal + Print, E: Write + Drop>(
     is_quiet: bool,
     errors: E,
 ) -> Result<u8, AllocError> {
-    let (Ok(mut writer), Ok(errors)) = (
+    let (Ok(buffered), Ok(errors)) = (
         BufWriter::new(rt.alloc(), io::writer(rt)),
         BufWriter::new(rt.alloc(), errors),
     ) else {
         return Err(AllocError);
     };
+    let mut writer = Screen::new(buffered, files.stdout().is_terminal());
     let mut told = Telling { errors, is_quiet };
     let found = bytes_of(rt.alloc(), files, wanted, &mut told);
     Ok(write_found(found, &mut writer, &mut told))

@@ -5,6 +5,8 @@ pub mod Fault
 pub mod Member
 -- what contracts see of a book, and what the type of a library with its history keeps
 pub mod Book
+-- what a library is like after its opening
+pub mod Opened
 -- when a call has which answer, and what it leaves
 pub mod Answers
 -- what a call does to the bytes of the disk

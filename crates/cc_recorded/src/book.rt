@@ -2,12 +2,12 @@
 
 ghost use Rattle.std.specs.Prelude.{◌≡◌, ◌⊎◌, ℕ, List, [], ◌∷◌, ◌++◌, true, false, IsTrue, IfErr, IfOk, MatchResult, OnOk, Some, slice_get, length, map};
 ghost use Rattle.std.specs.FinMap.{empty};
-ghost use Rattle.cc_disk.specs.Images.{LeavesAlone, OnlyReads};
+ghost use Rattle.cc_disk.specs.Images.{OnlyReads};
 ghost use Rattle.cc_journal.specs.Format.{HoldsRecords};
 ghost use Rattle.cc_core.specs.Run.{EachUnit, IsRightOr};
 ghost use Rattle.cc_library.specs.Answers.{IsMended, OpenFaults};
 ghost use Rattle.cc_library.specs.Apply.{Units};
-ghost use Rattle.cc_library.specs.Recovered.{Recovers, RecoversAlone, StandFor};
+ghost use Rattle.cc_library.specs.Recovered.{Recovers, RecoversAlone};
 ghost use Rattle.cc_headline.specs.Compiling.{compiling, Keeps, is_right};
 ghost use Rattle.cc_history.specs.Calls.{change_of};
 ghost use Rattle.cc_history.specs.Closing.{AreApart, ReceiptsStand};
@@ -16,6 +16,7 @@ ghost use Rattle.cc_recorded.specs.Book.{BookView};
 ghost use Rattle.cc_recorded.specs.Answers.{IsBegun, IsLook, IsNotClosed, LookAnswers};
 ghost use Rattle.cc_recorded.specs.Changed.{AllRecover, ChangesAtOnce, IsBookChanged, IsBookCompacted};
 ghost use Rattle.cc_recorded.specs.Compacting.{CompactingAnswers};
+ghost use Rattle.cc_recorded.specs.Opened.{IsOpened};
 ghost use Rattle.cc_recorded.specs.Promise.{IsGivenUp, IsSound};
 ghost use Rattle.cc_recorded.specs.Since.{HoldsFrom, IsPast};
 ghost use Rattle.cc_recorded.specs.Tie.{IsTied};
@@ -106,16 +107,39 @@ impl<N: Based, D: Disk> Book<N, D> {
             (λ e. IsTrue D.honest → OnlyReads D.seen D.may_leave D.moment D.left_since disk e.1) }
     {
         match Library::open(alloc, disk) {
-            Ok(library) => match library.units().again() {
-                Ok(base) => Ok(Book::begin(alloc, base, library, calls)),
-                Err(_) => {
-                    drop(calls);
-                    Err((LibraryFault::OutOfMemory, library.into_disk()))
-                }
+            Ok(library) => match Book::over(alloc, library, calls) {
+                Ok(book) => Ok(book),
+                Err(library) => Err((LibraryFault::OutOfMemory, library.into_disk())),
             },
             Err(refused) => {
                 drop(calls);
                 Err(refused)
+            }
+        }
+    }
+
+    /// Begins a history over a library as its opening left it, which is not read again: its map is the base.
+    ///
+    /// The library is handed back where memory ran out.
+    pub fn over(
+        alloc: Global,
+        library: Library<D>,
+        calls: ledger::Book<N>,
+    ) -> Result<Book<N, D>, Library<D>>
+        requires opened { IsOpened D.Disk library }
+        // The base and the moment that the service's parameter names.
+        requires named { IsTrue D.honest → library.units ≡ N.base }
+        requires past { IsTrue D.honest → IsPast D.Disk N.from N.left library.disk }
+        requires counted { calls.total ≡ 0 }
+        ensures book { IfOk result (λ b. b.book ≡ record { base = library.units; library = library; history = []; failed = [] }) }
+        ensures since { IfOk result (λ b. b.since ≡ b.book ∷ []) }
+        ensures back { IfErr result (λ l. l ≡ library) }
+    {
+        match library.units().again() {
+            Ok(base) => Ok(Book::begin(alloc, base, library, calls)),
+            Err(_) => {
+                drop(calls);
+                Err(library)
             }
         }
     }
@@ -128,12 +152,8 @@ impl<N: Based, D: Disk> Book<N, D> {
         calls: ledger::Book<N>,
     ) -> Book<N, D>
         requires same { base ≡ library.units }
-        requires usable { library.closed ≡ false }
+        requires opened { IsOpened D.Disk library }
         requires named { IsTrue D.honest → base ≡ N.base }
-        requires images { IsTrue D.honest → (image : List ℕ) → D.may_leave library.disk image → RecoversAlone image library.units }
-        requires stand { StandFor library.bodies library.units }
-        requires records { IsTrue D.honest → HoldsRecords (D.seen library.disk) library.area library.bodies }
-        requires settled { IsTrue D.honest → LeavesAlone (D.seen library.disk) (D.may_leave library.disk) }
         requires past { IsTrue D.honest → IsPast D.Disk N.from N.left library.disk }
         requires counted { calls.total ≡ 0 }
         ensures book { result.book ≡ record { base = base; library = library; history = []; failed = [] } }

@@ -11,7 +11,7 @@ use Rattle.std.proofs.lemmas.List.{length-append, length-take, length-take-le, t
 use Rattle.std.proofs.lemmas.List.Elements.{All-push}
 use Rattle.cc_script.specs.Reading.{Ahead, HasFewer, IsLine, IsLineEnd, IsNext, IsNoSource, IsNotRead, IsRead, IsSource, Known, rest_from}
 use Rattle.cc_script.specs.declared.fault.ScriptFault.{ScriptFault}
-use Rattle.cc_script.specs.declared.fault.ScriptFault.TheVariants.{BadLine, EndOfScript, ScriptTooLong, ReadFault, WriteFault}
+use Rattle.cc_script.specs.declared.fault.ScriptFault.TheVariants.{BadLine, EndOfScript, ScriptTooLong, ReadFault, WriteFault, Stopped}
 use Rattle.cc_script.specs.declared.script.NextLine.TheVariants.{TooLong}
 
 -- a range begins with its first byte
@@ -128,6 +128,7 @@ not_read before between bytes left EndOfScript one count why = absurd why
 not_read before between bytes left ScriptTooLong one count why = (why.0, more_before before.rest between.rest before.left between.left bytes one count why.1)
 not_read before between bytes left ReadFault one count why = tt
 not_read before between bytes left WriteFault one count why = absurd why
+not_read before between bytes left Stopped one count why = absurd why
 
 pub no_source : (before between : Ahead) (bytes : List ℕ) (wanted left : ℕ) (fault : ScriptFault) → Consumes before.rest between.rest bytes → between.left + length bytes ≡ before.left
     → IsNotRead between left fault → IsNoSource before wanted left fault
@@ -136,6 +137,7 @@ no_source before between bytes wanted left EndOfScript one count why = absurd wh
 no_source before between bytes wanted left ScriptTooLong one count why = not_read before between bytes left ScriptTooLong one count why
 no_source before between bytes wanted left ReadFault one count why = tt
 no_source before between bytes wanted left WriteFault one count why = absurd why
+no_source before between bytes wanted left Stopped one count why = absurd why
 
 -- at the end no more than these were left
 pub fewer_left : (before between after : Option (List ℕ)) (bytes : List ℕ) (count : ℕ) → Consumes before between bytes → Keeps between after → IsAtEnd after

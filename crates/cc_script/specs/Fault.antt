@@ -1,7 +1,7 @@
 -- The numbers of the faults of a script.
 use Rattle.std.specs.Prelude.{ℕ}
 use Rattle.cc_script.specs.declared.fault.ScriptFault.{ScriptFault}
-use Rattle.cc_script.specs.declared.fault.ScriptFault.TheVariants.{BadLine, EndOfScript, ScriptTooLong, ReadFault, WriteFault}
+use Rattle.cc_script.specs.declared.fault.ScriptFault.TheVariants.{BadLine, EndOfScript, ScriptTooLong, ReadFault, WriteFault, Stopped}
 
 -- the number that a fault is known by
 abbrev pub fault_number : ScriptFault → ℕ
@@ -10,3 +10,4 @@ fault_number EndOfScript = 51
 fault_number ScriptTooLong = 52
 fault_number ReadFault = 53
 fault_number WriteFault = 54
+fault_number Stopped = 61

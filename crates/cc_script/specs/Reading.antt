@@ -4,7 +4,7 @@ use Rattle.std.specs.Io.KnownBytes.{prepend_known}
 use Rattle.cc_script.specs.declared.script.NextLine.{NextLine}
 use Rattle.cc_script.specs.declared.script.NextLine.TheVariants.{Line, TooLong, End}
 use Rattle.cc_script.specs.declared.fault.ScriptFault.{ScriptFault}
-use Rattle.cc_script.specs.declared.fault.ScriptFault.TheVariants.{BadLine, EndOfScript, ScriptTooLong, ReadFault, WriteFault}
+use Rattle.cc_script.specs.declared.fault.ScriptFault.TheVariants.{BadLine, EndOfScript, ScriptTooLong, ReadFault, WriteFault, Stopped}
 
 -- what contracts see of a script: what was read and not handed out, whether its reader was at the end, and how many bytes more it may have
 pub record ScriptView : Type 0 where
@@ -91,6 +91,7 @@ IsNotRead before left ReadFault = Unit {0}
 IsNotRead before left BadLine = ⊥
 IsNotRead before left EndOfScript = ⊥
 IsNotRead before left WriteFault = ⊥
+IsNotRead before left Stopped = ⊥
 
 -- so for a source of this many bytes; and 51, where fewer are left
 abbrev pub IsNoSource : (before : Ahead) → (count left : ℕ) → ScriptFault → Type 0
@@ -99,3 +100,4 @@ IsNoSource before count left ScriptTooLong = IsNotRead before left ScriptTooLong
 IsNoSource before count left ReadFault = IsNotRead before left ReadFault
 IsNoSource before count left BadLine = ⊥
 IsNoSource before count left WriteFault = ⊥
+IsNoSource before count left Stopped = ⊥

@@ -23,10 +23,13 @@ pub enum ScriptFault {
     /// 54: an answer could not be written.
     #[error("WriteFault")]
     WriteFault,
+    /// 61: it was at work for long, and others waited; never in a session.
+    #[error("Stopped")]
+    Stopped,
 }
 
 impl ScriptFault {
-    /// The number of the fault: 50 to 54.
+    /// The number of the fault: 50 to 54, or 61.
     pub fn number(self) -> u32
         ensures { result ≡ fault_number self }
     {
@@ -36,6 +39,7 @@ impl ScriptFault {
             ScriptFault::ScriptTooLong => 52,
             ScriptFault::ReadFault => 53,
             ScriptFault::WriteFault => 54,
+            ScriptFault::Stopped => 61,
         }
     }
 }

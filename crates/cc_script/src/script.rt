@@ -1,6 +1,6 @@
 // The lines and the sources of a script, as they are read.
 
-ghost use Rattle.std.specs.Prelude.{◌≡◌, ◌≤◌, ◌<◌, ◌+◌, ℕ, List, [], length, true, false, IfErr, IfOk, IfSome, OnOk, min, vec_len};
+ghost use Rattle.std.specs.Prelude.{◌≡◌, ◌≤◌, ◌<◌, ◌+◌, ◌++◌, ℕ, List, Option, [], length, true, false, IfErr, IfOk, IfSome, OnOk, min, vec_len};
 ghost use Rattle.std.specs.Option.{option_map};
 ghost use Rattle.cc_script.specs.declared.fault.ScriptFault.TheVariants.{ReadFault};
 ghost use Rattle.cc_script.specs.Reading.{Between, IsLine, IsLineEnd, IsNext, IsNotRead, IsNoSource, IsSource, IsWithinLine, ahead_of};
@@ -21,6 +21,9 @@ pub const LINE_BYTES: usize = 128;
 /// How many bytes of a source are kept: one more than a source may have, so that a longer one is seen to be one.
 const KEPT_BYTES: usize = 65_537;
 
+/// How many bytes are asked of a reader at a time.
+const PIECE_BYTES: usize = 65_536;
+
 /// What comes next in a script.
 #[derive(Clone, Copy, Drop)]
 pub enum NextLine {
@@ -36,7 +39,7 @@ pub enum NextLine {
 /// whether the reader was at its end, and how many bytes more the script may have.
 #[derive(Drop)]
 pub struct Script {
-    piece: [u8; 4096],
+    piece: [u8; PIECE_BYTES],
     // What was read and not handed out yet stands between these two.
     next: usize,
     end: usize,
@@ -44,7 +47,7 @@ pub struct Script {
     left: usize,
     // Whether the reader was at its end.
     is_over: bool,
-    ghost within: { (next ≤ end) × (end ≤ 4096) },
+    ghost within: { (next ≤ end) × (end ≤ 65536) },
 }
 
 impl Model for Script {
@@ -62,12 +65,28 @@ impl Script {
         ensures { result ≡ record { held = []; is_over = false; left = 16777216 } }
     {
         Script {
-            piece: [0; 4096],
+            piece: [0; PIECE_BYTES],
             next: 0,
             end: 0,
             left: MOST_BYTES,
             is_over: false,
         }
+    }
+
+    /// What was read and not handed out yet: the next bytes of the script, to be looked at before their turn. Nothing is read for it.
+    pub fn held(&self) -> &[u8]
+        ensures held { result.now ≡ self.now.held }
+        // Whatever the reader is still to give, what is ahead begins with them.
+        ensures ahead { (remaining : Option (List ℕ)) → IfSome (ahead_of self.now remaining).rest (λ bytes. (rest : List ℕ) × (bytes ≡ result.now ++ rest)) }
+    {
+        &self.piece[self.next..self.end]
+    }
+
+    /// How many bytes more the script may have: 16,777,216 less those that were handed out.
+    pub fn left(&self) -> usize
+        ensures { result ≡ self.now.left }
+    {
+        self.left
     }
 
     // Reads more, where all that was read has been handed out. Whether there is more.

@@ -16,7 +16,7 @@ use Rattle.cc_history.specs.declared.reply.Reply.TheVariants as reply
 use Rattle.cc_history.specs.History.{Chronicle, MemberView, IsAnswered, IsRecorded}
 use Rattle.cc_recorded.specs.Answers.{CommitAnswers, LookAnswers}
 use Rattle.cc_recorded.specs.Book.{BookView, chronicle_of}
-use Rattle.cc_service.specs.Compiling.{IsCompileRefusal, IsProgram}
+use Rattle.cc_service.specs.Compiling.{IsCompileRefusal, IsNotPrepared, IsPastText, IsProgram}
 use Rattle.cc_service.specs.Serving.{IsEntered, IsTurnedDown, PutAnswers, refusal_of}
 use Rattle.cc_service.specs.internal.Under.{IsSeen, MakesAnswers}
 use Rattle.cc_recorded.specs.declared.fault.BookFault.{BookFault}
@@ -110,6 +110,31 @@ module _ (Asks : Command → Type 0) (command : Command) (asked : Asks command) 
   put name source named program (Err WorkersGone) none = absurd none
   put name source named program (Err ImageTooLarge) none = absurd none
   put name source named program (Err OutOfMemory) none = absurd none
+
+-- what the book answers is no refusal of a text
+pub past_text : (command : Command) (old new : MemberView) (result : Result Receipt ServiceFault) → MakesAnswers command old new result → IfErr result (λ fault. IsPastText fault)
+past_text command old new (Ok receipt) e = tt
+past_text command old new (Err (Book f)) e = tt
+past_text command old new (Err (Opening f)) none = none
+past_text command old new (Err TooManyClients) none = none
+past_text command old new (Err BadName) none = tt
+past_text command old new (Err (Text f)) none = none
+past_text command old new (Err (Piece function f)) none = tt
+past_text command old new (Err WorkersGone) none = tt
+past_text command old new (Err ImageTooLarge) none = tt
+past_text command old new (Err OutOfMemory) none = tt
+
+-- why a text is not handed in is a reason for which it is not compiled
+pub not_prepared : (text : List ℕ) (fault : ServiceFault) → IsNotPrepared text fault → IsCompileRefusal text fault
+not_prepared text (Text f) e = e
+not_prepared text WorkersGone e = e
+not_prepared text OutOfMemory e = e
+not_prepared text (Piece function f) none = absurd none
+not_prepared text ImageTooLarge none = absurd none
+not_prepared text (Opening f) none = none
+not_prepared text TooManyClients none = none
+not_prepared text BadName none = none
+not_prepared text (Book f) none = none
 
 -- of a text that was not compiled
 pub not_put : (Asks : Command → Type 0) (name source : List ℕ) (old new : MemberView) → IsTrue (is_name name) → new ≡ old → (fault : ServiceFault) → IsCompileRefusal source fault → PutAnswers Asks name source old new (Err fault)

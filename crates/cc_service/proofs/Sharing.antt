@@ -33,11 +33,11 @@ module _ (N : RattleType) (b : Based.Ghosts N.Denot) (l : Ledger.Ghosts N.Denot)
         let k = book_send N b l D d t in
         let c = desk_send in
         recorded_sync _ _ _ (Service.the_type N D b l q d).to_one (struct_sync (shape (Service.the_type N D b l q d))
-        (search (sendable, crosses) depth 10, (search (sendable, crosses) depth 10, (pool_sync N q s y, tt))))
+        (search (sendable, crosses) depth 10, (search (sendable, crosses) depth 10, (pool_sync N q s y, (search (sendable, crosses) depth 10, tt)))))
 
     pub service_send : IsSend N → IsSend D → IsSend (Service.the_row N D b l q d)
     service_send s t =
         let k = book_send N b l D d t in
         let c = desk_send in
         recorded_send _ _ _ (Service.the_type N D b l q d).to_one (struct_send (shape (Service.the_type N D b l q d))
-        (search (sendable, crosses) depth 10, (search (sendable, crosses) depth 10, (pool_send N q s, tt))))
+        (search (sendable, crosses) depth 10, (search (sendable, crosses) depth 10, (pool_send N q s, (search (sendable, crosses) depth 10, tt)))))

@@ -1,11 +1,11 @@
 -- Why a text is not compiled by the workers.
-use Rattle.std.specs.Prelude.{◌≡◌, ◌⊎◌, ℕ, List, length}
+use Rattle.std.specs.Prelude.{◌≡◌, ◌⊎◌, ◌++◌, ℕ, List, length}
 use Rattle.cc_ast.specs.Tree.{External}
 use Rattle.cc_link.specs.Meaning.{functions}
 use Rattle.cc_link.specs.Compile.{IsTooLarge}
 use Rattle.cc_link.specs.Text.{IsProgramText, IsTextRefusal}
 use Rattle.cc_pool.specs.Fault.{IsJobRefusal}
-use Rattle.cc_pool.specs.Shared.{HasSentSome}
+use Rattle.cc_pool.specs.Shared.{HasSentSome, pieces_of}
 use Rattle.cc_pool.specs.declared.item.Item.{Item}
 use Rattle.cc_pool.specs.declared.fault.PoolFault.TheVariants as pool
 use Rattle.cc_service.specs.declared.fault.ServiceFault.{ServiceFault}
@@ -21,6 +21,25 @@ pub record IsProgram (text : List ℕ) : Type 0 where
 abbrev pub HasSentFor : (text : List ℕ) → (before after : List Item) → Type 0
 HasSentFor text before after = (after ≡ before) ⊎ ((tree : List External) × IsProgramText text tree × HasSentSome before after (length (functions tree)))
 
+-- The text is a program, and all functions of one job of it were handed in, in the order of their definitions, each once, and nothing else.
+pub record HasHandedIn (text : List ℕ) (before after : List Item) : Type 0 where
+  pub tree : List External
+  pub program : IsProgramText text tree
+  pub job : ℕ
+  pub sent : after ≡ before ++ pieces_of job (length (functions tree))
+
+-- Why a text is not handed in: it is no program's; 41, of a program; 40.
+abbrev pub IsNotPrepared : List ℕ → ServiceFault → Type 0
+IsNotPrepared text (Text f) = IsTextRefusal text f
+IsNotPrepared text WorkersGone = IsProgram text
+IsNotPrepared text OutOfMemory = Unit {0}
+IsNotPrepared text (Opening f) = ⊥
+IsNotPrepared text TooManyClients = ⊥
+IsNotPrepared text BadName = ⊥
+IsNotPrepared text (Piece function f) = ⊥
+IsNotPrepared text ImageTooLarge = ⊥
+IsNotPrepared text (Book f) = ⊥
+
 -- A text that is no program's is refused as one. Only a program has another fault: 22 or 24 of the first function that has no piece; 41;
 -- 25 where linking refuses pieces of all functions so.
 abbrev pub IsCompileRefusal : List ℕ → ServiceFault → Type 0
@@ -33,3 +52,15 @@ IsCompileRefusal text (Opening f) = ⊥
 IsCompileRefusal text TooManyClients = ⊥
 IsCompileRefusal text BadName = ⊥
 IsCompileRefusal text (Book f) = ⊥
+
+-- it is no refusal of a text
+abbrev pub IsPastText : ServiceFault → Type 0
+IsPastText (Text f) = ⊥
+IsPastText (Opening f) = ⊥
+IsPastText TooManyClients = ⊥
+IsPastText BadName = Unit {0}
+IsPastText (Piece function f) = Unit {0}
+IsPastText WorkersGone = Unit {0}
+IsPastText ImageTooLarge = Unit {0}
+IsPastText (Book f) = Unit {0}
+IsPastText OutOfMemory = Unit {0}

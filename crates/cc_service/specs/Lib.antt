@@ -14,6 +14,7 @@ pub mod internal
 -- Pages of crates below that clauses here cite, handed on.
 pub use Rattle.cc_recorded.specs.Book
 pub use Rattle.cc_recorded.specs.Fault as BookFault
+pub use Rattle.cc_recorded.specs.Opened
 pub use Rattle.cc_recorded.specs.Promise
 pub use Rattle.cc_recorded.specs.Since
 pub use Rattle.cc_recorded.specs.declared.fault as book_fault

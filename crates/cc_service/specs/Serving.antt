@@ -152,6 +152,12 @@ IsNotOpened honest seen base before after WorkersGone = (after ≡ before) × (I
 IsNotOpened honest seen base before after OutOfMemory = (after ≡ before) × (IsTrue honest → Recovers seen base)
 IsNotOpened honest seen base before after _ = ⊥
 
+-- why its workers are not started: 41 or 40
+abbrev pub IsNotStarted : ServiceFault → Type 0
+IsNotStarted WorkersGone = Unit {0}
+IsNotStarted OutOfMemory = Unit {0}
+IsNotStarted _ = ⊥
+
 -- Why a service is not ended: 40; or 39, and there is a history, legal from the map that the service began with, by which a receipt of these
 -- clients does not stand, the first, with what stands there in place of it; or they are not all that were made.
 pub record IsNotEnded (honest : Bool) (base : Units) (clients : List MemberView) (fault : ServiceFault) : Type 0 where

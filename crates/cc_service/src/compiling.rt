@@ -1,89 +1,164 @@
-// From a text to a compiled unit, by the workers of a pool. No lock is held here.
+// From a text to a compiled unit, by the workers of a pool: handed in first, collected later. No lock is held here.
 
-ghost use Rattle.std.specs.Prelude.{◌≡◌, length, All, IfErr, IfOk};
+ghost use Rattle.std.specs.Prelude.{◌≡◌, ℕ, List, length, All, IfErr, IfOk};
 ghost use Rattle.std.specs.Arc.{arc_value};
 ghost use Rattle.cc_ast.specs.Source.{source};
+ghost use Rattle.cc_ast.specs.Tree.{External};
 ghost use Rattle.cc_types.specs.Typed.{defined_names};
 ghost use Rattle.cc_link.specs.Agree.{Agree};
 ghost use Rattle.cc_link.specs.Made.{IsCompiled};
+ghost use Rattle.cc_link.specs.Meaning.{functions};
 ghost use Rattle.cc_link.specs.Pieces.{AreFrom};
 ghost use Rattle.cc_link.specs.Text.{IsProgramText};
-ghost use Rattle.cc_pool.specs.Shared.{HasSentSome};
-ghost use Rattle.cc_service.specs.Compiling.{HasSentFor, IsCompileRefusal, IsProgram};
+ghost use Rattle.cc_service.specs.Compiling.{HasHandedIn, HasSentFor, IsCompileRefusal, IsNotPrepared, IsPastText, IsProgram};
 
 use crate::fault::ServiceFault;
 use crate::named::Named;
 use cc_emit::Piece;
 use cc_link::{CompiledUnit, LinkFault, link, typed_unit};
-use cc_pool::{Pass, Pool, PoolFault};
+use cc_pool::{Pass, Pool, PoolFault, Ticket};
 use cc_types::TypedUnit;
 use std::alloc::Global;
+use std::marker::{Model, PhantomData};
 use std::sync::{Arc, Wait};
 
-// Compiles a text.
-pub(crate) fn compiled<N: Named + Send + Sync + 'static, R: Wait>(
+/// A program's text whose functions were handed to the workers of a service, for a `put_prepared` of that service. Contracts see the
+/// text. One that is let go is compiled for nothing, and nobody waits for it.
+pub struct Prepared<N: Named> {
+    unit: Arc<TypedUnit>,
+    ticket: Ticket,
+    of: PhantomData<N>,
+}
+
+// By hand, so that crates above call it and do not prove anew how each part is dropped.
+impl<N: Named> Drop for Prepared<N> {
+    fn drop(self) {
+        let Prepared {
+            unit,
+            ticket,
+            of: _,
+        } = self;
+    }
+}
+
+impl<N: Named> Model for Prepared<N> {
+    ghost use Rattle.std.specs.Prelude.{◌≡◌, ℕ, List, length};
+    ghost use Rattle.std.specs.Arc.{arc_value};
+    ghost use Rattle.cc_ast.specs.Source.{source};
+    ghost use Rattle.cc_types.specs.Typed.{defined_names};
+    ghost use Rattle.cc_link.specs.Text.{IsProgramText};
+
+    ghost Value = { List ℕ };
+
+    ghost view = { λ p. (source (arc_value p.unit)).text };
+
+    ghost invariant = { λ p. IsProgramText (source (arc_value p.unit)).text (source (arc_value p.unit)).externals
+        × (p.ticket.text ≡ (source (arc_value p.unit)).text) × (p.ticket.functions ≡ length (defined_names (source (arc_value p.unit)))) };
+}
+
+impl<N: Named> Prepared<N> {
+    /// The text. It takes no memory.
+    pub fn text(&self) -> &[u8]
+        ensures { result.now ≡ self.now }
+    {
+        self.unit.text()
+    }
+
+    /// How many functions it has. It takes no memory.
+    pub fn functions(&self) -> usize
+        ensures { (tree : List External) × IsProgramText self.now tree × (result ≡ length (functions tree)) }
+    {
+        self.unit.functions()
+    }
+}
+
+// Hands the functions of a text to the workers.
+pub(crate) fn begun<N: Named + Send + Sync + 'static, R: Wait>(
     rt: &R,
     alloc: Global,
     pool: &Pool<N>,
     pass: &mut Pass<N>,
     source: &[u8],
-) -> Result<CompiledUnit, ServiceFault>
-    ensures source { IfOk result (λ unit. unit.source ≡ source.now) }
-    ensures agrees { IfOk result (λ unit. Agree unit.source unit.image) }
-    ensures program { IfOk result (λ _. IsProgram source.now) }
-    ensures refused { IfErr result (λ fault. IsCompileRefusal source.now fault) }
+) -> Result<Prepared<N>, ServiceFault>
+    ensures text { IfOk result (λ prepared. prepared ≡ source.now) }
+    ensures handed { IfOk result (λ _. HasHandedIn source.now pass.old.sent pass.new.sent) }
+    ensures refused { IfErr result (λ fault. IsNotPrepared source.now fault) }
     ensures sent { HasSentFor source.now pass.old.sent pass.new.sent }
 {
     match typed_unit(alloc, source) {
-        Ok(unit) => made(rt, alloc, pool, pass, unit),
+        Ok(unit) => handed_in(rt, alloc, pool, pass, unit),
         Err(fault) => Err(ServiceFault::Text(fault)),
     }
 }
 
-// Compiles a unit.
-fn made<N: Named + Send + Sync + 'static, R: Wait>(
+// Hands the functions of a unit to the workers.
+fn handed_in<N: Named + Send + Sync + 'static, R: Wait>(
     rt: &R,
     alloc: Global,
     pool: &Pool<N>,
     pass: &mut Pass<N>,
     unit: Arc<TypedUnit>,
-) -> Result<CompiledUnit, ServiceFault>
+) -> Result<Prepared<N>, ServiceFault>
     requires program { IsProgramText (source (arc_value unit)).text (source (arc_value unit)).externals }
-    ensures source { IfOk result (λ made. made.source ≡ (source (arc_value unit)).text) }
-    ensures agrees { IfOk result (λ made. Agree made.source made.image) }
-    ensures refused { IfErr result (λ fault. IsCompileRefusal (source (arc_value unit)).text fault) }
+    ensures text { IfOk result (λ prepared. prepared ≡ (source (arc_value unit)).text) }
+    ensures handed { IfOk result (λ _. HasHandedIn (source (arc_value unit)).text pass.old.sent pass.new.sent) }
+    ensures refused { IfErr result (λ fault. IsNotPrepared (source (arc_value unit)).text fault) }
     ensures sent { HasSentFor (source (arc_value unit)).text pass.old.sent pass.new.sent }
 {
     let Ok(theirs) = Arc::try_clone(&unit) else {
         return Err(ServiceFault::OutOfMemory);
     };
-    match pieces(rt, alloc, pool, pass, theirs) {
-        Ok(pieces) => linked(alloc, &unit, pieces),
-        Err(fault) => Err(fault),
+    match pool.submit(rt, alloc, pass, theirs) {
+        Ok(ticket) => Ok(Prepared {
+            unit,
+            ticket,
+            of: PhantomData,
+        }),
+        Err(PoolFault::OutOfMemory) => Err(ServiceFault::OutOfMemory),
+        Err(_) => Err(ServiceFault::WorkersGone),
     }
 }
 
-// The pieces of a unit's functions, one of each in their order.
-fn pieces<N: Named + Send + Sync + 'static, R: Wait>(
+impl<N: Named + Send + Sync + 'static> Prepared<N> {
+    // Waits for its functions, and links them.
+    pub(crate) fn unit<R: Wait>(
+        self,
+        rt: &R,
+        alloc: Global,
+        pool: &Pool<N>,
+    ) -> Result<CompiledUnit, ServiceFault>
+        ensures source { IfOk result (λ unit. unit.source ≡ self) }
+        ensures agrees { IfOk result (λ unit. Agree unit.source unit.image) }
+        ensures program { IsProgram self }
+        ensures refused { IfErr result (λ fault. IsCompileRefusal self fault) }
+        ensures past_text { IfErr result (λ fault. IsPastText fault) }
+    {
+        let Prepared {
+            unit,
+            ticket,
+            of: _,
+        } = self;
+        match collected(rt, alloc, pool, ticket) {
+            Ok(pieces) => linked(alloc, &unit, pieces),
+            Err(fault) => Err(fault),
+        }
+    }
+}
+
+// The pieces of a job's functions, one of each in their order.
+fn collected<N: Named + Send + Sync + 'static, R: Wait>(
     rt: &R,
     alloc: Global,
     pool: &Pool<N>,
-    pass: &mut Pass<N>,
-    unit: Arc<TypedUnit>,
+    ticket: Ticket,
 ) -> Result<Vec<Piece>, ServiceFault>
-    requires program { IsProgramText (source (arc_value unit)).text (source (arc_value unit)).externals }
-    ensures count { IfOk result (λ pieces. length pieces.items ≡ length (defined_names (source (arc_value unit)))) }
-    ensures own { IfOk result (λ pieces. AreFrom (source (arc_value unit)).text 0 pieces.items) }
+    requires program { IsProgram ticket.text }
+    ensures count { IfOk result (λ pieces. length pieces.items ≡ ticket.functions) }
+    ensures own { IfOk result (λ pieces. AreFrom ticket.text 0 pieces.items) }
     ensures compiled { IfOk result (λ pieces. All IsCompiled pieces.items) }
-    ensures refused { IfErr result (λ fault. IsCompileRefusal (source (arc_value unit)).text fault) }
-    // The pass has sent the first functions of one job.
-    ensures sent { HasSentSome pass.old.sent pass.new.sent (length (defined_names (source (arc_value unit)))) }
+    ensures refused { IfErr result (λ fault. IsCompileRefusal ticket.text fault) }
+    ensures past_text { IfErr result (λ fault. IsPastText fault) }
 {
-    let ticket = match pool.submit(rt, alloc, pass, unit) {
-        Ok(ticket) => ticket,
-        Err(PoolFault::OutOfMemory) => return Err(ServiceFault::OutOfMemory),
-        Err(_) => return Err(ServiceFault::WorkersGone),
-    };
     match pool.collect(rt, alloc, ticket) {
         Ok(pieces) => Ok(pieces),
         Err(PoolFault::Piece { function, fault }) => Err(ServiceFault::Piece { function, fault }),
@@ -105,6 +180,7 @@ fn linked(
     ensures source { IfOk result (λ made. made.source ≡ (source (arc_value unit.now)).text) }
     ensures agrees { IfOk result (λ made. Agree made.source made.image) }
     ensures refused { IfErr result (λ fault. IsCompileRefusal (source (arc_value unit.now)).text fault) }
+    ensures past_text { IfErr result (λ fault. IsPastText fault) }
 {
     match link(alloc, unit, pieces) {
         Ok(made) => {

@@ -3,8 +3,8 @@
 //! `named` is what a service's parameter names, `client` who calls, `asking` what it asks of the book, `fault` why a call is refused,
 //! `closing` the end. `compiling` is the way from a text to a unit by the workers, `desk` makes the clients, `answers` is what looks
 //! answer, `service` the whole.
-//! It hands out `Service`, `Put`, `Named`, `Fresh`, `Client`, `Found`, `Listing`, `Closed`, `close` and `ServiceFault`; and of `cc_recorded` the
-//! book, what its parameter names and why it refuses a call, of `cc_pool` the gate that a service takes.
+//! It hands out `Service`, `Put`, `Prepared`, `Named`, `Fresh`, `Client`, `Found`, `Listing`, `Closed`, `close` and `ServiceFault`; and of
+//! `cc_recorded` the book, what its parameter names and why it refuses a call, of `cc_pool` the gate that a service takes.
 #![tactic(auto)]
 
 mod answers;
@@ -22,6 +22,7 @@ pub use cc_pool::{Gate, NoGate};
 pub use cc_recorded::{Based, Book, BookFault};
 pub use client::Client;
 pub use closing::{Closed, close};
+pub use compiling::Prepared;
 pub use fault::ServiceFault;
 pub use named::{Fresh, MOST_CLIENTS, Named, PARTS};
 pub use service::{Put, Service};

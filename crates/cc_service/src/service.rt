@@ -3,13 +3,15 @@
 ghost use Rattle.std.specs.Prelude.{◌≡◌, ◌≤◌, ℕ, List, [], IsTrue, IfErr, IfOk, map};
 ghost use Rattle.cc_disk.specs.Images.{OnlyReads};
 ghost use Rattle.cc_library.specs.Apply.{Units};
+ghost use Rattle.cc_library.specs.Name.{is_name};
 ghost use Rattle.cc_library.specs.Recovered.{Recovers};
 ghost use Rattle.cc_history.specs.Closing.{AreOwn, IsClosed};
 ghost use Rattle.cc_service.specs.Client.{members};
-ghost use Rattle.cc_service.specs.Compiling.{HasSentFor};
+ghost use Rattle.cc_service.specs.Compiling.{HasHandedIn, HasSentFor, IsNotPrepared, IsPastText};
+ghost use Rattle.cc_recorded.specs.Opened.{IsOpened};
 ghost use Rattle.cc_recorded.specs.Promise.{IsGivenUp, IsSound};
 ghost use Rattle.cc_recorded.specs.Since.{IsPast};
-ghost use Rattle.cc_service.specs.Serving.{Adds, GetAnswers, IsNotCompacted, IsNotEnded, IsNotOpened, IsOf, IsTurnedAway, ListAnswers, PutAnswers, Puts, Replaces, WithdrawAnswers};
+ghost use Rattle.cc_service.specs.Serving.{Adds, GetAnswers, IsNotCompacted, IsNotEnded, IsNotOpened, IsNotStarted, IsOf, IsTurnedAway, ListAnswers, PutAnswers, Puts, Replaces, WithdrawAnswers};
 ghost use Rattle.cc_recorded.specs.Answers.{IsLook};
 ghost use Rattle.cc_service.specs.internal.Under.{IsSeen, MakesAnswers};
 ghost use Rattle.cc_recorded.specs.declared.fault.BookFault.{BookFault};
@@ -18,17 +20,18 @@ ghost use Rattle.cc_service.specs.declared.fault.ServiceFault.TheVariants as ser
 use crate::answers::{Found, Listing, has_unit};
 use crate::client::Client;
 use crate::closing::{Closed, end, ready};
-use crate::compiling::compiled;
+use crate::compiling::{Prepared, begun};
 use crate::desk::Desk;
 use crate::fault::ServiceFault;
 use crate::named::{Fresh, Named};
 use cc_disk::Disk;
 use cc_history::{Asked, Command, Receipt};
-use cc_library::Name;
+use cc_library::{Library, Name};
 use cc_link::CompiledUnit;
 use cc_pool::{Gate, Pool, PoolFault};
 use cc_recorded::{Book, BookFault};
 use std::alloc::Global;
+use std::sync::atomic::{AtomicU64, Ordering};
 use std::sync::{Mutex, Wait};
 use std::thread::Threads;
 
@@ -60,12 +63,19 @@ pub struct Service<N: Named, D: Disk> {
     book: Mutex<Book<N, D>>,
     desk: Mutex<Desk<N>>,
     pool: Pool<N>,
+    // How many clients wait for a unit, or put it.
+    putting: AtomicU64,
 }
 
 // By hand, so that crates above call it and do not prove anew how each part is dropped.
 impl<N: Named, D: Disk + Drop> Drop for Service<N, D> {
     fn drop(self) {
-        let Service { book, desk, pool } = self;
+        let Service {
+            book,
+            desk,
+            pool,
+            putting: _,
+        } = self;
     }
 }
 
@@ -113,6 +123,55 @@ impl<N: Named + Send + Sync + 'static, D: Disk> Service<N, D> {
                 book: Mutex::new(book),
                 desk: Mutex::new(Desk::new(rest)),
                 pool,
+                putting: AtomicU64::new(0),
+            }),
+            Err(PoolFault::OutOfMemory) => Err((ServiceFault::OutOfMemory, book.into_disk())),
+            Err(_) => Err((ServiceFault::WorkersGone, book.into_disk())),
+        }
+    }
+
+    /// The service over a library as its opening left it, which is not read again: with this many workers, 1 to 8, which pass the gate before
+    /// each piece.
+    ///
+    /// Refusals, with the disk handed back as it was: 40; 41 where a thread could not be started. None of the workers is left then.
+    pub fn over<R, G>(
+        rt: &R,
+        alloc: Global,
+        fresh: Fresh,
+        library: Library<D>,
+        workers: usize,
+        gate: G,
+    ) -> Result<Service<N, D>, (ServiceFault, D)>
+    where
+        R: Threads + Wait + Copy + Send + 'static,
+        G: Gate + Drop + Send + Sync + 'static,
+        // The parameter names this ledger and this queue, and, of an honest disk, the library's map and a moment up to now.
+        requires ledger { fresh.ledger ≡ N.name }
+        requires parts { N.parts ≡ 1025 }
+        requires queue { fresh.queue ≡ N.queue }
+        requires opened { IsOpened D.Disk library }
+        requires named { IsTrue D.honest → library.units ≡ N.base }
+        requires past { IsTrue D.honest → IsPast D.Disk N.from N.left library.disk }
+        requires some { 1 ≤ workers }
+        requires few { workers ≤ 8 }
+        ensures refused { IfErr result (λ e. IsNotStarted e.0) }
+        ensures back { IfErr result (λ e. e.1 ≡ library.disk) }
+    {
+        let Fresh { blank, queue } = fresh;
+        let (calls, rest) = blank.open::<N>();
+        let book = match Book::over(alloc, library, calls) {
+            Ok(book) => book,
+            Err(library) => {
+                drop(queue);
+                return Err((ServiceFault::OutOfMemory, library.into_disk()));
+            }
+        };
+        match Pool::start(rt, alloc, queue, workers, gate) {
+            Ok(pool) => Ok(Service {
+                book: Mutex::new(book),
+                desk: Mutex::new(Desk::new(rest)),
+                pool,
+                putting: AtomicU64::new(0),
             }),
             Err(PoolFault::OutOfMemory) => Err((ServiceFault::OutOfMemory, book.into_disk())),
             Err(_) => Err((ServiceFault::WorkersGone, book.into_disk())),
@@ -158,10 +217,105 @@ impl<N: Named + Send + Sync + 'static, D: Disk> Service<N, D> {
         let Ok(name) = Name::new(name) else {
             return Err(ServiceFault::BadName);
         };
-        match compiled(rt, alloc, &self.pool, &mut client.pass, source) {
+        match begun(rt, alloc, &self.pool, &mut client.pass, source) {
+            Ok(prepared) => self.put_counted(rt, alloc, client, put, name, prepared),
+            Err(fault) => Err(fault),
+        }
+    }
+
+    /// Hands the functions of a text to the workers, for a `put_prepared` that follows, and waits for none of them: only while the queue
+    /// is full.
+    ///
+    /// Refusals, in this order: 7, 1 to 6, 11 to 21 of the text; 41. 40 where memory ran out. Each leaves number and receipts of the client
+    /// as they were, as an Ok does; after 40 and 41 its pass may have sent some of the functions.
+    pub fn prepare<R: Wait>(
+        &self,
+        rt: &R,
+        alloc: Global,
+        client: &mut Client<N>,
+        source: &[u8],
+    ) -> Result<Prepared<N>, ServiceFault>
+        ensures text { IfOk result (λ prepared. prepared ≡ source.now) }
+        ensures handed { IfOk result (λ _. HasHandedIn source.now client.old.sent client.new.sent) }
+        ensures refused { IfErr result (λ fault. IsNotPrepared source.now fault) }
+        ensures member { client.new.member ≡ client.old.member }
+        ensures sent { HasSentFor source.now client.old.sent client.new.sent }
+    {
+        begun(rt, alloc, &self.pool, &mut client.pass, source)
+    }
+
+    /// Waits for the functions of a text that was prepared, and puts its unit under a name, as `put` does.
+    ///
+    /// Refusals, in this order: 33; of the first function of which no piece came 22 or 24, where a worker refused it, else 41; 25; then
+    /// under the lock as those of `put`. 40 where memory ran out. Of these 31 and 32 have a receipt; the others leave number and receipts
+    /// of the client as they were. What was prepared is used up in any case.
+    pub fn put_prepared<R: Wait>(
+        &self,
+        rt: &R,
+        alloc: Global,
+        client: &mut Client<N>,
+        put: Put,
+        name: &[u8],
+        prepared: Prepared<N>,
+    ) -> Result<Receipt, ServiceFault>
+        // Of a `put` of its text.
+        ensures answers { PutAnswers (Puts put name.now prepared) name.now prepared client.old.member client.new.member result }
+        ensures past_text { IfErr result (λ fault. IsPastText fault) }
+        ensures sent { client.new.sent ≡ client.old.sent }
+    {
+        let Ok(name) = Name::new(name) else {
+            drop(prepared);
+            return Err(ServiceFault::BadName);
+        };
+        self.put_counted(rt, alloc, client, put, name, prepared)
+    }
+
+    // Puts the unit of a text that was prepared under a name, and counts as one that waits for it.
+    fn put_counted<R: Wait>(
+        &self,
+        rt: &R,
+        alloc: Global,
+        client: &mut Client<N>,
+        put: Put,
+        name: Name,
+        prepared: Prepared<N>,
+    ) -> Result<Receipt, ServiceFault>
+        requires named { IsTrue (is_name name) }
+        ensures answers { PutAnswers (Puts put name prepared) name prepared client.old.member client.new.member result }
+        ensures past_text { IfErr result (λ fault. IsPastText fault) }
+        ensures sent { client.new.sent ≡ client.old.sent }
+    {
+        self.putting.fetch_add(1, Ordering::SeqCst);
+        let answer = self.put_unit(rt, alloc, client, put, name, prepared);
+        self.putting.fetch_sub(1, Ordering::SeqCst);
+        answer
+    }
+
+    // Puts the unit of a text that was prepared under a name.
+    fn put_unit<R: Wait>(
+        &self,
+        rt: &R,
+        alloc: Global,
+        client: &mut Client<N>,
+        put: Put,
+        name: Name,
+        prepared: Prepared<N>,
+    ) -> Result<Receipt, ServiceFault>
+        requires named { IsTrue (is_name name) }
+        ensures answers { PutAnswers (Puts put name prepared) name prepared client.old.member client.new.member result }
+        ensures past_text { IfErr result (λ fault. IsPastText fault) }
+        ensures sent { client.new.sent ≡ client.old.sent }
+    {
+        match prepared.unit(rt, alloc, &self.pool) {
             Ok(unit) => self.change(rt, alloc, client, change_of(put, name, unit)),
             Err(fault) => Err(fault),
         }
+    }
+
+    /// Whether some client waits for a unit that it puts. No clause says so. A client that is in no call itself, and hands texts in before
+    /// their turn only where this is false, makes no other one wait longer.
+    pub fn is_busy(&self) -> bool {
+        self.putting.load(Ordering::SeqCst) != 0
     }
 
     /// Compiles a text and adds its unit under a name that has none: `put` with `Add`.
@@ -327,7 +481,12 @@ impl<N: Named + Send + Sync + 'static, D: Disk> Service<N, D> {
         // 39 with an entry is of a receipt of these clients.
         ensures refused { IfErr result (λ e. IsNotEnded D.honest N.base (members clients.items) e.0) }
     {
-        let Service { book, desk, pool } = self;
+        let Service {
+            book,
+            desk,
+            pool,
+            putting: _,
+        } = self;
         let book = book.into_inner();
         book.survives();
         let Desk { made, rest } = desk.into_inner();
@@ -342,6 +501,7 @@ impl<N: Named + Send + Sync + 'static, D: Disk> Service<N, D> {
                     book: Mutex::new(book),
                     desk: Mutex::new(Desk { made, rest }),
                     pool,
+                    putting: AtomicU64::new(0),
                 };
                 Err((ServiceFault::Book(fault), service, clients))
             }
@@ -354,7 +514,12 @@ impl<N: Named + Send + Sync + 'static, D: Disk> Service<N, D> {
     pub fn give_up<R: Wait>(self, rt: &R, alloc: Global, clients: Vec<Client<N>>) -> (D, bool)
         ensures { IsGivenUp D.Disk N.base N.from N.left (members clients.items) result.1 result.0 }
     {
-        let Service { book, desk, pool } = self;
+        let Service {
+            book,
+            desk,
+            pool,
+            putting: _,
+        } = self;
         drop(desk);
         let given_up = book.into_inner().give_up(clients.as_slice());
         drop(clients);

@@ -1,17 +1,40 @@
--- What a script made of the one client.
+-- What a script made of the one client, and of what the writer held.
 use Rattle.std.proofs.Common.{◌≡◌, List, [], ◌∷◌, Option, None, Result, Ok, Err, ℕ, inr, refl, sym, subst}
 use Rattle.cc_script.specs.declared.command.Dialect.TheVariants.{Plain}
 use Rattle.cc_script.specs.declared.fault.ScriptFault.{ScriptFault}
 use Rattle.cc_history.specs.History.{MemberView}
 use Rattle.cc_session.specs.Session.{HaveCalled}
-use Rattle.cc_session.specs.Playing.{IsPlayedBy}
+use Rattle.cc_session.specs.Playing.{IsPlayedBy, talk}
 use Rattle.cc_session.specs.internal.Steps.{EndsFor}
 use Rattle.cc_session.specs.declared.end.SessionEnd.{SessionEnd}
 
-pub called_by : {T : Type 0} (answer : Result T ScriptFault) (end : SessionEnd) (script : Option (List ℕ)) (clients : List MemberView) (first last : MemberView) → first.receipts ≡ []
-    → clients ≡ last ∷ [] → IsPlayedBy Plain None script first last answer → EndsFor answer end → HaveCalled script clients end
-called_by (Ok done) end script clients first last none alone played is =
-    subst (λ (e : SessionEnd). HaveCalled script clients e) (sym is) (record { first = first; last = last; none = none; plays = played; alone = alone })
-called_by (Err fault) end script clients first last none alone played is =
-    subst (λ (e : SessionEnd). HaveCalled script clients e) (sym is)
-    (inr (fault, played.0, refl, record { first = first; last = last; none = none; plays = played.1; alone = alone }))
+pub called_by : {T : Type 0} (answer : Result T ScriptFault) (played : SessionEnd) (script before last after : Option (List ℕ)) (end : SessionEnd) (clients : List MemberView) (first now : MemberView)
+    → first.receipts ≡ [] → clients ≡ now ∷ [] → IsPlayedBy Plain None script (talk first before) (talk now last) answer → EndsFor answer played → (end ≡ played → after ≡ last)
+    → HaveCalled script before after end clients played
+called_by (Ok done) played script before last after end clients first now none alone plays is written =
+    subst (λ (e : SessionEnd). HaveCalled script before after end clients e) (sym is)
+    (record {
+      first = talk first before;
+      last = talk now last;
+      none = none;
+      begun = refl;
+      plays = plays;
+      alone = alone;
+      written = subst (λ (e : SessionEnd). end ≡ e → after ≡ last) is written;
+    })
+called_by (Err fault) played script before last after end clients first now none alone plays is written =
+    subst (λ (e : SessionEnd). HaveCalled script before after end clients e) (sym is)
+    (inr (
+      fault,
+      plays.0,
+      refl,
+      record {
+        first = talk first before;
+        last = talk now last;
+        none = none;
+        begun = refl;
+        plays = plays.1;
+        alone = alone;
+        written = subst (λ (e : SessionEnd). end ≡ e → after ≡ last) is written;
+      },
+    ))

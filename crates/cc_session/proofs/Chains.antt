@@ -1,14 +1,26 @@
 -- One generation more goes on from what the ones before it left. Between the two each spool was asked whether it is over, which changes nothing.
-use Rattle.std.proofs.Common.{◌≡◌, ℕ, suc, List, Option, sym, subst}
-use Rattle.cc_session.specs.Generations.{ServesOn}
+use Rattle.std.proofs.Common.{◌≡◌, ℕ, zero, suc, List, refl, sym, subst}
+use Rattle.cc_spool.specs.Spool.{Delivered, Taken}
+use Rattle.cc_session.specs.Generations.{GoesOn, ServesOn}
 use Rattle.cc_session.specs.Spooling.{Given, given_by}
 use Rattle.cc_session.specs.declared.end.SessionEnd.{SessionEnd}
-use Rattle.cc_session.specs.declared.end.SessionEnd.TheVariants.{Finished}
+use Rattle.cc_session.specs.declared.end.SessionEnd.TheVariants.{Finished, Fault}
 
 -- a spool that has given and was handed the same
-pub same_given : {S : Type 0} (taken : S → List (Option (List ℕ))) (ended : S → List (Option ℕ)) (x y : S) → taken x ≡ taken y → ended x ≡ ended y
+pub same_given : {S : Type 0} (taken : S → List Taken) (ended : S → List Delivered) (x y : S) → taken x ≡ taken y → ended x ≡ ended y
     → given_by taken ended x ≡ given_by taken ended y
 same_given taken ended x y one two = λ i. record { taken = one i; ended = two i }
+
+-- if it was the first one, it ended well
+abbrev pub BeginsWell : (earlier : ℕ) → SessionEnd → Type 0
+BeginsWell zero end = GoesOn zero end
+BeginsWell (suc earlier) end = Unit {0}
+
+-- another one may begin
+pub goes_on_by : (earlier : ℕ) (end : SessionEnd) → BeginsWell earlier end → GoesOn (suc zero) end → GoesOn earlier end
+goes_on_by zero end well may = well
+goes_on_by (suc earlier) Finished well may = tt
+goes_on_by (suc earlier) (Fault number) well may = may
 
 module _ {D : Type 0} (Ends : List Given → List Given → D → D → SessionEnd → Type 0) (earlier : ℕ) where
   -- what was left is as it was
@@ -18,11 +30,13 @@ module _ {D : Type 0} (Ends : List Given → List Given → D → D → SessionE
       subst (λ (e : SessionEnd). ServesOn Ends earlier before now first later e) (sym told)
       (subst (λ (d : D). ServesOn Ends earlier before now first d ended) (sym kept) (subst (λ (g : List Given). ServesOn Ends earlier before g first between ended) (sym same) chain))
 
-  pub serves_one_more : (before left now after : List Given) (first between later last : D) (ended end : SessionEnd) → ended ≡ Finished → now ≡ left → later ≡ between
+  pub serves_one_more : (before left now after : List Given) (first between later last : D) (ended end : SessionEnd) → GoesOn earlier ended → now ≡ left → later ≡ between
       → ServesOn Ends earlier before left first between ended → Ends now after later last end → ServesOn Ends (suc earlier) before after first last end
-  serves_one_more before left now after first between later last ended end well same kept chain one = (
+  serves_one_more before left now after first between later last ended end on same kept chain one = (
     now,
     later,
-    serves_still before left now first between later ended Finished same kept (sym well) chain,
+    ended,
+    on,
+    serves_still before left now first between later ended ended same kept refl chain,
     one,
   )

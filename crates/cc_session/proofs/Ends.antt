@@ -1,29 +1,26 @@
 -- What was read before a service was opened changes nothing of how it ended.
-use Rattle.std.proofs.Common.{◌≡◌, ◌∙◌, ℕ, List, Bool, true, false, if◌then◌else◌, IsTrue, inl, inr, refl, sym, ap, subst, arith}
+use Rattle.std.proofs.Common.{◌≡◌, ◌∙◌, ℕ, List, Bool, true, false, IsTrue, ap, inl, inr, refl, sym, subst, arith}
 use Rattle.std.specs.Prelude.{◌⊎◌}
 use Rattle.cc_disk.specs.declared.disk.Disk.{Ghosts}
 use Rattle.cc_disk.specs.Images.{OnlyReads}
 use Rattle.cc_library.specs.Answers.{OpenFaults}
 use Rattle.cc_library.specs.Apply.{Units}
-use Rattle.cc_library.specs.Recovered.{Recovers}
+use Rattle.cc_library.specs.Recovered.{Recovers, View}
 use Rattle.cc_library.specs.declared.fault.LibraryFault.{LibraryFault}
 use Rattle.cc_library.specs.declared.fault.LibraryFault.TheVariants as library
 use Rattle.cc_library.specs.Format.{HasHeader}
 use Rattle.cc_history.specs.declared.entry.Entry.{Entry}
-use Rattle.cc_history.specs.declared.standing.StandingFault.{StandingFault}
-use Rattle.cc_history.specs.declared.standing.StandingFault.TheVariants as standing
 use Rattle.cc_history.specs.Closing.{AreOwn, IsClosed, IsNotWhole}
 use Rattle.cc_history.specs.History.{MemberView}
 use Rattle.cc_service.specs.Book.{BookView}
-use Rattle.cc_service.specs.BookFault.{book_fault_number, fault_of}
 use Rattle.cc_service.specs.Fault.{fault_number}
 use Rattle.cc_service.specs.Promise.{IsGivenUp, IsSound}
 use Rattle.cc_service.specs.Since.{IsPast}
-use Rattle.cc_service.specs.Serving.{IsNotEnded, IsNotOpened}
-use Rattle.cc_service.specs.book_fault.BookFault.{BookFault}
+use Rattle.cc_service.specs.Serving.{IsNotOpened, IsNotStarted}
 use Rattle.cc_service.specs.declared.fault.ServiceFault.{ServiceFault}
 use Rattle.cc_service.specs.declared.fault.ServiceFault.TheVariants as service
-use Rattle.cc_session.specs.Session.{EndsSince, IsEnded, IsLeft, IsUnopened, ServiceEnds, told_after}
+use Rattle.cc_session.specs.Session.{EndsSince, IsEnded, IsLeft, IsUnopened, ServiceEnds}
+use Rattle.cc_session.specs.internal.Ends.{given_up_after}
 use Rattle.cc_session.specs.declared.end.SessionEnd.{SessionEnd}
 use Rattle.cc_session.specs.declared.end.SessionEnd.TheVariants.{Finished, Fault}
 
@@ -56,6 +53,19 @@ not_opened_on honest seen later base before after (service.Piece function f) sam
 not_opened_on honest seen later base before after service.ImageTooLarge same it = it
 not_opened_on honest seen later base before after (service.Book f) same it = it
 
+-- its workers were not started
+pub not_started : (honest : Bool) (seen : List ℕ) (base : Units) (before after : ℕ) (fault : ServiceFault) → IsNotStarted fault → after ≡ before → (IsTrue honest → Recovers seen base)
+    → IsNotOpened honest seen base before after fault
+not_started honest seen base before after service.WorkersGone not same recovers = (same, recovers)
+not_started honest seen base before after service.OutOfMemory not same recovers = (same, recovers)
+not_started honest seen base before after (service.Opening f) not same recovers = absurd not
+not_started honest seen base before after service.TooManyClients not same recovers = not
+not_started honest seen base before after service.BadName not same recovers = not
+not_started honest seen base before after (service.Text f) not same recovers = not
+not_started honest seen base before after (service.Piece function f) not same recovers = not
+not_started honest seen base before after service.ImageTooLarge not same recovers = not
+not_started honest seen base before after (service.Book f) not same recovers = not
+
 -- so a session that was not opened
 pub unopened_on : (honest : Bool) (seen later : List ℕ) (before after : ℕ) (end : SessionEnd) → (IsTrue honest → later ≡ seen)
     → IsUnopened honest later before after end → IsUnopened honest seen before after end
@@ -65,19 +75,10 @@ unopened_on honest seen later before after (Fault number) same it =
 
 -- ---- how a service was ended
 
--- its end is refused by 39 or 40
-of_standing : (why : StandingFault) → (book_fault_number (fault_of why) ≡ 39) ⊎ (book_fault_number (fault_of why) ≡ 40)
-of_standing (standing.Estranged number found) = inl refl
-of_standing standing.OutOfMemory = inr refl
-
-pub refusal_number : (honest : Bool) (base : Units) (clients : List MemberView) (fault : ServiceFault) → IsNotEnded honest base clients fault
-    → (fault_number fault ≡ 39) ⊎ (fault_number fault ≡ 40)
-refusal_number honest base clients fault it =
-    subst (λ (f : ServiceFault). (fault_number f ≡ 39) ⊎ (fault_number f ≡ 40)) (sym it.fault_is) (elim it.why [
-      | inl none ↦ inr (ap book_fault_number none)
-      | inr (inl astray) ↦ subst (λ (f : BookFault). (book_fault_number f ≡ 39) ⊎ (book_fault_number f ≡ 40)) (sym astray.4) (of_standing astray.2)
-      | inr (inr others) ↦ inl (ap book_fault_number others.0)
-    ])
+-- all receipts are there
+given_up_whole : (played : SessionEnd) → (given_up_after true played ≡ played) ⊎ ((played ≡ Finished) × (given_up_after true played ≡ Fault 40))
+given_up_whole Finished = inr (refl, refl)
+given_up_whole (Fault first) = inl refl
 
 module _ {Disk : Type 0} (D : Ghosts Disk) (named : Units) (from : ℕ) (left : List ℕ → Type 0)
     (bytes : List ℕ) (begun : IsTrue D.honest → Recovers bytes named) (clients : List MemberView) (played : SessionEnd) where
@@ -87,16 +88,12 @@ module _ {Disk : Type 0} (D : Ghosts Disk) (named : Units) (from : ℕ) (left : 
   kept_by book after disk sound closed own =
       inl (inl refl, record { base = named; begun = begun; book = book; disk = sym disk; sound = sound; own = own; holds = closed })
 
-  -- it was given up, for its end was refused by this number
-  pub given_up_by : (are_all : Bool) (after : Disk) (number : ℕ) → IsGivenUp D named from left clients are_all after → (number ≡ 39) ⊎ (number ≡ 40)
-      → IsEnded D bytes from left clients played (told_after (if are_all then 40 else number) played) after
-  given_up_by true after number it why =
-      inl (inr refl, record { base = named; begun = begun; book = it.book; disk = it.disk_is; sound = it.sound; own = it.own; holds = it.closed refl })
-  given_up_by false after number it why =
-      inr (
-        elim why [ inl astray ↦ inl (ap (λ (n : ℕ). told_after n played) astray) | inr none ↦ inr (ap (λ (n : ℕ). told_after n played) none) ],
-        record { base = named; begun = begun; book = it.book; disk = it.disk_is; sound = it.sound; own = it.own; holds = it.why refl },
-      )
+  -- it was given up
+  pub given_up_by : (are_all : Bool) (after : Disk) → IsGivenUp D named from left clients are_all after → IsEnded D bytes from left clients played (given_up_after are_all played) after
+  given_up_by true after it =
+      inl (given_up_whole played, record { base = named; begun = begun; book = it.book; disk = it.disk_is; sound = it.sound; own = it.own; holds = it.closed refl })
+  given_up_by false after it =
+      inr (refl, record { base = named; begun = begun; book = it.book; disk = it.disk_is; sound = it.sound; own = it.own; holds = it.why refl })
 
 -- ---- what was read before it was opened
 
@@ -176,3 +173,21 @@ module _ {Disk : Type 0} (D : Ghosts Disk) where
   past_at first a b only is reads =
       subst (λ (d : Disk). IsPast D (D.moment d) (D.may_leave d) b) (sym is)
       (record { past = reads.later; all = λ image since. only image (reads.moments (D.moment a) image (omega arith) since) })
+
+  -- ---- over a library that was opened
+
+  -- its disk's bytes recover to the map that is named
+  pub recovers_base : (base : Units) (library : View Disk) → (IsTrue D.honest → Recovers (D.seen library.disk) library.units) → (IsTrue D.honest → library.units ≡ base)
+      → IsTrue D.honest → Recovers (D.seen library.disk) base
+  recovers_base base library recovers named h = subst (λ (units : Units). Recovers (D.seen library.disk) units) (named h) (recovers h)
+
+  -- why there is no service over it, whose disk was handed back
+  pub not_over : (base : Units) (library : View Disk) (after : Disk) (fault : ServiceFault) → (IsTrue D.honest → Recovers (D.seen library.disk) library.units)
+      → (IsTrue D.honest → library.units ≡ base) → IsNotStarted fault → after ≡ library.disk
+      → IsNotOpened D.honest (D.seen library.disk) base (D.failures library.disk) (D.failures after) fault
+  not_over base library after fault recovers named not back =
+      not_started D.honest (D.seen library.disk) base (D.failures library.disk) (D.failures after) fault not (ap D.failures back) (recovers_base base library recovers named)
+
+  -- a disk that was handed back was not touched
+  pub reads_back : (a b : Disk) → b ≡ a → OnlyReads D.seen D.may_leave D.moment D.left_since a b
+  reads_back a b back = subst (λ (d : Disk). OnlyReads D.seen D.may_leave D.moment D.left_since a d) (sym back) (reads_none a)

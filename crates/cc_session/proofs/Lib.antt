@@ -1,10 +1,13 @@
+pub mod Audited
 pub mod Calling
 pub mod Chains
+pub mod Cutting
 pub mod Ends
-pub mod Fetching
+pub mod Growing
 pub mod Lines
 pub mod Obeying
 pub mod Playing
 pub mod Putting
 pub mod Sharing
 pub mod Spooling
+pub mod Weighing

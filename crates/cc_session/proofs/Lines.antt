@@ -1,27 +1,31 @@
 -- The lines of a script are its steps, each of one byte at least, and where it stopped its client is as they left it.
-use Rattle.std.proofs.Common.{◌≡◌, ℕ, ◌+◌, ◌<◌, ◌≤◌, List, [], ◌∷◌, ◌++◌, length, take, Option, Some, None, ap, refl, sym, subst, arith, inl, inr}
+use Rattle.std.proofs.Common.{◌≡◌, ℕ, ◌+◌, ◌<◌, ◌≤◌, List, [], ◌∷◌, ◌++◌, length, take, Option, Some, None, ap, refl, sym, ◌∙◌, subst, arith, inl, inr}
 use Rattle.std.specs.Prelude.{◌⊎◌, ◌≢◌, IfSome}
+use Rattle.std.specs.Io.KnownBytes.{Appends}
+use Rattle.std.proofs.KnownBytes.{Appends-nil}
 use Rattle.std.proofs.lemmas.List.{length-append, length-take}
 use Rattle.cc_script.specs.Line.{ScriptRequest, asked_of}
 use Rattle.cc_script.specs.Reading.{Ahead, Between, HasMore, IsLine, IsNext, IsNotRead}
 use Rattle.cc_script.specs.declared.command.Dialect.{Dialect}
 use Rattle.cc_script.specs.declared.fault.ScriptFault.{ScriptFault}
-use Rattle.cc_script.specs.declared.fault.ScriptFault.TheVariants.{BadLine, EndOfScript, ScriptTooLong, ReadFault, WriteFault}
+use Rattle.cc_script.specs.declared.fault.ScriptFault.TheVariants.{BadLine, EndOfScript, ScriptTooLong, ReadFault, WriteFault, Stopped}
 use Rattle.cc_script.specs.declared.script.NextLine.TheVariants.{End, Line, TooLong}
+use Rattle.cc_answers.specs.Telling.{script_fault_text}
 use Rattle.cc_history.specs.History.{MemberView}
-use Rattle.cc_session.specs.Playing.{EndsInSource, IsCutShort, IsPlayed, IsPlayedInPart, IsPlayedUpTo, IsStep, IsStopped, IsStoppedBy, IsTooLong, IsWithin, Obeys, Plays, Turn}
-use Rattle.cc_session.specs.internal.Steps.{IsNoLine, IsNotDone}
+use Rattle.cc_session.specs.Playing.{BeginsBad, CutsLine, CutsNext, HasUnended, IsBegun, IsBounded, IsCutIn, IsCutShort, IsEnding, IsEndedBy, IsLight, IsPlayed, IsPlayedInPart, IsPlayedTill, IsPlayedUpTo, IsStep, IsStopped, IsStoppedBy, IsTooLong, IsWithin, Obeys, Plays, Talk, Turn, Writes, asked_by_line, talk}
+use Rattle.cc_session.specs.internal.Steps.{EndsBehind, IsLimit, IsNoLine, IsNotDone, IsObeyedNot, MayGoOn}
+use Rattle.cc_session.proofs.Cutting.{cut_obeyed}
 use Rattle.cc_session.proofs.Playing.{asks_short, between_none, between_on, known, known_both, known_by, known_map, known_then, more_before, obeyed_step, played, played_up_to, plays_on, too_long, too_long_step, unread_before}
 
 -- ---- lines that are done
 
 -- what has been played so far, by so many lines, from this client on
-pub record Played (dialect : Dialect) (most : Option ℕ) (count : ℕ) (start now : MemberView) (b a : List ℕ) : Type 0 where
+pub record Played (dialect : Dialect) (most : Option ℕ) (count : ℕ) (start now : Talk) (b a : List ℕ) : Type 0 where
   pub takes : count + length a ≤ length b
   pub few : IsWithin most count
   pub turns : List Turn
   pub many : length turns ≡ count
-  pub plays : Plays dialect b start turns a now
+  pub plays : Plays dialect (IsLight most start.client) b start turns a now
 
 within_none : (most : Option ℕ) → IsWithin most 0
 within_none None = tt
@@ -34,15 +38,15 @@ within_more (Some most) count few more =
     let apart : most ≢ count = λ same. more (ap (λ (n : ℕ). Some n) same) in
     omega (arith, few, apart)
 
-few_of : (dialect : Dialect) (most : Option ℕ) (count : ℕ) (start now : MemberView) (b a : List ℕ) (it : Played dialect most count start now b a) → IsWithin most (length it.turns)
+few_of : (dialect : Dialect) (most : Option ℕ) (count : ℕ) (start now : Talk) (b a : List ℕ) (it : Played dialect most count start now b a) → IsWithin most (length it.turns)
 few_of dialect most count start now b a it = subst (λ (n : ℕ). IsWithin most n) (sym it.many) it.few
 
 -- nothing has been played
-pub begins : (dialect : Dialect) (most : Option ℕ) (x : Ahead) (now : MemberView) → Between x x (Played dialect most 0 now now)
+pub begins : (dialect : Dialect) (most : Option ℕ) (x : Ahead) (now : Talk) → Between x x (Played dialect most 0 now now)
 begins dialect most x now = between_none x (Played dialect most 0 now now) (λ b. record { takes = omega arith; few = within_none most; turns = []; many = refl; plays = (refl, refl) })
 
 -- a step that takes a byte
-abbrev pub Steps : (dialect : Dialect) (old new : MemberView) → List ℕ → List ℕ → Type 0
+abbrev pub Steps : (dialect : Dialect) (old new : Talk) → List ℕ → List ℕ → Type 0
 Steps dialect old new b a = (length a < length b) × IsStep dialect b a old new
 
 some_length : (bytes : List ℕ) → bytes ≢ [] → 0 < length bytes
@@ -63,26 +67,26 @@ line_takes before line after some is = elim is.ends [
 ]
 
 -- one step more
-pub step_on : (dialect : Dialect) (most : Option ℕ) (x y z : Ahead) (count : ℕ) (start old new : MemberView) → most ≢ Some count → Between x y (Played dialect most count start old) → Between y z (Steps dialect old new)
+pub step_on : (dialect : Dialect) (most : Option ℕ) (x y z : Ahead) (count : ℕ) (start old new : Talk) → MayGoOn most start.client count old.client → Between x y (Played dialect most count start old) → Between y z (Steps dialect old new)
     → Between x z (Played dialect most (count + 1) start new)
 step_on dialect most x y z count start old new more one two =
     between_on x y z (Played dialect most count start old) (Steps dialect old new) (Played dialect most (count + 1) start new) one two
     (λ b m a first second it step.
-    let turn : Turn = record { rest = a; client = new } in
+    let turn : Turn = record { rest = a; talk = new } in
     let both = length-append it.turns (turn ∷ []) in
     record {
       takes = omega (arith, it.takes, step.0);
-      few = within_more most count it.few more;
+      few = within_more most count it.few more.0;
       turns = it.turns ++ turn ∷ [];
       many = omega (arith, both, it.many);
-      plays = plays_on dialect b start it.turns m old a new it.plays step.1;
+      plays = plays_on dialect (IsLight most start.client) b start it.turns m old a new it.plays more.1 step.1;
     })
 
 short : (n : ℕ) (line : List ℕ) → n ≤ 128 → length (take n line) ≤ 128
 short n line few = let most = length-take n line in omega (arith, most, few)
 
 -- a line is obeyed
-pub line_on : (dialect : Dialect) (most : Option ℕ) (x y m z : Ahead) (count : ℕ) (start old new : MemberView) (n : ℕ) (line : List ℕ) → n ≤ 128 → most ≢ Some count → Between x y (Played dialect most count start old)
+pub line_on : (dialect : Dialect) (most : Option ℕ) (x y m z : Ahead) (count : ℕ) (start old new : Talk) (n : ℕ) (line : List ℕ) → n ≤ 128 → MayGoOn most start.client count old.client → Between x y (Played dialect most count start old)
     → Between y m (λ b a. IsNext b (Line n) line a) → Between m z (λ b a. Obeys (asked_of dialect (take n line)) b a old new) → Between x z (Played dialect most (count + 1) start new)
 line_on dialect most x y m z count start old new n line few more one next obeyed =
     step_on dialect most x y z count start old new more one
@@ -92,171 +96,314 @@ line_on dialect most x y m z count start old new n line few more one next obeyed
     (omega (arith, less, second), obeyed_step dialect b k a (take n line) old new (short n line few) is.1 does)))
 
 -- a line that is too long is skipped
-pub skip_on : (dialect : Dialect) (most : Option ℕ) (x y m z : Ahead) (count : ℕ) (start old : MemberView) (line : List ℕ) → most ≢ Some count → Between x y (Played dialect most count start old)
-    → Between y m (λ b a. IsNext b TooLong line a) → Between m z (λ b a. (rest : List ℕ) × IsLine b rest a) → Between x z (Played dialect most (count + 1) start old)
-skip_on dialect most x y m z count start old line more one next skipped =
-    step_on dialect most x y z count start old old more one
-    (between_on y m z (λ b a. IsNext b TooLong line a) (λ b a. (rest : List ℕ) × IsLine b rest a) (Steps dialect old old) next skipped
+pub skip_on : (dialect : Dialect) (most : Option ℕ) (x y m z : Ahead) (count : ℕ) (start old new : Talk) (line : List ℕ) → MayGoOn most start.client count old.client → Between x y (Played dialect most count start old)
+    → Between y m (λ b a. IsNext b TooLong line a) → Between m z (λ b a. (rest : List ℕ) × IsLine b rest a) → Writes (script_fault_text BadLine) old new
+    → Between x z (Played dialect most (count + 1) start new)
+skip_on dialect most x y m z count start old new line more one next skipped wrote =
+    step_on dialect most x y z count start old new more one
+    (between_on y m z (λ b a. IsNext b TooLong line a) (λ b a. (rest : List ℕ) × IsLine b rest a) (Steps dialect old new) next skipped
     (λ b k a first second is rest.
     let both = length-append is.0 k in
     let whole = ap (λ (l : List ℕ). length l) is.1 in
-    (omega (arith, both, whole, is.2, second), too_long_step dialect b k a line old is rest)))
+    (omega (arith, both, whole, is.2, second), too_long_step dialect b k a line old new is rest wrote)))
 
 -- ---- scripts that end
 
 -- the whole script
-pub script_ends : (dialect : Dialect) (most : Option ℕ) (x y z : Ahead) (count : ℕ) (start now : MemberView) (line : List ℕ) → Between x y (Played dialect most count start now)
+pub script_ends : (dialect : Dialect) (most : Option ℕ) (x y z : Ahead) (count : ℕ) (start now : Talk) (line : List ℕ) → Between x y (Played dialect most count start now)
     → Between y z (λ b a. IsNext b End line a) → IfSome x.rest (λ b. IsPlayed dialect most b start now)
 script_ends dialect most x y z count start now line one next =
     known_then x y (Played dialect most count start now) (λ b. b ≡ []) (λ b. IsPlayed dialect most b start now) one (known_by y z (λ b a. IsNext b End line a) (λ b. b ≡ []) next (λ b a none. none))
     (λ b m it none. played dialect most b start it.turns m now (few_of dialect most count start now b m it) it.plays none)
 
--- it stopped behind the lines so far
-up_to : (dialect : Dialect) (most : Option ℕ) (x y : Ahead) (count : ℕ) (start now : MemberView) (Stops : List ℕ → ℕ → List ℕ → Type 0) → Between x y (Played dialect most count start now)
-    → IfSome y.rest (λ rest. (script : List ℕ) → IsWithin most count → Stops script count rest) → IfSome x.rest (λ b. IsPlayedUpTo dialect most b (Stops b) start now)
-up_to dialect most x y count start now Stops one stops =
-    known_then x y (Played dialect most count start now) (λ rest. (script : List ℕ) → IsWithin most count → Stops script count rest) (λ b. IsPlayedUpTo dialect most b (Stops b) start now) one stops
+-- why it stopped after the lines so far: of what is left, whether a line of it was begun, and `Stops`
+abbrev pub Halts : (dialect : Dialect) (most : Option ℕ) (count : ℕ) (now last : Talk) (Stops : List ℕ → ℕ → List ℕ → MemberView → Type 0) (rest : List ℕ) → Type 0
+Halts dialect most count now last Stops rest = IsBegun (BeginsBad dialect rest) now last × ((script : List ℕ) → IsWithin most count → Stops script count rest now.client)
+
+-- it stopped after the lines so far
+up_to : (dialect : Dialect) (most : Option ℕ) (x y : Ahead) (count : ℕ) (start now last : Talk) (Stops : List ℕ → ℕ → List ℕ → MemberView → Type 0) → Between x y (Played dialect most count start now)
+    → IfSome y.rest (Halts dialect most count now last Stops) → IfSome x.rest (λ b. IsPlayedUpTo dialect most b (Stops b) start last)
+up_to dialect most x y count start now last Stops one stops =
+    known_then x y (Played dialect most count start now) (Halts dialect most count now last Stops) (λ b. IsPlayedUpTo dialect most b (Stops b) start last) one stops
     (λ b m it why. record {
       turns = it.turns;
       few = few_of dialect most count start now b m it;
       rest = m;
+      between = now;
       plays = it.plays;
-      stops = subst (λ (n : ℕ). Stops b n m) (sym it.many) (why b it.few);
+      begun = why.0;
+      stops = subst (λ (n : ℕ). Stops b n m now.client) (sym it.many) (why.1 b it.few);
     })
 
-anywhere : (dialect : Dialect) (most : Option ℕ) (x y : Ahead) (count : ℕ) (start now : MemberView) → Between x y (Played dialect most count start now)
-    → IfSome x.rest (λ b. IsPlayedUpTo dialect most b (λ lines rest. Unit {0}) start now)
-anywhere dialect most x y count start now one = up_to dialect most x y count start now (λ script lines rest. Unit {0}) one (known y.rest (λ b. (script : List ℕ) → IsWithin most count → Unit {0}) (λ b script few. tt))
+anywhere : (dialect : Dialect) (most : Option ℕ) (x y : Ahead) (count : ℕ) (start now last : Talk) → Between x y (Played dialect most count start now)
+    → IfSome y.rest (λ rest. IsBegun (BeginsBad dialect rest) now last) → IfSome x.rest (λ b. IsPlayedUpTo dialect most b (λ lines rest client. Unit {0}) start last)
+anywhere dialect most x y count start now last one begun =
+    up_to dialect most x y count start now last (λ script lines rest client. Unit {0}) one
+    (known_map y.rest (λ rest. IsBegun (BeginsBad dialect rest) now last) (Halts dialect most count now last (λ script lines rest client. Unit {0})) begun (λ rest it. (it, λ script few. tt)))
+
+-- nothing of the next line was done
+unbegun : (dialect : Dialect) (o : Option (List ℕ)) (now : Talk) → IfSome o (λ rest. IsBegun (BeginsBad dialect rest) now now)
+unbegun dialect o now = known o (λ rest. IsBegun (BeginsBad dialect rest) now now) (λ rest. inl refl)
 
 -- for it has more bytes than it may have
-by_bytes : (most : Option ℕ) (script : List ℕ) (lines : ℕ) (rest : List ℕ) → 16777216 < length script → IsTooLong most script lines rest
-by_bytes None script lines rest long = long
-by_bytes (Some most) script lines rest long = inl long
+by_bytes : (most : Option ℕ) (script : List ℕ) (first : MemberView) (lines : ℕ) (rest : List ℕ) (now : MemberView) → 16777216 < length script → IsTooLong most script first lines rest now
+by_bytes None script first lines rest now long = long
+by_bytes (Some most) script first lines rest now long = inl long
 
-too_long_there : (dialect : Dialect) (most : Option ℕ) (x y : Ahead) (count : ℕ) (start now : MemberView) → x.left ≡ 16777216 → Between x y (Played dialect most count start now) → HasMore y
-    → IfSome x.rest (λ b. IsPlayedUpTo dialect most b (IsTooLong most b) start now)
-too_long_there dialect most x y count start now whole one more =
+too_long_there : (dialect : Dialect) (most : Option ℕ) (x y : Ahead) (count : ℕ) (start now last : Talk) → x.left ≡ 16777216 → Between x y (Played dialect most count start now) → HasMore y
+    → IfSome y.rest (λ rest. IsBegun (BeginsBad dialect rest) now last) → IfSome x.rest (λ b. IsPlayedUpTo dialect most b (IsTooLong most b start.client) start last)
+too_long_there dialect most x y count start now last whole one more begun =
     let long = too_long x whole (more_before x y (Played dialect most count start now) one more) in
-    let there = anywhere dialect most x y count start now one in
-    known_map x.rest (λ b. (16777216 < length b) × IsPlayedUpTo dialect most b (λ lines rest. Unit {0}) start now) (λ b. IsPlayedUpTo dialect most b (IsTooLong most b) start now)
-    (known_both x.rest (λ b. 16777216 < length b) (λ b. IsPlayedUpTo dialect most b (λ lines rest. Unit {0}) start now) long there)
+    let there = anywhere dialect most x y count start now last one begun in
+    known_map x.rest (λ b. (16777216 < length b) × IsPlayedUpTo dialect most b (λ lines rest client. Unit {0}) start last) (λ b. IsPlayedUpTo dialect most b (IsTooLong most b start.client) start last)
+    (known_both x.rest (λ b. 16777216 < length b) (λ b. IsPlayedUpTo dialect most b (λ lines rest client. Unit {0}) start last) long there)
     (λ b it. record {
       turns = it.1.turns;
       few = it.1.few;
       rest = it.1.rest;
+      between = it.1.between;
       plays = it.1.plays;
-      stops = by_bytes most b (length it.1.turns) it.1.rest it.0;
+      begun = it.1.begun;
+      stops = by_bytes most b start.client (length it.1.turns) it.1.rest it.1.between.client it.0;
     })
 
--- for as many lines are done as may be
-at_bound : (most : Option ℕ) (script : List ℕ) (lines : ℕ) (rest : List ℕ) → most ≡ Some lines → rest ≢ [] → IsTooLong most script lines rest
-at_bound most script lines rest is some = subst (λ (o : Option ℕ). IsTooLong o script lines rest) (sym is) (inr (refl, some))
+-- for as many lines are done as may be, or the receipts hold too much
+at_bound : (most : Option ℕ) (script : List ℕ) (first : MemberView) (lines : ℕ) (rest : List ℕ) (now : MemberView) → EndsBehind most first lines now ScriptTooLong → rest ≢ []
+    → IsTooLong most script first lines rest now
+at_bound most script first lines rest now bound some = subst (λ (o : Option ℕ). IsTooLong o script first lines rest now) (sym bound.1) (inr (some, bound.2))
 
--- the next line could not be read
-unread_ends : (dialect : Dialect) (most : Option ℕ) (x y : Ahead) (count : ℕ) (start now : MemberView) (left : ℕ) (fault : ScriptFault) → x.left ≡ 16777216 → Between x y (Played dialect most count start now)
-    → IsNotRead y left fault → IsStopped dialect most x.rest start now fault
-unread_ends dialect most x y count start now left BadLine whole one why = absurd why
-unread_ends dialect most x y count start now left EndOfScript whole one why = absurd why
-unread_ends dialect most x y count start now left ScriptTooLong whole one why = (tt, too_long_there dialect most x y count start now whole one why.1)
-unread_ends dialect most x y count start now left ReadFault whole one why = (tt, anywhere dialect most x y count start now one)
-unread_ends dialect most x y count start now left WriteFault whole one why = absurd why
+-- a fault ended it
+abbrev pub IsHaltedBy : Dialect → (most : Option ℕ) → (script : Option (List ℕ)) (first last : Talk) → ScriptFault → Type 0
+IsHaltedBy dialect most script first last fault = IsEnding most fault × IfSome script (λ b. IsStoppedBy dialect most fault b first last)
 
--- none came, for that reason, or since as many are done as may be
-pub no_line_ends : (dialect : Dialect) (most : Option ℕ) (x y : Ahead) (count : ℕ) (start now : MemberView) (left : ℕ) (fault : ScriptFault) → x.left ≡ 16777216 → Between x y (Played dialect most count start now)
-    → IsNoLine most count y left fault → IsStopped dialect most x.rest start now fault
-no_line_ends dialect most x y count start now left fault whole one (inl why) = unread_ends dialect most x y count start now left fault whole one why
-no_line_ends dialect most x y count start now left fault whole one (inr (is, bound, some)) =
-    subst (λ (f : ScriptFault). IsStopped dialect most x.rest start now f) (sym is) (
-      tt,
-      up_to dialect most x y count start now (IsTooLong most) one
-          (known_map y.rest (λ b. b ≢ []) (λ b. (script : List ℕ) → IsWithin most count → IsTooLong most script count b) some
-          (λ b left script few. at_bound most script count b bound left)),
-    )
+-- the next line could not be read, or not to its end
+unread_ends : (dialect : Dialect) (most : Option ℕ) (x y : Ahead) (count : ℕ) (start now last : Talk) (left : ℕ) (fault : ScriptFault) → x.left ≡ 16777216 → Between x y (Played dialect most count start now)
+    → IfSome y.rest (λ rest. IsBegun (BeginsBad dialect rest) now last) → IsNotRead y left fault → IsHaltedBy dialect most x.rest start last fault
+unread_ends dialect most x y count start now last left BadLine whole one begun why = absurd why
+unread_ends dialect most x y count start now last left EndOfScript whole one begun why = absurd why
+unread_ends dialect most x y count start now last left ScriptTooLong whole one begun why = (tt, too_long_there dialect most x y count start now last whole one why.1 begun)
+unread_ends dialect most x y count start now last left ReadFault whole one begun why = (tt, anywhere dialect most x y count start now last one begun)
+unread_ends dialect most x y count start now last left WriteFault whole one begun why = absurd why
+unread_ends dialect most x y count start now last left Stopped whole one begun why = absurd why
+
+-- more of it is left, which is to be ended so
+limit_ends : (dialect : Dialect) (most : Option ℕ) (x y : Ahead) (count : ℕ) (start now : Talk) (fault : ScriptFault) → Between x y (Played dialect most count start now)
+    → EndsBehind most start.client count now.client fault → IfSome y.rest (λ b. b ≢ []) → IsHaltedBy dialect most x.rest start now fault
+limit_ends dialect most x y count start now BadLine one bound some = absurd bound
+limit_ends dialect most x y count start now EndOfScript one bound some = absurd bound
+limit_ends dialect most x y count start now ScriptTooLong one bound some = (
+  tt,
+  up_to dialect most x y count start now now (λ b. IsTooLong most b start.client) one
+      (known_map y.rest (λ b. b ≢ []) (Halts dialect most count now now (λ b. IsTooLong most b start.client)) some
+      (λ b left. (inl refl, λ script few. at_bound most script start.client count b now.client bound left))),
+)
+limit_ends dialect most x y count start now ReadFault one bound some = absurd bound
+limit_ends dialect most x y count start now WriteFault one bound some = absurd bound
+limit_ends dialect most x y count start now Stopped one bound some = (
+  bound,
+  known_then x y (Played dialect most count start now) (λ b. b ≢ []) (λ b. IsPlayedTill dialect most b start now) one some (λ b m it left. record {
+    turns = it.turns;
+    few = few_of dialect most count start now b m it;
+    rest = m;
+    between = now;
+    plays = it.plays;
+    left = left;
+    then_is = inl refl;
+  }),
+)
+
+-- none came, for that reason, or since it can't be read
+pub no_line_ends : (dialect : Dialect) (most : Option ℕ) (x y : Ahead) (count : ℕ) (start now : Talk) (left : ℕ) (limit : Option ScriptFault) (fault : ScriptFault) → x.left ≡ 16777216
+    → Between x y (Played dialect most count start now) → IsLimit most start.client count now.client limit → IsNoLine limit y left fault → IsHaltedBy dialect most x.rest start now fault
+no_line_ends dialect most x y count start now left limit fault whole one bound (inl why) =
+    unread_ends dialect most x y count start now now left fault whole one (unbegun dialect y.rest now) why
+no_line_ends dialect most x y count start now left limit fault whole one bound (inr (is, some)) =
+    limit_ends dialect most x y count start now fault one (subst (λ (o : Option ScriptFault). IsLimit most start.client count now.client o) is bound) some
+
+-- one came, so it may be done
+pub line_follows : (most : Option ℕ) (first : MemberView) (lines : ℕ) (now : MemberView) (limit : Option ScriptFault) → IsLimit most first lines now limit → limit ≡ None → MayGoOn most first lines now
+line_follows most first lines now limit bound none = subst (λ (o : Option ScriptFault). IsLimit most first lines now o) none bound
 
 -- a line that is too long was refused, which could not be written; or it could not be skipped
-pub skip_ends : (dialect : Dialect) (most : Option ℕ) (x y m : Ahead) (count : ℕ) (start now : MemberView) (line : List ℕ) (left : ℕ) (fault : ScriptFault) → x.left ≡ 16777216
-    → Between x y (Played dialect most count start now) → Between y m (λ b a. IsNext b TooLong line a) → (fault ≡ WriteFault) ⊎ IsNotRead m left fault → IsStopped dialect most x.rest start now fault
-skip_ends dialect most x y m count start now line left fault whole one next (inl unwritten) =
-    subst (λ (f : ScriptFault). IsStopped dialect most x.rest start now f) (sym unwritten) (
+pub skip_ends : (dialect : Dialect) (most : Option ℕ) (x y m : Ahead) (count : ℕ) (start old new : Talk) (line : List ℕ) (left : ℕ) (fault : ScriptFault) → x.left ≡ 16777216 → new.client ≡ old.client
+    → Between x y (Played dialect most count start old) → Between y m (λ b a. IsNext b TooLong line a)
+    → (fault ≡ WriteFault) ⊎ (Appends old.written new.written (script_fault_text BadLine) × IsNotRead m left fault) → IsHaltedBy dialect most x.rest start new fault
+skip_ends dialect most x y m count start old new line left fault whole same one next (inl unwritten) =
+    subst (λ (f : ScriptFault). IsHaltedBy dialect most x.rest start new f) (sym unwritten) (
       tt,
-      known_by x y (Played dialect most count start now) (λ b. IsPlayedInPart dialect most b start now) one
-          (λ b a it. played_up_to dialect most b start it.turns a now now (few_of dialect most count start now b a it) it.plays (inl refl)),
+      known_by x y (Played dialect most count start old) (λ b. IsPlayedInPart dialect most b start new) one
+          (λ b a it. played_up_to dialect most b start it.turns a old new (few_of dialect most count start old b a it) it.plays (inl same)),
     )
-skip_ends dialect most x y m count start now line left fault whole one next (inr why) =
-    unread_ends dialect most x y count start now left fault whole one (unread_before y m (λ b a. IsNext b TooLong line a) left fault next why)
+skip_ends dialect most x y m count start old new line left fault whole same one next (inr why) =
+    unread_ends dialect most x y count start old new left fault whole one
+    (known_by y m (λ b a. IsNext b TooLong line a) (λ b. IsBegun (BeginsBad dialect b) old new) next (λ b a is. inr (inl (is.0, a, is.1, is.2, is.3), (same, why.0))))
+    (unread_before y m (λ b a. IsNext b TooLong line a) left fault next why.1)
+
+-- a line whose source no newline ends
+bad_line : (dialect : Dialect) (y m : Ahead) (old new : Talk) (n : ℕ) (line : List ℕ) → n ≤ 128 → Between y m (λ b a. IsNext b (Line n) line a)
+    → IsBegun (IfSome m.rest (λ rest. HasUnended (asked_of dialect (take n line)) rest)) old new → IfSome y.rest (λ b. IsBegun (BeginsBad dialect b) old new)
+bad_line dialect y m old new n line few next (inl same) = known y.rest (λ b. IsBegun (BeginsBad dialect b) old new) (λ b. inl same)
+bad_line dialect y m old new n line few next (inr (bad, wrote)) =
+    known_then y m (λ b a. IsNext b (Line n) line a) (λ rest. HasUnended (asked_of dialect (take n line)) rest) (λ b. IsBegun (BeginsBad dialect b) old new) next bad
+    (λ b k is unended. inr (
+      inr (record {
+        line = take n line;
+        rest = k;
+        is_line = is.1;
+        unended = subst (λ (asked : Option ScriptRequest). HasUnended asked k) (sym (asks_short dialect (take n line) (short n line few))) unended;
+      }),
+      wrote,
+    ))
 
 -- a line that was not obeyed, or whose answer could not be written
-pub line_ends : (dialect : Dialect) (most : Option ℕ) (x y m : Ahead) (count : ℕ) (start old new : MemberView) (n : ℕ) (line : List ℕ) (fault : ScriptFault) → n ≤ 128 → most ≢ Some count → x.left ≡ 16777216
+line_ends : (dialect : Dialect) (most : Option ℕ) (x y m : Ahead) (count : ℕ) (start old new : Talk) (n : ℕ) (line : List ℕ) (fault : ScriptFault) → n ≤ 128 → MayGoOn most start.client count old.client → x.left ≡ 16777216
     → Between x y (Played dialect most count start old) → Between y m (λ b a. IsNext b (Line n) line a)
-    → IsNotDone (λ b a o w. Obeys (asked_of dialect (take n line)) b a o w) (λ rest. IsCutShort (asked_of dialect (take n line)) rest) m old new fault
-    → IsStopped dialect most x.rest start new fault
+    → IsNotDone (λ b a o w. Obeys (asked_of dialect (take n line)) b a o w) (λ rest. IsCutShort (asked_of dialect (take n line)) rest) (λ rest. HasUnended (asked_of dialect (take n line)) rest) m old new fault
+    → IsHaltedBy dialect most x.rest start new fault
 line_ends dialect most x y m count start old new n line BadLine few more whole one next ended = absurd ended
+line_ends dialect most x y m count start old new n line Stopped few more whole one next ended = absurd ended
 line_ends dialect most x y m count start old new n line EndOfScript few more whole one next ended =
-    let stops = known_then y m (λ b a. IsNext b (Line n) line a) (λ rest. IsCutShort (asked_of dialect (take n line)) rest) (λ b. (script : List ℕ) → IsWithin most count → IsWithin most (count + 1) × EndsInSource dialect b)
-    next ended.1 (λ b k is cut script within. (
-      within_more most count within more,
+    let stops = known_then y m (λ b a. IsNext b (Line n) line a) (λ rest. IsCutShort (asked_of dialect (take n line)) rest)
+    (Halts dialect most count old old (λ script. IsCutIn dialect most start.client))
+    next ended.1 (λ b k is cut. (
+      inl refl,
+      λ script within. (
+        within_more most count within more.0,
+        more.1,
+        record {
+          line = take n line;
+          rest = k;
+          is_line = is.1;
+          short = subst (λ (asked : Option ScriptRequest). IsCutShort asked k) (sym (asks_short dialect (take n line) (short n line few))) cut;
+        },
+      ),
+    )) in (
+      tt,
+      subst (λ (h : Talk). IfSome x.rest (λ b. IsPlayedUpTo dialect most b (IsCutIn dialect most start.client) start h)) (sym ended.0)
+          (up_to dialect most x y count start old old (λ script. IsCutIn dialect most start.client) one stops),
+    )
+line_ends dialect most x y m count start old new n line ScriptTooLong few more whole one next ended = (
+  tt,
+  too_long_there dialect most x y count start old new whole one (more_before y m (λ b a. IsNext b (Line n) line a) next ended.1) (bad_line dialect y m old new n line few next ended.0),
+)
+line_ends dialect most x y m count start old new n line ReadFault few more whole one next ended =
+    (tt, anywhere dialect most x y count start old new one (bad_line dialect y m old new n line few next ended))
+line_ends dialect most x y m count start old new n line WriteFault few more whole one next ended =
+    let last = known_then y m (λ b a. IsNext b (Line n) line a)
+    (λ b. (new.client ≡ old.client) ⊎ ((a : List ℕ) × (w : Option (List ℕ)) × Obeys (asked_of dialect (take n line)) b a old (talk new.client w)))
+    (λ b. (new.client ≡ old.client) ⊎ ((a : List ℕ) × (w : Option (List ℕ)) × IsStep dialect b a old (talk new.client w))) next ended (λ b k is how. elim how [
+      | inl same ↦ inl same
+      | inr it ↦ inr (it.0, it.1, obeyed_step dialect b k it.0 (take n line) old (talk new.client it.1) (short n line few) is.1 it.2)
+    ]) in (
+      tt,
+      known_then x y (Played dialect most count start old) (λ b. (new.client ≡ old.client) ⊎ ((a : List ℕ) × (w : Option (List ℕ)) × IsStep dialect b a old (talk new.client w)))
+          (λ b. IsPlayedInPart dialect most b start new) one last
+          (λ b k it how. played_up_to dialect most b start it.turns k old new (few_of dialect most count start old b k it) it.plays (elim how [
+            | inl same ↦ inl same
+            | inr step ↦ inr (subst (λ (l : ℕ). IsWithin most (l + 1)) (sym it.many) (within_more most count it.few more.0), more.1, step.0, step.1, step.2)
+          ])),
+    )
+
+-- a `run` was cut
+cut_ends : (dialect : Dialect) (most : Option ℕ) (x y m : Ahead) (count : ℕ) (start old new : Talk) (n : ℕ) (line : List ℕ) → n ≤ 128 → MayGoOn most start.client count old.client
+    → Between x y (Played dialect most count start old) → Between y m (λ b a. IsNext b (Line n) line a) → IsBounded most → CutsLine (asked_of dialect (take n line)) old new
+    → IsHaltedBy dialect most x.rest start new Stopped
+cut_ends dialect most x y m count start old new n line few more one next bounded cut =
+    let there = known_by y m (λ b a. IsNext b (Line n) line a) (λ b. (b ≢ []) × CutsNext dialect b old new) next (λ b k is. (
+      is.0,
       record {
         line = take n line;
         rest = k;
         is_line = is.1;
-        short = subst (λ (asked : Option ScriptRequest). IsCutShort asked k) (sym (asks_short dialect (take n line) (short n line few))) cut;
+        cut = subst (λ (asked : Option ScriptRequest). CutsLine asked old new) (sym (asks_short dialect (take n line) (short n line few))) cut;
       },
     )) in (
-      tt,
-      subst (λ (h : MemberView). IfSome x.rest (λ b. IsPlayedUpTo dialect most b (λ lines rest. IsWithin most (lines + 1) × EndsInSource dialect rest) start h)) (sym ended.0)
-          (up_to dialect most x y count start old (λ script lines rest. IsWithin most (lines + 1) × EndsInSource dialect rest) one stops),
-    )
-line_ends dialect most x y m count start old new n line ScriptTooLong few more whole one next ended = (
-  tt,
-  subst (λ (h : MemberView). IfSome x.rest (λ b. IsPlayedUpTo dialect most b (IsTooLong most b) start h)) (sym ended.0)
-      (too_long_there dialect most x y count start old whole one (more_before y m (λ b a. IsNext b (Line n) line a) next ended.1)),
-)
-line_ends dialect most x y m count start old new n line ReadFault few more whole one next ended =
-    (tt, subst (λ (h : MemberView). IfSome x.rest (λ b. IsPlayedUpTo dialect most b (λ lines rest. Unit {0}) start h)) (sym ended) (anywhere dialect most x y count start old one))
-line_ends dialect most x y m count start old new n line WriteFault few more whole one next ended =
-    let last = known_then y m (λ b a. IsNext b (Line n) line a) (λ b. (new ≡ old) ⊎ ((a : List ℕ) × Obeys (asked_of dialect (take n line)) b a old new))
-    (λ b. (new ≡ old) ⊎ ((a : List ℕ) × IsStep dialect b a old new)) next ended (λ b k is how. elim how [
-      | inl same ↦ inl same
-      | inr it ↦ inr (it.0, obeyed_step dialect b k it.0 (take n line) old new (short n line few) is.1 it.1)
-    ]) in (
-      tt,
-      known_then x y (Played dialect most count start old) (λ b. (new ≡ old) ⊎ ((a : List ℕ) × IsStep dialect b a old new)) (λ b. IsPlayedInPart dialect most b start new) one last
-          (λ b k it how. played_up_to dialect most b start it.turns k old new (few_of dialect most count start old b k it) it.plays (elim how [
-            | inl same ↦ inl same
-            | inr step ↦ inr (subst (λ (l : ℕ). IsWithin most (l + 1)) (sym it.many) (within_more most count it.few more), step.0, step.1)
-          ])),
+      bounded,
+      known_then x y (Played dialect most count start old) (λ b. (b ≢ []) × CutsNext dialect b old new) (λ b. IsPlayedTill dialect most b start new) one there (λ b k it cuts. record {
+        turns = it.turns;
+        few = few_of dialect most count start old b k it;
+        rest = k;
+        between = old;
+        plays = it.plays;
+        left = cuts.0;
+        then_is = inr (subst (λ (l : ℕ). IsWithin most (l + 1)) (sym it.many) (within_more most count it.few more.0), more.1, cuts.1);
+      }),
     )
 
+-- a line was not obeyed
+pub obey_ends : (dialect : Dialect) (most : Option ℕ) (x y m : Ahead) (count : ℕ) (start old new : Talk) (n : ℕ) (line : List ℕ) (fault : ScriptFault) → n ≤ 128 → MayGoOn most start.client count old.client → x.left ≡ 16777216
+    → Between x y (Played dialect most count start old) → Between y m (λ b a. IsNext b (Line n) line a) → IsObeyedNot most (asked_of dialect (take n line)) m old new fault
+    → IsHaltedBy dialect most x.rest start new fault
+obey_ends dialect most x y m count start old new n line BadLine few more whole one next ended = line_ends dialect most x y m count start old new n line BadLine few more whole one next ended
+obey_ends dialect most x y m count start old new n line EndOfScript few more whole one next ended = line_ends dialect most x y m count start old new n line EndOfScript few more whole one next ended
+obey_ends dialect most x y m count start old new n line ScriptTooLong few more whole one next ended = line_ends dialect most x y m count start old new n line ScriptTooLong few more whole one next ended
+obey_ends dialect most x y m count start old new n line ReadFault few more whole one next ended = line_ends dialect most x y m count start old new n line ReadFault few more whole one next ended
+obey_ends dialect most x y m count start old new n line WriteFault few more whole one next ended = line_ends dialect most x y m count start old new n line WriteFault few more whole one next ended
+obey_ends dialect most x y m count start old new n line Stopped few more whole one next ended = cut_ends dialect most x y m count start old new n line few more one next ended.0 ended.1
+
 -- more lines than a script may have bytes
-pub lines_end : (dialect : Dialect) (most : Option ℕ) (x y : Ahead) (count : ℕ) (start now : MemberView) → 16777216 < count → Between x y (Played dialect most count start now)
-    → IsStopped dialect most x.rest start now ScriptTooLong
+pub lines_end : (dialect : Dialect) (most : Option ℕ) (x y : Ahead) (count : ℕ) (start now : Talk) → 16777216 < count → Between x y (Played dialect most count start now)
+    → IsHaltedBy dialect most x.rest start now ScriptTooLong
 lines_end dialect most x y count start now many one = (
   tt,
-  known_by x y (Played dialect most count start now) (λ b. IsPlayedUpTo dialect most b (IsTooLong most b) start now) one
+  known_by x y (Played dialect most count start now) (λ b. IsPlayedUpTo dialect most b (IsTooLong most b start.client) start now) one
       (λ b a it. record {
         turns = it.turns;
         few = few_of dialect most count start now b a it;
         rest = a;
+        between = now;
         plays = it.plays;
-        stops = by_bytes most b (length it.turns) a (omega (arith, many, it.takes));
+        begun = inl refl;
+        stops = by_bytes most b start.client (length it.turns) a now.client (omega (arith, many, it.takes));
       }),
 )
 
 -- ---- the line of the fault itself
 
-part_of : (dialect : Dialect) (most : Option ℕ) (script : List ℕ) (Stops : ℕ → List ℕ → Type 0) (old new : MemberView) → IsPlayedUpTo dialect most script Stops old new → IsPlayedInPart dialect most script old new
-part_of dialect most script Stops old new it = played_up_to dialect most script old it.turns it.rest new new it.few it.plays (inl refl)
+client_of : (Bad : Type 0) (old new : Talk) → IsBegun Bad old new → new.client ≡ old.client
+client_of Bad old new (inl same) = ap (λ (t : Talk). t.client) same
+client_of Bad old new (inr (bad, wrote)) = wrote.0
 
-in_part : (dialect : Dialect) (most : Option ℕ) (fault : ScriptFault) (script : List ℕ) (old new : MemberView) → IsStoppedBy dialect most fault script old new → IsPlayedInPart dialect most script old new
-in_part dialect most BadLine script old new it = absurd it
-in_part dialect most EndOfScript script old new it = part_of dialect most script (λ lines rest. IsWithin most (lines + 1) × EndsInSource dialect rest) old new it
-in_part dialect most ScriptTooLong script old new it = part_of dialect most script (IsTooLong most script) old new it
-in_part dialect most ReadFault script old new it = part_of dialect most script (λ lines rest. Unit {0}) old new it
-in_part dialect most WriteFault script old new it = it
+part_of : (dialect : Dialect) (most : Option ℕ) (script : List ℕ) (Stops : ℕ → List ℕ → MemberView → Type 0) (old between new : Talk) → new.client ≡ between.client
+    → IsPlayedUpTo dialect most script Stops old between → IsPlayedInPart dialect most script old new
+part_of dialect most script Stops old between new same it =
+    played_up_to dialect most script old it.turns it.rest it.between new it.few it.plays (inl (same ∙ client_of (BeginsBad dialect it.rest) it.between between it.begun))
 
--- where it could not be written the fault is that
-pub unwritten_behind : (dialect : Dialect) (most : Option ℕ) (script : Option (List ℕ)) (old new : MemberView) (fault unwritten : ScriptFault) → unwritten ≡ WriteFault → IsStopped dialect most script old new fault
-    → IsStopped dialect most script old new unwritten
-unwritten_behind dialect most script old new fault unwritten is it =
-    subst (λ (f : ScriptFault). IsStopped dialect most script old new f) (sym is)
-    (tt, known_map script (λ b. IsStoppedBy dialect most fault b old new) (λ b. IsPlayedInPart dialect most b old new) it.1 (λ b by. in_part dialect most fault b old new by))
+-- what is known of a client is known of one that is the same
+in_part_of : (dialect : Dialect) (most : Option ℕ) (script : List ℕ) (old between new : Talk) → new.client ≡ between.client → IsPlayedInPart dialect most script old between → IsPlayedInPart dialect most script old new
+in_part_of dialect most script old between new same it =
+    played_up_to dialect most script old it.turns it.rest it.between new it.few it.plays (elim it.then_is [
+      | inl as_it_was ↦ inl (same ∙ as_it_was)
+      | inr (few, light, after, written, step) ↦ inr (few, light, after, written, subst (λ (c : MemberView). IsStep dialect it.rest after it.between (talk c written)) (sym same) step)
+    ])
+
+in_part : (dialect : Dialect) (most : Option ℕ) (fault : ScriptFault) (script : List ℕ) (old between new : Talk) → new.client ≡ between.client → IsStoppedBy dialect most fault script old between
+    → IsPlayedInPart dialect most script old new
+in_part dialect most BadLine script old between new same it = absurd it
+in_part dialect most EndOfScript script old between new same it = part_of dialect most script (IsCutIn dialect most old.client) old between new same it
+in_part dialect most ScriptTooLong script old between new same it = part_of dialect most script (IsTooLong most script old.client) old between new same it
+in_part dialect most ReadFault script old between new same it = part_of dialect most script (λ lines rest client. Unit {0}) old between new same it
+in_part dialect most WriteFault script old between new same it = in_part_of dialect most script old between new same it
+in_part dialect most Stopped script old between new same it =
+    played_up_to dialect most script old it.turns it.rest it.between new it.few it.plays (elim it.then_is [
+      | inl as_it_was ↦ inl (same ∙ ap (λ (t : Talk). t.client) as_it_was)
+      | inr (few, light, cuts) ↦
+          let step = cut_obeyed (asked_by_line dialect cuts.line) cuts.rest it.between between new same cuts.cut in
+          inr (few, light, cuts.rest, step.0, record { line = cuts.line; rest = cuts.rest; is_line = cuts.is_line; obeyed = step.1 })
+    ])
+
+-- the script was done as far as the fault says, and then the fault's line was written
+pub line_written : (dialect : Dialect) (most : Option ℕ) (script : Option (List ℕ)) (old between new : Talk) (fault : ScriptFault) → IsEnding most fault × IfSome script (λ b. IsStoppedBy dialect most fault b old between)
+    → Writes (script_fault_text fault) between new → IsStopped dialect most script old new fault
+line_written dialect most script old between new fault it wrote =
+    (it.0, known_map script (λ b. IsStoppedBy dialect most fault b old between) (λ b. IsEndedBy dialect most fault b old new) it.1 (λ b by. (between, by, wrote)))
+
+-- if the line could not be written the fault is 54
+pub line_unwritten : (dialect : Dialect) (most : Option ℕ) (script : Option (List ℕ)) (old between new : Talk) (fault unwritten : ScriptFault) → new.client ≡ between.client → unwritten ≡ WriteFault
+    → IsEnding most fault × IfSome script (λ b. IsStoppedBy dialect most fault b old between) → IsStopped dialect most script old new unwritten
+line_unwritten dialect most script old between new fault unwritten same is it =
+    subst (λ (f : ScriptFault). IsStopped dialect most script old new f) (sym is) (
+      tt,
+      known_map script (λ b. IsStoppedBy dialect most fault b old between) (λ b. IsEndedBy dialect most WriteFault b old new) it.1
+          (λ b by. (new, in_part dialect most fault b old between new same by, (refl, Appends-nil new.written))),
+    )

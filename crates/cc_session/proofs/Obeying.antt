@@ -1,26 +1,60 @@
--- What a line asks for is what was called.
-use Rattle.std.proofs.Common.{◌≡◌, List, ℕ, Option, Result, refl, subst}
-use Rattle.std.specs.Prelude.{IfErr}
+-- What a line asks for is what was called and written.
+use Rattle.std.proofs.Common.{◌≡◌, List, ℕ, Option, Result, Ok, Err, refl, subst}
+use Rattle.std.specs.Io.KnownBytes.{append_known}
+use Rattle.cc_answers.specs.Telling.{Tells}
 use Rattle.cc_script.specs.Line.{ScriptRequest}
 use Rattle.cc_script.specs.Reading.{Ahead}
 use Rattle.cc_script.specs.declared.fault.ScriptFault.{ScriptFault}
-use Rattle.cc_script.specs.declared.fault.ScriptFault.TheVariants.{WriteFault}
+use Rattle.cc_script.specs.declared.fault.ScriptFault.TheVariants.{BadLine, EndOfScript, ScriptTooLong, ReadFault, WriteFault, Stopped}
+use Rattle.cc_history.specs.declared.entry.Receipt.{Receipt}
 use Rattle.cc_history.specs.History.{MemberView}
-use Rattle.cc_session.specs.Playing.{IsCutShort, Obeys}
-use Rattle.cc_session.specs.internal.Steps.{IsDone}
-use Rattle.cc_session.proofs.Playing.{between_none, done_of}
+use Rattle.cc_service.specs.declared.fault.ServiceFault.{ServiceFault}
+use Rattle.cc_session.specs.Playing.{CallsAndWrites, Compacts, HasUnended, IsCutShort, Obeys, Talk, Writes, talk}
+use Rattle.cc_session.specs.Telling.{done_text}
+use Rattle.cc_session.specs.internal.Calls.{CallsAndTells, DoesAndTells}
+use Rattle.cc_session.specs.internal.Steps.{IsDone, IsObeyed}
+use Rattle.cc_session.proofs.Playing.{appended, does_of}
+
+-- a step that is done, or not, is a line that is obeyed, or not
+obeyed_from : {T : Type 0} (answer : Result T ScriptFault) (most : Option ℕ) (asked : Option ScriptRequest) (x z : Ahead) (old new : Talk)
+    → IsDone (λ b a o n. Obeys asked b a o n) (λ rest. IsCutShort asked rest) (λ rest. HasUnended asked rest) x z old new answer → IsObeyed most asked x z old new answer
+obeyed_from (Ok done) most asked x z old new it = it
+obeyed_from (Err BadLine) most asked x z old new it = it
+obeyed_from (Err EndOfScript) most asked x z old new it = it
+obeyed_from (Err ScriptTooLong) most asked x z old new it = it
+obeyed_from (Err ReadFault) most asked x z old new it = it
+obeyed_from (Err WriteFault) most asked x z old new it = it
+obeyed_from (Err Stopped) most asked x z old new it = absurd it
 
 -- a step of what is asked
-pub obeyed_as : {T : Type 0} (answer : Result T ScriptFault) (asked wanted : Option ScriptRequest) (x z : Ahead) (old new : MemberView) → wanted ≡ asked
-    → IsDone (λ b a o n. Obeys wanted b a o n) (λ rest. IsCutShort wanted rest) x z old new answer → IsDone (λ b a o n. Obeys asked b a o n) (λ rest. IsCutShort asked rest) x z old new answer
-obeyed_as answer asked wanted x z old new same it =
-    subst (λ (it : Option ScriptRequest). IsDone (λ b a o n. Obeys it b a o n) (λ rest. IsCutShort it rest) x z old new answer) same it
+pub obeyed_as : {T : Type 0} (most : Option ℕ) (answer : Result T ScriptFault) (asked wanted : Option ScriptRequest) (x z : Ahead) (old new : Talk) → wanted ≡ asked
+    → IsDone (λ b a o n. Obeys wanted b a o n) (λ rest. IsCutShort wanted rest) (λ rest. HasUnended wanted rest) x z old new answer → IsObeyed most asked x z old new answer
+obeyed_as most answer asked wanted x z old new same it =
+    subst (λ (it : Option ScriptRequest). IsObeyed most it x z old new answer) same (obeyed_from answer most wanted x z old new it)
 
--- calls, behind whose line no source stands
-pub called_as : {T : Type 0} (answer : Result T ScriptFault) (asked wanted : Option ScriptRequest) (x : Ahead) (old new : MemberView) (Called : Type 0)
-    → wanted ≡ asked → IfErr answer (λ fault. fault ≡ WriteFault) → Called → ((b a : List ℕ) → ((a ≡ b) × Called) → Obeys wanted b a old new)
-    → IsDone (λ b a o n. Obeys asked b a o n) (λ rest. IsCutShort asked rest) x x old new answer
-called_as answer asked wanted x old new Called same unwritten called gives =
-    obeyed_as answer asked wanted x x old new same
-    (done_of answer (λ b a o n. Obeys wanted b a o n) (λ rest. IsCutShort wanted rest) x x old new unwritten
-    (between_none x (λ b a. Obeys wanted b a old new) (λ b. gives b b (refl, called))))
+-- what is asked in a line without a source
+pub called_as : {T : Type 0} (most : Option ℕ) (answer : Result T ScriptFault) (asked wanted : Option ScriptRequest) (x : Ahead) (old new : Talk) (Does : Talk → Talk → Type 0)
+    → wanted ≡ asked → DoesAndTells Does old new answer → ((b : List ℕ) (n : Talk) → Does old n → Obeys wanted b b old n) → IsObeyed most asked x x old new answer
+called_as most answer asked wanted x old new Does same it gives =
+    obeyed_as most answer asked wanted x x old new same
+    (does_of answer Does (λ b a o n. Obeys wanted b a o n) (λ rest. IsCutShort wanted rest) (λ rest. HasUnended wanted rest) x old new it gives)
+
+-- ---- calls whose text is that of an answer
+
+-- a call
+pub tells_call : {T : Type 0} (result : Result T ScriptFault) (Answers : MemberView → MemberView → Result Receipt ServiceFault → Type 0) (Says : Result Receipt ServiceFault → List ℕ → Type 0)
+    (old new : Talk) → CallsAndTells Answers Says old new result → DoesAndTells (CallsAndWrites Answers Says) old new result
+tells_call (Ok done) Answers Says old new it = (it.0, it.1, it.2, it.3, it.4.1)
+tells_call (Err fault) Answers Says old new it = (it.4.0, append_known old.written it.2, (it.0, it.1, it.2, it.3, appended old.written it.2))
+
+-- no call
+pub tells_only : {T : Type 0} (result : Result T ScriptFault) (client : MemberView) (old new : Option (List ℕ)) (text : List ℕ) → Tells old new text result
+    → DoesAndTells (Writes text) (talk client old) (talk client new) result
+tells_only (Ok done) client old new text it = (refl, it.1)
+tells_only (Err fault) client old new text it = (it.0, append_known old text, (refl, appended old text))
+
+-- a compaction
+pub tells_done : {T : Type 0} (result : Result T ScriptFault) (client : MemberView) (old new : Option (List ℕ)) (answer : Result (Unit {0}) ServiceFault) → Tells old new (done_text answer) result
+    → DoesAndTells Compacts (talk client old) (talk client new) result
+tells_done (Ok done) client old new answer it = (answer, (refl, it.1))
+tells_done (Err fault) client old new answer it = (it.0, append_known old (done_text answer), (answer, (refl, appended old (done_text answer))))

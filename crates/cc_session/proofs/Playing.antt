@@ -1,6 +1,7 @@
 -- What is known of the rest of a script is carried from step to step.
 use Rattle.std.proofs.Common.{◌≡◌, ◌∙◌, ℕ, ◌+◌, ◌<◌, ◌≤◌, Bool, true, false, List, [], ◌∷◌, ◌++◌, length, Option, Some, None, Result, Ok, Err, Vec, Global, refl, sym, ap, subst, append_assoc, arith, inl, inr}
 use Rattle.std.specs.Prelude.{◌⊎◌, ◌≢◌, All, IfErr, IfSome, OnOk}
+use Rattle.std.specs.Io.KnownBytes.{Appends, append_known}
 use Rattle.std.specs.Option.{option_map}
 use Rattle.std.proofs.lemmas.List.{length-append}
 use Rattle.std.proofs.lemmas.List.Elements.{All-append}
@@ -9,11 +10,13 @@ use Rattle.cc_script.specs.Line.{ScriptRequest, asked_of}
 use Rattle.cc_script.specs.Reading.{Ahead, Between, HasMore, IsLine, IsLineEnd, IsNext, IsNoSource, IsNotRead, IsRead, IsSource, Known, rest_from}
 use Rattle.cc_script.specs.declared.command.Dialect.{Dialect}
 use Rattle.cc_script.specs.declared.fault.ScriptFault.{ScriptFault}
-use Rattle.cc_script.specs.declared.fault.ScriptFault.TheVariants.{BadLine, EndOfScript, ScriptTooLong, ReadFault, WriteFault}
+use Rattle.cc_script.specs.declared.fault.ScriptFault.TheVariants.{BadLine, EndOfScript, ScriptTooLong, ReadFault, WriteFault, Stopped}
 use Rattle.cc_script.specs.declared.script.NextLine.{NextLine}
 use Rattle.cc_script.specs.declared.script.NextLine.TheVariants.{End, Line, TooLong}
+use Rattle.cc_answers.specs.Telling.{Tells, script_fault_text}
 use Rattle.cc_history.specs.History.{MemberView}
-use Rattle.cc_session.specs.Playing.{IsPlayed, IsPlayedInPart, IsStep, IsWithin, Obeys, Plays, Turn, asked_by_line}
+use Rattle.cc_session.specs.Playing.{IsBegun, IsLight, IsPlayed, IsPlayedInPart, IsStep, IsWithin, Obeys, Plays, Talk, Turn, Writes, asked_by_line, talk}
+use Rattle.cc_session.specs.internal.Calls.{DoesAndTells}
 use Rattle.cc_session.specs.internal.Steps.{HasSent, IsDone, IsNotDone, IsSentAs, IsShortOf}
 use Rattle.cc_session.specs.declared.reading.Sent.{Sent}
 
@@ -104,12 +107,29 @@ too_long x whole more = known_map x.rest (λ b. x.left < length b) (λ b. 167772
 
 -- ---- whether a step was done
 
-pub done_of : {T : Type 0} (answer : Result T ScriptFault) (Does : List ℕ → List ℕ → MemberView → MemberView → Type 0) (IsShort : List ℕ → Type 0) (x y : Ahead) (old new : MemberView)
-    → IfErr answer (λ fault. fault ≡ WriteFault) → Between x y (λ b a. Does b a old new) → IsDone Does IsShort x y old new answer
-done_of (Ok t) Does IsShort x y old new unwritten it = it
-done_of (Err e) Does IsShort x y old new unwritten it =
-    subst (λ (fault : ScriptFault). IsNotDone Does IsShort x old new fault) (sym unwritten)
-    (known_by x y (λ b a. Does b a old new) (λ b. (new ≡ old) ⊎ ((a : List ℕ) × Does b a old new)) it (λ b a does. inr (a, does)))
+-- what a writer holds after one that appends a text, if that is known
+pub appended : (a : Option (List ℕ)) (text : List ℕ) → Appends a (append_known a text) text
+appended None text = tt
+appended (Some bytes) text = refl
+
+-- a step whose text was written, or could not be
+pub done_of : {T : Type 0} (answer : Result T ScriptFault) (Does : List ℕ → List ℕ → Talk → Talk → Type 0) (IsShort IsBad : List ℕ → Type 0) (x y : Ahead) (old new : Talk) (text : List ℕ)
+    → Tells old.written new.written text answer
+    → ((written : Option (List ℕ)) → Appends old.written written text → Between x y (λ b a. Does b a old (talk new.client written))) → IsDone Does IsShort IsBad x y old new answer
+done_of (Ok t) Does IsShort IsBad x y old new text told gives = gives new.written told.1
+done_of (Err e) Does IsShort IsBad x y old new text told gives =
+    let written = append_known old.written text in
+    subst (λ (fault : ScriptFault). IsNotDone Does IsShort IsBad x old new fault) (sym told.0)
+    (known_by x y (λ b a. Does b a old (talk new.client written)) (λ b. (new.client ≡ old.client) ⊎ ((a : List ℕ) × (w : Option (List ℕ)) × Does b a old (talk new.client w)))
+    (gives written (appended old.written text)) (λ b a does. inr (a, written, does)))
+
+-- one behind whose line nothing is read
+pub does_of : {T : Type 0} (answer : Result T ScriptFault) (Does : Talk → Talk → Type 0) (Obeyed : List ℕ → List ℕ → Talk → Talk → Type 0) (IsShort IsBad : List ℕ → Type 0) (x : Ahead) (old new : Talk)
+    → DoesAndTells Does old new answer → ((b : List ℕ) (n : Talk) → Does old n → Obeyed b b old n) → IsDone Obeyed IsShort IsBad x x old new answer
+does_of (Ok t) Does Obeyed IsShort IsBad x old new it gives = between_none x (λ b a. Obeyed b a old new) (λ b. gives b new it)
+does_of (Err e) Does Obeyed IsShort IsBad x old new it gives =
+    subst (λ (fault : ScriptFault). IsNotDone Obeyed IsShort IsBad x old new fault) (sym it.0)
+    (known x.rest (λ b. (new.client ≡ old.client) ⊎ ((a : List ℕ) × (w : Option (List ℕ)) × Obeyed b a old (talk new.client w))) (λ b. inr (b, it.1, gives b (talk new.client it.1) it.2)))
 
 -- what could not be read behind a part that was read
 pub unread_before : (x y : Ahead) (P : List ℕ → List ℕ → Type 0) (left : ℕ) (fault : ScriptFault) → Between x y P → IsNotRead y left fault → IsNotRead x left fault
@@ -118,6 +138,7 @@ unread_before x y P left EndOfScript one why = absurd why
 unread_before x y P left ScriptTooLong one why = (why.0, more_before x y P one why.1)
 unread_before x y P left ReadFault one why = tt
 unread_before x y P left WriteFault one why = absurd why
+unread_before x y P left Stopped one why = absurd why
 
 -- a source, or the end of its line
 pub no_source : (x y : Ahead) (P : List ℕ → List ℕ → Type 0) (count left : ℕ) (fault : ScriptFault) → Between x y P → IsNotRead y left fault → IsNoSource x count left fault
@@ -126,23 +147,26 @@ no_source x y P count left EndOfScript one why = absurd why
 no_source x y P count left ScriptTooLong one why = unread_before x y P left ScriptTooLong one why
 no_source x y P count left ReadFault one why = tt
 no_source x y P count left WriteFault one why = absurd why
+no_source x y P count left Stopped one why = absurd why
 
 -- then nothing was done
-pub not_read : (Does : List ℕ → List ℕ → MemberView → MemberView → Type 0) (IsShort : List ℕ → Type 0) (x : Ahead) (left : ℕ) (h : MemberView) (fault : ScriptFault)
-    → IsNotRead x left fault → IsNotDone Does IsShort x h h fault
-not_read Does IsShort x left h BadLine why = absurd why
-not_read Does IsShort x left h EndOfScript why = absurd why
-not_read Does IsShort x left h ScriptTooLong why = (refl, why.1)
-not_read Does IsShort x left h ReadFault why = refl
-not_read Does IsShort x left h WriteFault why = absurd why
+pub not_read : (Does : List ℕ → List ℕ → Talk → Talk → Type 0) (IsShort IsBad : List ℕ → Type 0) (x : Ahead) (left : ℕ) (old new : Talk) (fault : ScriptFault)
+    → IsBegun (IfSome x.rest IsBad) old new → IsNotRead x left fault → IsNotDone Does IsShort IsBad x old new fault
+not_read Does IsShort IsBad x left old new BadLine begun why = absurd why
+not_read Does IsShort IsBad x left old new EndOfScript begun why = absurd why
+not_read Does IsShort IsBad x left old new ScriptTooLong begun why = (begun, why.1)
+not_read Does IsShort IsBad x left old new ReadFault begun why = begun
+not_read Does IsShort IsBad x left old new WriteFault begun why = absurd why
+not_read Does IsShort IsBad x left old new Stopped begun why = absurd why
 
-pub not_sent : (Does : List ℕ → List ℕ → MemberView → MemberView → Type 0) (x : Ahead) (count left : ℕ) (h : MemberView) (fault : ScriptFault)
-    → IsNoSource x count left fault → IsNotDone Does (IsShortOf count) x h h fault
-not_sent Does x count left h BadLine why = absurd why
-not_sent Does x count left h EndOfScript why = (refl, why)
-not_sent Does x count left h ScriptTooLong why = not_read Does (IsShortOf count) x left h ScriptTooLong why
-not_sent Does x count left h ReadFault why = refl
-not_sent Does x count left h WriteFault why = absurd why
+pub not_sent : (Does : List ℕ → List ℕ → Talk → Talk → Type 0) (IsBad : List ℕ → Type 0) (x : Ahead) (count left : ℕ) (h : Talk) (fault : ScriptFault)
+    → IsNoSource x count left fault → IsNotDone Does (IsShortOf count) IsBad x h h fault
+not_sent Does IsBad x count left h BadLine why = absurd why
+not_sent Does IsBad x count left h EndOfScript why = (refl, why)
+not_sent Does IsBad x count left h ScriptTooLong why = not_read Does (IsShortOf count) IsBad x left h h ScriptTooLong (inl refl) why
+not_sent Does IsBad x count left h ReadFault why = inl refl
+not_sent Does IsBad x count left h WriteFault why = absurd why
+not_sent Does IsBad x count left h Stopped why = absurd why
 
 -- ---- lines
 
@@ -164,19 +188,20 @@ line_behind before prefix between rest after is plain line = record {
   ];
 }
 
--- a line of more bytes than it may have is a step that does nothing
-pub too_long_step : (dialect : Dialect) (before between after line : List ℕ) (old : MemberView) → IsNext before TooLong line between → ((rest : List ℕ) × IsLine between rest after) → IsStep dialect before after old old
-too_long_step dialect before between after line old next skipped =
+-- a line of more bytes than it may have is a step that calls nothing
+pub too_long_step : (dialect : Dialect) (before between after line : List ℕ) (old new : Talk) → IsNext before TooLong line between → ((rest : List ℕ) × IsLine between rest after)
+    → Writes (script_fault_text BadLine) old new → IsStep dialect before after old new
+too_long_step dialect before between after line old new next skipped wrote =
     let long : 128 < length (next.0 ++ skipped.0) = let n = length-append next.0 skipped.0 in omega (arith, n, next.2) in
     record {
       line = next.0 ++ skipped.0;
       rest = after;
       is_line = line_behind before next.0 between skipped.0 after next.1 next.3 skipped.1;
-      obeyed = subst (λ (asked : Option ScriptRequest). Obeys asked after after old old) (sym (asks_long dialect (next.0 ++ skipped.0) long)) (refl, refl);
+      obeyed = subst (λ (asked : Option ScriptRequest). Obeys asked after after old new) (sym (asks_long dialect (next.0 ++ skipped.0) long)) (refl, wrote);
     }
 
 -- a line that is obeyed is a step
-pub obeyed_step : (dialect : Dialect) (before between after line : List ℕ) (old new : MemberView) → length line ≤ 128 → IsLine before line between → Obeys (asked_of dialect line) between after old new
+pub obeyed_step : (dialect : Dialect) (before between after line : List ℕ) (old new : Talk) → length line ≤ 128 → IsLine before line between → Obeys (asked_of dialect line) between after old new
     → IsStep dialect before after old new
 obeyed_step dialect before between after line old new short is obeyed = record {
   line = line;
@@ -188,22 +213,34 @@ obeyed_step dialect before between after line old new short is obeyed = record {
 -- ---- scripts
 
 -- one step more
-pub plays_on : (dialect : Dialect) (before : List ℕ) (old : MemberView) (turns : List Turn) (between : List ℕ) (client : MemberView) (after : List ℕ) (new : MemberView)
-    → Plays dialect before old turns between client → IsStep dialect between after client new → Plays dialect before old (turns ++ (record { rest = after; client = new }) ∷ []) after new
-plays_on dialect before old [] between client after new it step =
-    (subst (λ (l : List ℕ). IsStep dialect l after old new) it.0 (subst (λ (h : MemberView). IsStep dialect between after h new) it.1 step), (refl, refl))
-plays_on dialect before old (turn ∷ turns) between client after new it step = (it.0, plays_on dialect turn.rest turn.client turns between client after new it.1 step)
+pub plays_on : (dialect : Dialect) (MayBegin : MemberView → Type 0) (before : List ℕ) (old : Talk) (turns : List Turn) (between : List ℕ) (now : Talk) (after : List ℕ) (new : Talk)
+    → Plays dialect MayBegin before old turns between now → MayBegin now.client → IsStep dialect between after now new
+    → Plays dialect MayBegin before old (turns ++ (record { rest = after; talk = new }) ∷ []) after new
+plays_on dialect MayBegin before old [] between now after new it may step = (
+  subst (λ (h : Talk). MayBegin h.client) it.1 may,
+  subst (λ (l : List ℕ). IsStep dialect l after old new) it.0 (subst (λ (h : Talk). IsStep dialect between after h new) it.1 step),
+  (refl, refl),
+)
+plays_on dialect MayBegin before old (turn ∷ turns) between now after new it may step =
+    (it.0, it.1, plays_on dialect MayBegin turn.rest turn.talk turns between now after new it.2 may step)
 
 -- the whole script
-pub played : (dialect : Dialect) (most : Option ℕ) (script : List ℕ) (first : MemberView) (turns : List Turn) (rest : List ℕ) (last : MemberView) → IsWithin most (length turns)
-    → Plays dialect script first turns rest last → rest ≡ [] → IsPlayed dialect most script first last
+pub played : (dialect : Dialect) (most : Option ℕ) (script : List ℕ) (first : Talk) (turns : List Turn) (rest : List ℕ) (last : Talk) → IsWithin most (length turns)
+    → Plays dialect (IsLight most first.client) script first turns rest last → rest ≡ [] → IsPlayed dialect most script first last
 played dialect most script first turns rest last few plays over =
-    record { turns = turns; few = few; plays = subst (λ (l : List ℕ). Plays dialect script first turns l last) over plays }
+    record { turns = turns; few = few; plays = subst (λ (l : List ℕ). Plays dialect (IsLight most first.client) script first turns l last) over plays }
+
+-- the next step, whose answer could not be written
+abbrev pub NextIs : Dialect → (most : Option ℕ) (first : MemberView) (lines : ℕ) (rest : List ℕ) (between : Talk) (last : MemberView) → Type 0
+NextIs dialect most first lines rest between last =
+    (last ≡ between.client)
+    ⊎ (IsWithin most (lines + 1) × IsLight most first between.client × (after : List ℕ) × (written : Option (List ℕ)) × IsStep dialect rest after between (talk last written))
 
 -- a prefix of it, and perhaps the next step
-pub played_up_to : (dialect : Dialect) (most : Option ℕ) (script : List ℕ) (first : MemberView) (turns : List Turn) (rest : List ℕ) (client last : MemberView) → IsWithin most (length turns)
-    → Plays dialect script first turns rest client → (last ≡ client) ⊎ (IsWithin most (length turns + 1) × (after : List ℕ) × IsStep dialect rest after client last) → IsPlayedInPart dialect most script first last
-played_up_to dialect most script first turns rest client last few plays it = record { turns = turns; few = few; rest = rest; client = client; plays = plays; then_is = it }
+pub played_up_to : (dialect : Dialect) (most : Option ℕ) (script : List ℕ) (first : Talk) (turns : List Turn) (rest : List ℕ) (between last : Talk) → IsWithin most (length turns)
+    → Plays dialect (IsLight most first.client) script first turns rest between → NextIs dialect most first.client (length turns) rest between last.client
+    → IsPlayedInPart dialect most script first last
+played_up_to dialect most script first turns rest between last few plays it = record { turns = turns; few = few; rest = rest; between = between; plays = plays; then_is = it }
 
 -- a line is there, where one came
 line_left : (before after line : List ℕ) (next : NextLine) → IsNext before next line after → next ≢ End → before ≢ []
@@ -219,15 +256,20 @@ some_left x y next line it other = known_by x y (λ b a. IsNext b next line a) (
 
 -- ---- lines that are refused, and sources
 
--- a step whose line is skipped
-pub skipped : {T : Type 0} (answer : Result T ScriptFault) (Does : List ℕ → List ℕ → MemberView → MemberView → Type 0) (IsShort : List ℕ → Type 0) (x y z : Ahead) (left : ℕ) (h : MemberView)
-    (P : List ℕ → List ℕ → Type 0) → Between x y P → OnOk answer (Between y z (λ b a. (rest : List ℕ) × IsLine b rest a))
-    → IfErr answer (λ fault. (fault ≡ WriteFault) ⊎ IsNotRead y left fault)
-    → ((b m a : List ℕ) → P b m → ((rest : List ℕ) × IsLine m rest a) → Does b a h h) → IsDone Does IsShort x z h h answer
-skipped (Ok t) Does IsShort x y z left h P one two why on = between_then x y z P (λ b a. (rest : List ℕ) × IsLine b rest a) (λ b a. Does b a h h) one two on
-skipped (Err e) Does IsShort x y z left h P one two (inl unwritten) on =
-    subst (λ (fault : ScriptFault). IsNotDone Does IsShort x h h fault) (sym unwritten) (known x.rest _ (λ b. inl refl))
-skipped (Err e) Does IsShort x y z left h P one two (inr why) on = not_read Does IsShort x left h e (unread_before x y P left e one why)
+-- a step whose line is skipped, of which 50 is written first
+pub skipped : {T : Type 0} (answer : Result T ScriptFault) (Does : List ℕ → List ℕ → Talk → Talk → Type 0) (IsShort IsBad : List ℕ → Type 0) (x y z : Ahead) (left : ℕ) (old new : Talk)
+    (P : List ℕ → List ℕ → Type 0) → new.client ≡ old.client → Between x y P → OnOk answer (Between y z (λ b a. (rest : List ℕ) × IsLine b rest a))
+    → OnOk answer (Appends old.written new.written (script_fault_text BadLine))
+    → IfErr answer (λ fault. (fault ≡ WriteFault) ⊎ (Appends old.written new.written (script_fault_text BadLine) × IsNotRead y left fault))
+    → ((b m : List ℕ) → P b m → IsBad b)
+    → ((b m a : List ℕ) → P b m → ((rest : List ℕ) × IsLine m rest a) → Writes (script_fault_text BadLine) old new → Does b a old new) → IsDone Does IsShort IsBad x z old new answer
+skipped (Ok t) Does IsShort IsBad x y z left old new P same one two wrote why bad on =
+    between_then x y z P (λ b a. (rest : List ℕ) × IsLine b rest a) (λ b a. Does b a old new) one two (λ b m a p line. on b m a p line (same, wrote))
+skipped (Err e) Does IsShort IsBad x y z left old new P same one two wrote (inl unwritten) bad on =
+    subst (λ (fault : ScriptFault). IsNotDone Does IsShort IsBad x old new fault) (sym unwritten)
+    (known x.rest (λ b. (new.client ≡ old.client) ⊎ ((a : List ℕ) × (w : Option (List ℕ)) × Does b a old (talk new.client w))) (λ b. inl same))
+skipped (Err e) Does IsShort IsBad x y z left old new P same one two wrote (inr why) bad on =
+    not_read Does IsShort IsBad x left old new e (inr (known_by x y P IsBad one (λ b m p. bad b m p), (same, why.0))) (unread_before x y P left e one why.1)
 
 -- a source, and what stands behind it
 pub sent_step : (b m a : List ℕ) (count : ℕ) (source : Option (Vec ℕ Global)) (is_ended : Bool) (sent : Sent) → IsSentAs source is_ended sent

@@ -1,6 +1,5 @@
 -- Threads may share a meter.
-use denote.Param.Send.{IsSync, sendable, recorded_sync, struct_sync}
-use denote.Struct.Declared.{shape}
+use denote.Param.Send.{IsSync, sendable}
 use Rattle.std.proofs.Crossing.{crosses}
 use Rattle.cc_session.specs.contracts.bounds.Meter as Meter
 

@@ -10,17 +10,22 @@ use Rattle.std.proofs.lemmas.Option.{none-some, slice_get-get_or, slice_get-map,
 use Rattle.cc_script.specs.declared.command.Dialect.TheVariants.{Served}
 use Rattle.cc_script.specs.declared.fault.ScriptFault.{ScriptFault}
 use Rattle.cc_history.specs.History.{MemberView}
-use Rattle.cc_session.specs.Playing.{IsPlayedBy}
-use Rattle.cc_session.specs.Spooling.{AreDoneBy, Given, HasDone, HaveDone, IsDoneBy, most_lines}
+use Rattle.cc_spool.specs.Spool.{Delivered, Taken, delivered_as, taken_as}
+use Rattle.cc_session.specs.Playing.{Grows, IsPlayedBy, Talk, talk}
+use Rattle.cc_session.specs.Spooling.{AreDoneBy, EndsBy, Given, HasDone, HaveDone, IsDoneBy, most_lines}
 use Rattle.cc_session.specs.internal.Ends.{EndOf}
 
 -- ---- one script
 
--- a script that was played is done
-pub done_by : {T : Type 0} (played : Result T ScriptFault) (end : Option ℕ) (script : Option (List ℕ)) (old new : MemberView) → EndOf played end
-    → IsPlayedBy Served most_lines script old new played → IsDoneBy script end old new
-done_by (Ok t) end script old new how is = subst (λ (e : Option ℕ). IsDoneBy script e old new) (sym how) is
-done_by (Err fault) end script old new how is = subst (λ (e : Option ℕ). IsDoneBy script e old new) (sym how) (fault, refl, is)
+ends_by : {T : Type 0} (played : Result T ScriptFault) (end : Option ℕ) (script : Option (List ℕ)) (old new : Talk) → EndOf played end
+    → IsPlayedBy Served most_lines script old new played → EndsBy script end old new
+ends_by (Ok t) end script old new how is = subst (λ (e : Option ℕ). EndsBy script e old new) (sym how) is
+ends_by (Err fault) end script old new how is = subst (λ (e : Option ℕ). EndsBy script e old new) (sym how) (fault, refl, is)
+
+-- a script that was played is done, with the answer that was written
+pub done_by : {T : Type 0} (played : Result T ScriptFault) (end : Option ℕ) (script begun answer : Option (List ℕ)) (old new : MemberView) → EndOf played end
+    → IsPlayedBy Served most_lines script (talk old begun) (talk new answer) played → Grows old new → IsDoneBy (taken_as script begun) (delivered_as answer end) old new
+done_by played end script begun answer old new how is grows = (ends_by played end script (talk old begun) (talk new answer) how is, grows)
 
 -- ---- scripts in turn
 
@@ -28,24 +33,24 @@ done_by (Err fault) end script old new how is = subst (λ (e : Option ℕ). IsDo
 pub done_same : (x y : Given) (h : MemberView) → y.taken ≡ x.taken → y.ended ≡ x.ended → HasDone x h y h
 done_same x y h taken ended = record {
   scripts = [];
-  ends = [];
+  answers = [];
   taken = taken ∙ sym (append-nil x.taken);
   ended = ended ∙ sym (append-nil x.ended);
   done = refl;
 }
 
 -- one script was
-pub done_script : (x y : Given) (old new : MemberView) (script : Option (List ℕ)) (end : Option ℕ) → y.taken ≡ x.taken ++ script ∷ [] → y.ended ≡ x.ended ++ end ∷ []
-    → IsDoneBy script end old new → HasDone x old y new
-done_script x y old new script end taken ended done = record {
+pub done_script : (x y : Given) (old new : MemberView) (script : Taken) (answer : Delivered) → y.taken ≡ x.taken ++ script ∷ [] → y.ended ≡ x.ended ++ answer ∷ []
+    → IsDoneBy script answer old new → HasDone x old y new
+done_script x y old new script answer taken ended done = record {
   scripts = script ∷ [];
-  ends = end ∷ [];
+  answers = answer ∷ [];
   taken = taken;
   ended = ended;
   done = (new, done, refl);
 }
 
-are_done_on : (s t : List (Option (List ℕ))) (d e : List (Option ℕ)) (a b c : MemberView) → AreDoneBy s d a b → AreDoneBy t e b c → AreDoneBy (s ++ t) (d ++ e) a c
+are_done_on : (s t : List Taken) (d e : List Delivered) (a b c : MemberView) → AreDoneBy s d a b → AreDoneBy t e b c → AreDoneBy (s ++ t) (d ++ e) a c
 are_done_on [] t [] e a b c one two = subst (λ (h : MemberView). AreDoneBy t e h c) one two
 are_done_on (x ∷ s) t (y ∷ d) e a b c one two = (one.0, one.1, are_done_on s t d e one.0 b c one.2 two)
 are_done_on [] t (y ∷ d) e a b c one two = absurd one
@@ -55,10 +60,10 @@ are_done_on (x ∷ s) t [] e a b c one two = absurd one
 pub done_on : (x y z : Given) (a b c : MemberView) → HasDone x a y b → HasDone y b z c → HasDone x a z c
 done_on x y z a b c one two = record {
   scripts = one.scripts ++ two.scripts;
-  ends = one.ends ++ two.ends;
-  taken = two.taken ∙ (ap (λ (l : List (Option (List ℕ))). l ++ two.scripts) one.taken ∙ append_assoc x.taken one.scripts two.scripts);
-  ended = two.ended ∙ (ap (λ (l : List (Option ℕ)). l ++ two.ends) one.ended ∙ append_assoc x.ended one.ends two.ends);
-  done = are_done_on one.scripts two.scripts one.ends two.ends a b c one.done two.done;
+  answers = one.answers ++ two.answers;
+  taken = two.taken ∙ (ap (λ (l : List Taken). l ++ two.scripts) one.taken ∙ append_assoc x.taken one.scripts two.scripts);
+  ended = two.ended ∙ (ap (λ (l : List Delivered). l ++ two.answers) one.ended ∙ append_assoc x.ended one.answers two.answers);
+  done = are_done_on one.scripts two.scripts one.answers two.answers a b c one.done two.done;
 }
 
 -- ---- all clients

@@ -1,13 +1,20 @@
 -- Serving in generations: how they follow one another.
-use Rattle.std.specs.Prelude.{ℕ, zero, suc, List}
+use Rattle.std.specs.Prelude.{◌≡◌, ◌⊎◌, ℕ, zero, suc, List}
 use Rattle.cc_session.specs.declared.end.SessionEnd.{SessionEnd}
-use Rattle.cc_session.specs.declared.end.SessionEnd.TheVariants.{Finished}
+use Rattle.cc_session.specs.declared.end.SessionEnd.TheVariants.{Finished, Fault}
 use Rattle.cc_session.specs.Spooling.{Given}
 
+-- The end of a generation after which another one began, if so many came before it: no fault, or 40 or 41, which may pass; of the first no fault.
+abbrev pub GoesOn : (before : ℕ) → SessionEnd → Type 0
+GoesOn before Finished = Unit {0}
+GoesOn zero (Fault number) = ⊥
+GoesOn (suc before) (Fault number) = (number ≡ 40) ⊎ (number ≡ 41)
+
 -- How serving on ends that began with this disk and these spools, where a generation ends so (`Ends`) and this many came before the last. The
--- first begins with them, each later one with the disk and the spools that the one before it left, and all but the last ended without a fault.
+-- first begins with them, each later one with the disk and the spools that the one before it left.
 abbrev pub ServesOn : {D : Type 0} (Ends : (spools_before spools_after : List Given) (before after : D) → SessionEnd → Type 0) (earlier : ℕ)
     (spools_before spools_after : List Given) (before after : D) → SessionEnd → Type 0
 ServesOn Ends zero spools_before spools_after before after end = Ends spools_before spools_after before after end
 ServesOn {D} Ends (suc earlier) spools_before spools_after before after end =
-    (spools : List Given) × (between : D) × ServesOn Ends earlier spools_before spools before between Finished × Ends spools spools_after between after end
+    (spools : List Given) × (between : D) × (ended : SessionEnd) × GoesOn earlier ended × ServesOn Ends earlier spools_before spools before between ended
+    × Ends spools spools_after between after end

@@ -1,113 +1,159 @@
--- What a script is to the client that does it: line by line a call of the service, and what its answer makes of the client.
-use Rattle.std.specs.Prelude.{◌≡◌, ◌≢◌, ◌⊎◌, ◌+◌, ◌<◌, ◌≤◌, ℕ, Bool, true, false, List, [], ◌∷◌, ◌++◌, length, take, nat_le, if◌then◌else◌, Option, Some, None, IfSome, Result, Ok, Err}
+-- What a script is to the client that does it: line by line a call of the service, what its answer makes of the client, and what is written of it.
+use Rattle.std.specs.Prelude.{◌≡◌, ◌≢◌, ◌⊎◌, ◌+◌, ◌<◌, ◌≤◌, ℕ, Bool, true, false, List, [], ◌∷◌, ◌++◌, All, drop, length, take, nat_le, if◌then◌else◌, Option, Some, None, IfSome, Result, Ok, Err, codes}
+use Rattle.std.specs.Io.KnownBytes.{Appends}
 use Rattle.cc_script.specs.Line.{ScriptRequest, Add, Replace, Withdraw, Names, Run, Compact, Audit, Image, Source, asked_of}
 use Rattle.cc_script.specs.Reading.{IsLine}
 use Rattle.cc_script.specs.declared.command.Dialect.{Dialect}
 use Rattle.cc_script.specs.declared.fault.ScriptFault.{ScriptFault}
-use Rattle.cc_script.specs.declared.fault.ScriptFault.TheVariants.{BadLine, EndOfScript, ScriptTooLong, ReadFault, WriteFault}
+use Rattle.cc_script.specs.declared.fault.ScriptFault.TheVariants.{BadLine, EndOfScript, ScriptTooLong, ReadFault, WriteFault, Stopped}
+use Rattle.cc_answers.specs.Text.{line}
+use Rattle.cc_answers.specs.Telling.{script_fault_text}
+use Rattle.cc_task.specs.declared.part.Part.TheVariants as part
 use Rattle.cc_history.specs.declared.command.Command.{Command}
 use Rattle.cc_history.specs.declared.entry.Receipt.{Receipt}
 use Rattle.cc_history.specs.declared.reply.Reply.TheVariants as reply
+use Rattle.cc_history.specs.Held.{receipts_bytes}
 use Rattle.cc_history.specs.History.{MemberView}
 use Rattle.cc_service.specs.Serving.{Adds, Replaces, GetAnswers, ListAnswers, PutAnswers, WithdrawAnswers}
 use Rattle.cc_service.specs.declared.fault.ServiceFault.{ServiceFault}
+use Rattle.cc_session.specs.Telling.{IsCutRun, SaysAudit, SaysChange, SaysNames, SaysRefusal, SaysRun, SaysShown, done_text, no_memory_text}
 
--- the client called, and this is what such a call makes of it, with some answer
-abbrev pub Calls : (Answers : Result Receipt ServiceFault → Type 0) → Type 0
-Calls Answers = (answer : Result Receipt ServiceFault) × Answers answer
+-- a client, and what the writer of its answers holds, if that is known
+pub record Talk : Type 0 where
+  pub client : MemberView
+  pub written : Option (List ℕ)
 
--- The source behind a line: this many bytes, then a newline or the end. The call takes them; of more than 65,536 it takes 65,537, which are
--- too many. Where there is no room for them, or where another byte follows, nothing is called; then the rest of that line is skipped.
-pub record IsSent (Asks : (name source : List ℕ) → Command → Type 0) (name : List ℕ) (count : ℕ) (before after : List ℕ) (old new : MemberView) : Type 0 where
+abbrev pub talk : MemberView → (written : Option (List ℕ)) → Talk
+talk client written = record { client = client; written = written }
+
+-- the client called, and this says what was written of the answer
+abbrev pub CallsAndWrites : (Answers : MemberView → MemberView → Result Receipt ServiceFault → Type 0) (Says : Result Receipt ServiceFault → List ℕ → Type 0) → (old new : Talk) → Type 0
+CallsAndWrites Answers Says old new =
+    (answer : Result Receipt ServiceFault) × Answers old.client new.client answer × (text : List ℕ) × Says answer text × Appends old.written new.written text
+
+-- nothing was called, and this was written
+abbrev pub Writes : (text : List ℕ) → (old new : Talk) → Type 0
+Writes text old new = (new.client ≡ old.client) × Appends old.written new.written text
+
+-- The source after a line: this many bytes, then a newline or the end. The call takes them; of more than 65,536 it takes 65,537, which are
+-- too many. If there is no room for them, or if another byte follows, nothing is called; in the second case the rest of that line is skipped.
+pub record IsSent (Asks : (name source : List ℕ) → Command → Type 0) (name : List ℕ) (count : ℕ) (before after : List ℕ) (old new : Talk) : Type 0 where
   pub source : List ℕ
   pub rest : List ℕ
   pub prefix : before ≡ source ++ rest
   pub count_is : length source ≡ count
   pub called :
-      (IsLine rest [] after × (Calls (PutAnswers (Asks name (take 65537 source)) name (take 65537 source) old new) ⊎ (new ≡ old)))
-      ⊎ ((behind : List ℕ) × (0 < length behind) × IsLine rest behind after × (new ≡ old))
+      (IsLine rest [] after
+      × (CallsAndWrites (PutAnswers (Asks name (take 65537 source)) name (take 65537 source)) (SaysChange (take 65537 source)) old new ⊎ Writes no_memory_text old new))
+      ⊎ ((behind : List ℕ) × (0 < length behind) × IsLine rest behind after × Writes (script_fault_text BadLine) old new)
 
--- The units of these names are fetched to be audited, one call for each, in their order. Either all are found; or the last call is of the first
--- that is refused, or of one that is found whose audit had no memory, or of which it could not be written what the audit says.
-abbrev pub FetchesEach : (names : List (List ℕ)) (all : Bool) (old new : MemberView) → Type 0
-FetchesEach [] true old new = new ≡ old
-FetchesEach [] false old new = ⊥
-FetchesEach (name ∷ names) all old new =
-    ((all ≡ false) × Calls (GetAnswers name old new))
-    ⊎ ((receipt : Receipt) × (between : MemberView) × GetAnswers name old between (Ok receipt) × FetchesEach names all between new)
+-- The units of these names are fetched and audited, one call and one line for each, in their order. Either all are found and audited; or the last
+-- is the first that is refused, or that is found but whose audit had no memory.
+abbrev pub AuditsEach : (names : List (List ℕ)) (all : Bool) (old new : Talk) → Type 0
+AuditsEach [] true old new = new ≡ old
+AuditsEach [] false old new = ⊥
+AuditsEach (name ∷ names) all old new =
+    ((all ≡ false) × CallsAndWrites (GetAnswers name) (SaysAudit name false) old new)
+    ⊎ ((between : Talk) × CallsAndWrites (GetAnswers name) (SaysAudit name true) old between × AuditsEach names all between new)
 
--- the names are listed, and the units of those that were answered are fetched
-pub record IsListedAndFetched (old new : MemberView) : Type 0 where
+-- an audit ends by `ok` if all are audited, else without a line
+abbrev pub EndsAudit : (all : Bool) (old new : Talk) → Type 0
+EndsAudit true old new = Writes (line (codes "ok")) old new
+EndsAudit false old new = new ≡ old
+
+-- the names are listed, of which nothing is written, and the units of those that were answered are audited
+pub record ListsAndAudits (old new : Talk) : Type 0 where
   pub receipt : Receipt
   pub names : List (List ℕ)
   pub all : Bool
-  pub between : MemberView
-  pub listed : ListAnswers old between (Ok receipt)
+  pub heard : MemberView
+  pub last : Talk
+  pub listed : ListAnswers old.client heard (Ok receipt)
   pub names_are : receipt.entry.reply ≡ reply.Names names
-  pub fetched : FetchesEach names all between new
+  pub audited : AuditsEach names all (talk heard old.written) last
+  pub ended : EndsAudit all last new
 
--- all units are audited; nothing more is called where the list is refused
-abbrev pub Audits : (old new : MemberView) → Type 0
-Audits old new = ((fault : ServiceFault) × ListAnswers old new (Err fault)) ⊎ IsListedAndFetched old new
+-- all units are audited; nothing more is called if the list is refused
+abbrev pub Audits : (old new : Talk) → Type 0
+Audits old new = CallsAndWrites ListAnswers SaysRefusal old new ⊎ ListsAndAudits old new
 
--- what a line asks for is done; nothing where it asks for nothing
+-- the library was written anew, or was not; whoever did so is no client, and has no receipt
+abbrev pub Compacts : (old new : Talk) → Type 0
+Compacts old new = (answer : Result (Unit {0}) ServiceFault) × Writes (done_text answer) old new
+
+-- what a line asks for is done; 50 if it asks for nothing
 -- ORDER ScriptCommand
-abbrev pub Obeys : Option ScriptRequest → (before after : List ℕ) (old new : MemberView) → Type 0
+abbrev pub Obeys : Option ScriptRequest → (before after : List ℕ) (old new : Talk) → Type 0
 Obeys (Some (Add name count)) before after old new = IsSent Adds name count before after old new
 Obeys (Some (Replace name count)) before after old new = IsSent Replaces name count before after old new
-Obeys (Some (Withdraw name)) before after old new = (after ≡ before) × Calls (WithdrawAnswers name old new)
-Obeys (Some Names) before after old new = (after ≡ before) × Calls (ListAnswers old new)
-Obeys (Some (Run name steps)) before after old new = (after ≡ before) × Calls (GetAnswers name old new)
-Obeys (Some Compact) before after old new = (after ≡ before) × (new ≡ old)
+Obeys (Some (Withdraw name)) before after old new = (after ≡ before) × CallsAndWrites (WithdrawAnswers name) (SaysChange []) old new
+Obeys (Some Names) before after old new = (after ≡ before) × CallsAndWrites ListAnswers SaysNames old new
+Obeys (Some (Run name steps)) before after old new = (after ≡ before) × CallsAndWrites (GetAnswers name) (SaysRun steps) old new
+Obeys (Some Compact) before after old new = (after ≡ before) × Compacts old new
 Obeys (Some Audit) before after old new = (after ≡ before) × Audits old new
-Obeys (Some (Image name)) before after old new = (after ≡ before) × Calls (GetAnswers name old new)
-Obeys (Some (Source name)) before after old new = (after ≡ before) × Calls (GetAnswers name old new)
-Obeys None before after old new = (after ≡ before) × (new ≡ old)
+Obeys (Some (Image name)) before after old new = (after ≡ before) × CallsAndWrites (GetAnswers name) (SaysShown part.Image) old new
+Obeys (Some (Source name)) before after old new = (after ≡ before) × CallsAndWrites (GetAnswers name) (SaysShown part.Source) old new
+Obeys None before after old new = (after ≡ before) × Writes (script_fault_text BadLine) old new
 
 -- what a line of a script asks for; one of more than 128 bytes asks for nothing
 abbrev pub asked_by_line : Dialect → List ℕ → Option ScriptRequest
 asked_by_line dialect line = if nat_le (length line) 128 then asked_of dialect line else None
 
--- one line of a script of this dialect is done, with the source behind it where it has one
-pub record IsStep (dialect : Dialect) (before after : List ℕ) (old new : MemberView) : Type 0 where
+-- one line of a script of this dialect is done, with the source after it if it has one
+pub record IsStep (dialect : Dialect) (before after : List ℕ) (old new : Talk) : Type 0 where
   pub line : List ℕ
   pub rest : List ℕ
   pub is_line : IsLine before line rest
   pub obeyed : Obeys (asked_by_line dialect line) rest after old new
 
--- what is left of the script behind a step, and the client then
+-- what is left of the script after a step, and the client and its answers then
 pub record Turn : Type 0 where
   pub rest : List ℕ
-  pub client : MemberView
+  pub talk : Talk
 
--- line by line, from what is left and the client before
-abbrev pub Plays : Dialect → (before : List ℕ) (old : MemberView) → List Turn → (after : List ℕ) (new : MemberView) → Type 0
-Plays dialect before old [] after new = (after ≡ before) × (new ≡ old)
-Plays dialect before old (turn ∷ turns) after new = IsStep dialect before turn.rest old turn.client × Plays dialect turn.rest turn.client turns after new
+-- Line by line, from what is left and the client before, each of which may begin a line. So the writer holds the lines of the turns in their order, and no
+-- other byte.
+abbrev pub Plays : Dialect → (MayBegin : MemberView → Type 0) → (before : List ℕ) (old : Talk) → List Turn → (after : List ℕ) (new : Talk) → Type 0
+Plays dialect MayBegin before old [] after new = (after ≡ before) × (new ≡ old)
+Plays dialect MayBegin before old (turn ∷ turns) after new =
+    MayBegin old.client × IsStep dialect before turn.rest old turn.talk × Plays dialect MayBegin turn.rest turn.talk turns after new
 
--- no more lines than the bound, where there is one
+-- no more lines than the bound, if there is one
 abbrev pub IsWithin : (most : Option ℕ) (lines : ℕ) → Type 0
 IsWithin None lines = Unit {0}
 IsWithin (Some most) lines = lines ≤ most
 
+-- the bytes that a client's receipts are counted to hold which it got since then
+abbrev pub held_since : (first now : MemberView) → ℕ
+held_since first now = receipts_bytes (drop (length first.receipts) now.receipts)
+
+-- If there is a bound on the lines, there is one on these bytes too, from the script's beginning: 256 MiB. A line may be begun while there are no more.
+abbrev pub IsLight : (most : Option ℕ) (first now : MemberView) → Type 0
+IsLight None first now = Unit {0}
+IsLight (Some most) first now = held_since first now ≤ 268435456
+
 -- the whole script is done
-pub record IsPlayed (dialect : Dialect) (most : Option ℕ) (script : List ℕ) (first last : MemberView) : Type 0 where
+pub record IsPlayed (dialect : Dialect) (most : Option ℕ) (script : List ℕ) (first last : Talk) : Type 0 where
   pub turns : List Turn
   pub few : IsWithin most (length turns)
-  pub plays : Plays dialect script first turns [] last
+  pub plays : Plays dialect (IsLight most first.client) script first turns [] last
 
--- a prefix of it is done; of the step behind it perhaps the call, whose answer could not be written (of an audit the calls up to such a one)
-pub record IsPlayedInPart (dialect : Dialect) (most : Option ℕ) (script : List ℕ) (first last : MemberView) : Type 0 where
+-- A prefix of it is done. The client at the end is as these steps left it, or as the next one would, whose answer could not be written (of an audit:
+-- as an audit that had no memory at that point). What the writer holds is not known.
+pub record IsPlayedInPart (dialect : Dialect) (most : Option ℕ) (script : List ℕ) (first last : Talk) : Type 0 where
   pub turns : List Turn
   pub few : IsWithin most (length turns)
   pub rest : List ℕ
-  pub client : MemberView
-  pub plays : Plays dialect script first turns rest client
-  pub then_is : (last ≡ client) ⊎ (IsWithin most (length turns + 1) × (after : List ℕ) × IsStep dialect rest after client last)
+  pub between : Talk
+  pub plays : Plays dialect (IsLight most first.client) script first turns rest between
+  pub then_is :
+      (last.client ≡ between.client)
+      ⊎ (IsWithin most (length turns + 1) × IsLight most first.client between.client × (after : List ℕ) × (written : Option (List ℕ))
+      × IsStep dialect rest after between (talk last.client written))
 
 -- ---- scripts that a fault ends
 
--- a line that asks for this needs more bytes behind it than are left there
+-- a line that asks for this needs more bytes after it than are left there
 abbrev pub IsCutShort : Option ScriptRequest → (rest : List ℕ) → Type 0
 IsCutShort (Some (Add name count)) rest = length rest < count
 IsCutShort (Some (Replace name count)) rest = length rest < count
@@ -120,40 +166,120 @@ pub record EndsInSource (dialect : Dialect) (before : List ℕ) : Type 0 where
   pub is_line : IsLine before line rest
   pub short : IsCutShort (asked_by_line dialect line) rest
 
--- Why 52: the script has more bytes than it may have; or, where there is a bound on its lines, so many are done, and more of it is left.
-abbrev pub IsTooLong : (most : Option ℕ) (script : List ℕ) (lines : ℕ) (rest : List ℕ) → Type 0
-IsTooLong None script lines rest = 16777216 < length script
-IsTooLong (Some most) script lines rest = (16777216 < length script) ⊎ ((lines ≡ most) × (rest ≢ []))
+-- this many bytes are followed by another byte than a newline
+abbrev pub IsUnended : (count : ℕ) (rest : List ℕ) → Type 0
+IsUnended count rest = (source : List ℕ) × (byte : ℕ) × (after : List ℕ) × (rest ≡ source ++ byte ∷ after) × (length source ≡ count) × (byte ≢ 10)
 
--- a prefix of the script is done and nothing of what is behind it; `Stops` holds of the number of lines done and of what is left
-pub record IsPlayedUpTo (dialect : Dialect) (most : Option ℕ) (script : List ℕ) (Stops : (lines : ℕ) (rest : List ℕ) → Type 0) (first last : MemberView) : Type 0 where
+-- a line that asks for this has a source after it that no newline ends
+abbrev pub HasUnended : Option ScriptRequest → (rest : List ℕ) → Type 0
+HasUnended (Some (Add name count)) rest = IsUnended count rest
+HasUnended (Some (Replace name count)) rest = IsUnended count rest
+HasUnended asked rest = ⊥
+
+-- so is the next line
+pub record EndsNoSource (dialect : Dialect) (before : List ℕ) : Type 0 where
+  pub line : List ℕ
+  pub rest : List ℕ
+  pub is_line : IsLine before line rest
+  pub unended : HasUnended (asked_by_line dialect line) rest
+
+-- the next line has more than 128 bytes
+abbrev pub BeginsLong : (before : List ℕ) → Type 0
+BeginsLong before = (prefix : List ℕ) × (after : List ℕ) × (before ≡ prefix ++ after) × (length prefix ≡ 129) × All (λ byte. byte ≢ 10) prefix
+
+-- the next line is refused by 50 before it is read to its end
+abbrev pub BeginsBad : Dialect → (before : List ℕ) → Type 0
+BeginsBad dialect before = BeginsLong before ⊎ EndsNoSource dialect before
+
+-- nothing was called; and nothing was written, or, of a line that is refused before it is read to its end, 50
+abbrev pub IsBegun : (IsBad : Type 0) → (old new : Talk) → Type 0
+IsBegun IsBad old new = (new ≡ old) ⊎ (IsBad × Writes (script_fault_text BadLine) old new)
+
+-- Why 52: the script has more bytes than it may have; or, if there is a bound on its lines, more of it is left, and so many are done, or the receipts that
+-- the client got for them hold more than 256 MiB.
+abbrev pub IsTooLong : (most : Option ℕ) (script : List ℕ) (first : MemberView) (lines : ℕ) (rest : List ℕ) (now : MemberView) → Type 0
+IsTooLong None script first lines rest now = 16777216 < length script
+IsTooLong (Some most) script first lines rest now = (16777216 < length script) ⊎ ((rest ≢ []) × ((lines ≡ most) ⊎ (268435456 < held_since first now)))
+
+-- A prefix of the script is done and nothing of what comes after it, but that 50 may be written of a line that was not read to its end. `Stops` holds of
+-- the number of lines done, of what is left, and of the client then.
+pub record IsPlayedUpTo (dialect : Dialect) (most : Option ℕ) (script : List ℕ) (Stops : (lines : ℕ) (rest : List ℕ) (now : MemberView) → Type 0) (first last : Talk) : Type 0 where
   pub turns : List Turn
   pub few : IsWithin most (length turns)
   pub rest : List ℕ
-  pub plays : Plays dialect script first turns rest last
-  pub stops : Stops (length turns) rest
+  pub between : Talk
+  pub plays : Plays dialect (IsLight most first.client) script first turns rest between
+  pub begun : IsBegun (BeginsBad dialect rest) between last
+  pub stops : Stops (length turns) rest between.client
 
--- the faults that end a script: 51 to 54
-abbrev pub IsEnding : ScriptFault → Type 0
-IsEnding BadLine = ⊥
-IsEnding fault = Unit {0}
+-- the next line may be begun, and the script ends within its source
+abbrev pub IsCutIn : Dialect → (most : Option ℕ) (first : MemberView) (lines : ℕ) (rest : List ℕ) (now : MemberView) → Type 0
+IsCutIn dialect most first lines rest now = IsWithin most (lines + 1) × IsLight most first now × EndsInSource dialect rest
+
+-- the unit of a `run` was fetched, whose image is not at its end behind some of the steps, and nothing was written of it
+abbrev pub CutsRun : (name : List ℕ) (steps : ℕ) (old new : Talk) → Type 0
+CutsRun name steps old new = (receipt : Receipt) × GetAnswers name old.client new.client (Ok receipt) × IsCutRun steps receipt.entry.reply × (new.written ≡ old.written)
+
+-- so of a line that asks for it
+abbrev pub CutsLine : Option ScriptRequest → (old new : Talk) → Type 0
+CutsLine (Some (Run name steps)) old new = CutsRun name steps old new
+CutsLine asked old new = ⊥
+
+-- the next line is such a one
+pub record CutsNext (dialect : Dialect) (before : List ℕ) (old new : Talk) : Type 0 where
+  pub line : List ℕ
+  pub rest : List ℕ
+  pub is_line : IsLine before line rest
+  pub cut : CutsLine (asked_by_line dialect line) old new
+
+-- A prefix of the script is done, all answers to it are written, and more of it is left. Nothing of that was done, or the next line is a `run` that was
+-- cut.
+pub record IsPlayedTill (dialect : Dialect) (most : Option ℕ) (script : List ℕ) (first last : Talk) : Type 0 where
+  pub turns : List Turn
+  pub few : IsWithin most (length turns)
+  pub rest : List ℕ
+  pub between : Talk
+  pub plays : Plays dialect (IsLight most first.client) script first turns rest between
+  pub left : rest ≢ []
+  pub then_is : (last ≡ between) ⊎ (IsWithin most (length turns + 1) × IsLight most first.client between.client × CutsNext dialect rest between last)
+
+-- there is a bound on the lines
+abbrev pub IsBounded : (most : Option ℕ) → Type 0
+IsBounded None = ⊥
+IsBounded (Some most) = Unit {0}
+
+-- the faults that end a script: 51 to 54; of one with a bound also 61
+abbrev pub IsEnding : (most : Option ℕ) → ScriptFault → Type 0
+IsEnding most BadLine = ⊥
+IsEnding most Stopped = IsBounded most
+IsEnding most fault = Unit {0}
 
 -- How far a script was done that such a fault ended. That it could not be read, 53, or that an answer could not be written, 54, is known to
--- its reader and its writer alone.
-abbrev pub IsStoppedBy : Dialect → (most : Option ℕ) → ScriptFault → (script : List ℕ) (first last : MemberView) → Type 0
+-- its reader and its writer alone; that it is to end, 61, to whoever is asked that.
+abbrev pub IsStoppedBy : Dialect → (most : Option ℕ) → ScriptFault → (script : List ℕ) (first last : Talk) → Type 0
 IsStoppedBy dialect most BadLine script first last = ⊥
-IsStoppedBy dialect most EndOfScript script first last = IsPlayedUpTo dialect most script (λ lines rest. IsWithin most (lines + 1) × EndsInSource dialect rest) first last
-IsStoppedBy dialect most ScriptTooLong script first last = IsPlayedUpTo dialect most script (IsTooLong most script) first last
-IsStoppedBy dialect most ReadFault script first last = IsPlayedUpTo dialect most script (λ lines rest. Unit {0}) first last
+IsStoppedBy dialect most EndOfScript script first last = IsPlayedUpTo dialect most script (IsCutIn dialect most first.client) first last
+IsStoppedBy dialect most ScriptTooLong script first last = IsPlayedUpTo dialect most script (IsTooLong most script first.client) first last
+IsStoppedBy dialect most ReadFault script first last = IsPlayedUpTo dialect most script (λ lines rest client. Unit {0}) first last
 IsStoppedBy dialect most WriteFault script first last = IsPlayedInPart dialect most script first last
+IsStoppedBy dialect most Stopped script first last = IsPlayedTill dialect most script first last
 
--- ---- scripts whose bytes are known to their readers
+-- so, and then the fault's line was written; 54 has none
+abbrev pub IsEndedBy : Dialect → (most : Option ℕ) → ScriptFault → (script : List ℕ) (first last : Talk) → Type 0
+IsEndedBy dialect most fault script first last =
+    (between : Talk) × IsStoppedBy dialect most fault script first between × Writes (script_fault_text fault) between last
+
+-- ---- any script, and those whose bytes are known to their readers
+
+-- the client is the same, and its receipts are those from before and then others
+abbrev pub Grows : (old new : MemberView) → Type 0
+Grows old new = (new.number ≡ old.number) × ((more : List Receipt) × (new.receipts ≡ old.receipts ++ more))
 
 -- a fault that ends scripts ended it, and it is done as far as that says
-abbrev pub IsStopped : Dialect → (most : Option ℕ) (script : Option (List ℕ)) (old new : MemberView) → ScriptFault → Type 0
-IsStopped dialect most script old new fault = IsEnding fault × IfSome script (λ bytes. IsStoppedBy dialect most fault bytes old new)
+abbrev pub IsStopped : Dialect → (most : Option ℕ) (script : Option (List ℕ)) (old new : Talk) → ScriptFault → Type 0
+IsStopped dialect most script old new fault = IsEnding most fault × IfSome script (λ bytes. IsEndedBy dialect most fault bytes old new)
 
 -- it is done whole; or a fault ended it, and it is done as far as that says
-abbrev pub IsPlayedBy : {T : Type 0} → Dialect → (most : Option ℕ) (script : Option (List ℕ)) (old new : MemberView) → Result T ScriptFault → Type 0
+abbrev pub IsPlayedBy : {T : Type 0} → Dialect → (most : Option ℕ) (script : Option (List ℕ)) (old new : Talk) → Result T ScriptFault → Type 0
 IsPlayedBy dialect most script old new (Ok done) = IfSome script (λ bytes. IsPlayed dialect most bytes old new)
 IsPlayedBy dialect most script old new (Err fault) = IsStopped dialect most script old new fault

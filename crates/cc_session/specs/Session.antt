@@ -15,7 +15,7 @@ use Rattle.cc_service.specs.declared.fault.ServiceFault.{ServiceFault}
 use Rattle.cc_script.specs.Fault as faults
 use Rattle.cc_script.specs.declared.command.Dialect.TheVariants.{Plain}
 use Rattle.cc_script.specs.declared.fault.ScriptFault.{ScriptFault}
-use Rattle.cc_session.specs.Playing.{IsEnding, IsPlayed, IsStoppedBy}
+use Rattle.cc_session.specs.Playing.{IsEndedBy, IsEnding, IsPlayed, Talk}
 use Rattle.cc_session.specs.declared.end.SessionEnd.{SessionEnd}
 use Rattle.cc_session.specs.declared.end.SessionEnd.TheVariants.{Finished, Fault}
 
@@ -25,26 +25,24 @@ IsUnopened honest seen before after Finished = ⊥
 IsUnopened honest seen before after (Fault number) =
     (base : Units) × (fault : ServiceFault) × (number ≡ fault_number fault) × IsNotOpened honest seen base before after fault
 
--- One client was made for the script. From no receipt on it is what the script, where its reader's bytes are known, makes of it.
-pub record HasCalled (script : Option (List ℕ)) (clients : List MemberView) (Plays : List ℕ → MemberView → MemberView → Type 0) : Type 0 where
-  pub first : MemberView
-  pub last : MemberView
-  pub none : first.receipts ≡ []
+-- One client was made for the script. From no receipt on, and from what the writer held before, it is what the script, if its reader's bytes are known, makes
+-- of it. If the session ends as its script did the writer holds at the end what it held then.
+pub record HasCalled (script before after : Option (List ℕ)) (played end : SessionEnd) (clients : List MemberView) (Plays : List ℕ → Talk → Talk → Type 0) : Type 0 where
+  pub first : Talk
+  pub last : Talk
+  pub none : first.client.receipts ≡ []
+  pub begun : first.written ≡ before
   pub plays : IfSome script (λ bytes. Plays bytes first last)
-  pub alone : clients ≡ last ∷ []
+  pub alone : clients ≡ last.client ∷ []
+  pub written : end ≡ played → after ≡ last.written
 
--- How the script of a session, a plain one, ended, and what it made of the clients: it was done; or the service has no client for it, 30; or one of 51 to 54
--- ended it.
-abbrev pub HaveCalled : (script : Option (List ℕ)) (clients : List MemberView) → (played : SessionEnd) → Type 0
-HaveCalled script clients Finished = HasCalled script clients (IsPlayed Plain None)
-HaveCalled script clients (Fault number) =
+-- How the script of a session, a plain one, ended, and what it made of the clients and of what the writer held before: it was done; or the service has no
+-- client for it, 30; or one of 51 to 54 ended it.
+abbrev pub HaveCalled : (script before after : Option (List ℕ)) (end : SessionEnd) (clients : List MemberView) → (played : SessionEnd) → Type 0
+HaveCalled script before after end clients Finished = HasCalled script before after Finished end clients (IsPlayed Plain None)
+HaveCalled script before after end clients (Fault number) =
     ((number ≡ 30) × (clients ≡ []))
-    ⊎ ((fault : ScriptFault) × IsEnding fault × (number ≡ faults.fault_number fault) × HasCalled script clients (IsStoppedBy Plain None fault))
-
--- what is told where the service's end is refused by this number: the fault that ended the clients' work, where one did, else the number
-abbrev pub told_after : (number : ℕ) → (played : SessionEnd) → SessionEnd
-told_after number Finished = Fault number
-told_after number (Fault first) = Fault first
+    ⊎ ((fault : ScriptFault) × IsEnding None fault × (number ≡ faults.fault_number fault) × HasCalled script before after (Fault number) end clients (IsEndedBy Plain None fault))
 
 -- What is left of a service that was opened: its library, with the history of its calls, from the map on to which the bytes recover.
 -- Its clients have receipts of their own calls, in their order, and this holds of the history and of them.
@@ -61,14 +59,14 @@ pub record IsLeft {Disk : Type 0} (D : Ghosts Disk) (bytes : List ℕ) (from : �
   pub own : AreOwn clients
   pub holds : Holds book.history clients
 
--- A service of these clients, whose work ended so (a session's script), was ended: all their receipts stand in the history, and it has no other
--- entries. How the work ended is told; or 40, where it was done and the service had no memory to end.
--- Or it was given up: a receipt does not stand in the history, or that has more entries, or two clients have one number. How the work ended is
--- told, where a fault ended it; else 39, or 40 where there was no memory to see that.
+-- A service of these clients, whose work ended so (a session's script), was ended, or given up because it had no memory to end. All their receipts
+-- stand in the history, and it has no other entries. The end is how the work ended; or 40, if the work was done and there was no memory.
+-- Or it was given up because a receipt does not stand in the history, or that has more entries, or two clients have one number. Then the end is 39,
+-- however the work ended, and no other end means this.
 abbrev pub IsEnded : {Disk : Type 0} (D : Ghosts Disk) (bytes : List ℕ) (from : ℕ) (left : List ℕ → Type 0) (clients : List MemberView) (played end : SessionEnd) (after : Disk) → Type 0
 IsEnded D bytes from left clients played end after =
-    (((end ≡ played) ⊎ (end ≡ told_after 40 played)) × IsLeft D bytes from left IsClosed clients after)
-    ⊎ (((end ≡ told_after 39 played) ⊎ (end ≡ told_after 40 played)) × IsLeft D bytes from left IsNotWhole clients after)
+    (((end ≡ played) ⊎ ((played ≡ Finished) × (end ≡ Fault 40))) × IsLeft D bytes from left IsClosed clients after)
+    ⊎ ((end ≡ Fault 39) × IsLeft D bytes from left IsNotWhole clients after)
 
 -- so of clients that worked so, by how their work ended
 abbrev pub HasEnded : {Disk : Type 0} (D : Ghosts Disk) (bytes : List ℕ) (from : ℕ) (left : List ℕ → Type 0)
@@ -90,8 +88,9 @@ abbrev pub ServiceEnds : {Disk : Type 0} (D : Ghosts Disk) (Untouched : Type 0) 
 ServiceEnds D Untouched Worked before after end =
     EndsSince D (D.moment before) (D.may_leave before) Untouched Worked before after end
 
--- How a session ends that began with this disk: as the service ends whose one client does the script. The disk is always handed back.
-abbrev pub SessionEnds : {Disk : Type 0} (D : Ghosts Disk) (script : Option (List ℕ)) (before : Disk) → Option Disk → SessionEnd → Type 0
-SessionEnds D script before None end = ⊥
-SessionEnds D script before (Some after) end =
-    ServiceEnds D (Unit {0}) (HaveCalled script) before after end
+-- How a session ends that began with this disk, and a writer that held `written_before`: as the service ends whose one client does the script. The disk is
+-- always handed back.
+abbrev pub SessionEnds : {Disk : Type 0} (D : Ghosts Disk) (script written_before written_after : Option (List ℕ)) (before : Disk) → Option Disk → SessionEnd → Type 0
+SessionEnds D script written_before written_after before None end = ⊥
+SessionEnds D script written_before written_after before (Some after) end =
+    ServiceEnds D (Unit {0}) (HaveCalled script written_before written_after end) before after end

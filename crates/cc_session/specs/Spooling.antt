@@ -5,7 +5,8 @@ use Rattle.cc_history.specs.History.{MemberView}
 use Rattle.cc_script.specs.Fault as faults
 use Rattle.cc_script.specs.declared.command.Dialect.TheVariants.{Served}
 use Rattle.cc_script.specs.declared.fault.ScriptFault.{ScriptFault}
-use Rattle.cc_session.specs.Playing.{IsPlayed, IsStopped}
+use Rattle.cc_spool.specs.Spool.{Delivered, Taken}
+use Rattle.cc_session.specs.Playing.{Grows, IsPlayed, IsStopped, Talk, talk}
 use Rattle.cc_session.specs.Session.{ServiceEnds}
 use Rattle.cc_session.specs.declared.end.SessionEnd.{SessionEnd}
 use Rattle.cc_session.specs.declared.end.SessionEnd.TheVariants.{Finished, Fault}
@@ -16,34 +17,39 @@ use Rattle.cc_session.specs.declared.end.SessionEnd.TheVariants.{Finished, Fault
 abbrev pub most_lines : Option ℕ
 most_lines = Some 65536
 
--- What the client made of a script of a spool, which is a served one, where its bytes are known, by how it is told that it ended: all of it is done; or a fault that ends scripts
--- ended it, whose number is told, and it is done as far as that says.
-abbrev pub IsDoneBy : (script : Option (List ℕ)) (end : Option ℕ) (old new : MemberView) → Type 0
-IsDoneBy script None old new = IfSome script (λ bytes. IsPlayed Served most_lines bytes old new)
-IsDoneBy script (Some number) old new = (fault : ScriptFault) × (number ≡ faults.fault_number fault) × IsStopped Served most_lines script old new fault
+-- How a script of a spool, which is a served one, ended, as its number says: all of it is done; or a fault that ends scripts ended it, and it is done as
+-- far as that says. This speaks of scripts whose bytes are known.
+abbrev pub EndsBy : (script : Option (List ℕ)) (end : Option ℕ) (old new : Talk) → Type 0
+EndsBy script None old new = IfSome script (λ bytes. IsPlayed Served most_lines bytes old new)
+EndsBy script (Some number) old new = (fault : ScriptFault) × (number ≡ faults.fault_number fault) × IsStopped Served most_lines script old new fault
 
--- scripts in turn, each with how it ended
-abbrev pub AreDoneBy : (scripts : List (Option (List ℕ))) (ends : List (Option ℕ)) (old new : MemberView) → Type 0
+-- The answer that was handed over is that of the script that was taken: from what its writer held then it has the lines of this script's turns, in their
+-- order, and no other byte, if both are known. Whatever the script, it was the client's alone, which keeps its receipts.
+abbrev pub IsDoneBy : Taken → Delivered → (old new : MemberView) → Type 0
+IsDoneBy taken delivered old new = EndsBy taken.script delivered.end (talk old taken.begun) (talk new delivered.answer) × Grows old new
+
+-- scripts in turn, each with its answer
+abbrev pub AreDoneBy : (scripts : List Taken) (answers : List Delivered) (old new : MemberView) → Type 0
 AreDoneBy [] [] old new = new ≡ old
-AreDoneBy (script ∷ scripts) (end ∷ ends) old new = (between : MemberView) × IsDoneBy script end old between × AreDoneBy scripts ends between new
-AreDoneBy [] (end ∷ ends) old new = ⊥
+AreDoneBy (script ∷ scripts) (answer ∷ answers) old new = (between : MemberView) × IsDoneBy script answer old between × AreDoneBy scripts answers between new
+AreDoneBy [] (answer ∷ answers) old new = ⊥
 AreDoneBy (script ∷ scripts) [] old new = ⊥
 
--- what a spool has given so far, and how those ended whose answers were handed over to it
+-- what a spool has given so far, and what was handed over to it
 pub record Given : Type 0 where
-  pub taken : List (Option (List ℕ))
-  pub ended : List (Option ℕ)
+  pub taken : List Taken
+  pub ended : List Delivered
 
-abbrev pub given_by : {S : Type 0} (taken : S → List (Option (List ℕ))) (ended : S → List (Option ℕ)) → S → Given
+abbrev pub given_by : {S : Type 0} (taken : S → List Taken) (ended : S → List Delivered) → S → Given
 given_by taken ended spool = record { taken = taken spool; ended = ended spool }
 
 -- From one moment to the next a spool gave some scripts, and was handed an answer for each, in turn. A client did them, and called nothing else.
 pub record HasDone (before : Given) (old : MemberView) (after : Given) (new : MemberView) : Type 0 where
-  pub scripts : List (Option (List ℕ))
-  pub ends : List (Option ℕ)
+  pub scripts : List Taken
+  pub answers : List Delivered
   pub taken : after.taken ≡ before.taken ++ scripts
-  pub ended : after.ended ≡ before.ended ++ ends
-  pub done : AreDoneBy scripts ends old new
+  pub ended : after.ended ≡ before.ended ++ answers
+  pub done : AreDoneBy scripts answers old new
 
 -- ---- all clients
 

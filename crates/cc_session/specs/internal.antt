@@ -1,11 +1,9 @@
 -- What only private contracts speak of.
+-- what a command does and writes
+pub mod Calls
 -- how far a script has been done
 pub mod Steps
--- what is said of units that are found
-pub mod Auditing
--- what is told of units that are found
-pub mod Showing
--- how a script from a spool ended
+-- how a script from a spool ended, and a service that was given up
 pub mod Ends
 -- when a generation ends
 pub mod Enough

@@ -1,14 +1,15 @@
 // A script done by a client of a service, and the scripts of a spool, done so one after another.
 
-ghost use Rattle.std.specs.Prelude.{◌≡◌, ◌++◌, ◌∷◌, [], ℕ, Option};
-ghost use Rattle.cc_session.specs.Playing.{IsPlayedBy};
+ghost use Rattle.std.specs.Prelude.{◌≡◌, ◌++◌, ◌∷◌, []};
+ghost use Rattle.cc_spool.specs.Spool.{Delivered, taken_as};
+ghost use Rattle.cc_session.specs.Playing.{Grows, IsPlayedBy, talk};
 ghost use Rattle.cc_session.specs.Spooling.{HasDone, IsDoneBy, given_by};
 ghost use Rattle.cc_session.specs.internal.Ends.{EndOf};
 
 use crate::bounds::Meter;
 use crate::calls::Player;
+use crate::patience::{Others, Patience, Unhurried};
 use crate::reading::Reading;
-use cc_answers::Teller;
 use cc_disk::Disk;
 use cc_script::{Dialect, ScriptFault};
 use cc_service::{Client, Named, Service};
@@ -20,13 +21,14 @@ use std::sync::Wait;
 // The most lines of a script from a spool that are done. So one that asks for nothing but errors holds its client for a bounded time.
 const MOST_LINES: usize = 65_536;
 
-/// Does what a script asks for by a client of a service, up to its end or a fault that ends it, 51 to 54, whose line is written then. Where
-/// that line can't be written the fault is 54, of which there is no line. Clients on other threads may play theirs on the same service.
+/// Does what a script asks for by a client of a service, up to its end or a fault that ends it, 51 to 54, whose line is written then. If
+/// that line can't be written the fault is 54, which has no line. Clients on other threads may play theirs on the same service.
 ///
-/// The script comes from `reader`; each answer goes to `writer`, which is flushed behind it; what helps a person with a fault goes to
-/// `explanations`, and where such a write fails the script goes on. `dialect` says which lines it may have. Where there is a bound on its lines, `most`, so many are done at most,
-/// and 52 ends a script that has more: at 0 every script that has a byte. A line counts with the source behind it, whatever is answered.
-#[tactic(auto, using(crate::proofs::Lines::unwritten_behind))]
+/// The script comes from `reader`; each answer goes to `writer`, which is flushed after it: at the end it holds the lines of the script's turns
+/// in their order, and no other byte. What helps a person with a fault goes to `explanations`; if such a write fails the script goes on.
+/// `dialect` says which lines it may have. If there is a bound on its lines, `most`, so many are done at most, and 52 ends a script that has
+/// more: at 0 every script that has a byte. A line counts with the source after it, whatever is answered. 52 also ends such a script behind the
+/// line with which the receipts that the client got for it hold more than 256 MiB (`held_since` of `Client`), if it has more.
 pub fn play<N, H, R: Read, W: Write, E: Write, D>(
     rt: &H,
     alloc: Global,
@@ -42,21 +44,52 @@ where
     N: Named + Send + Sync + 'static,
     H: Wait,
     D: Disk,
-    ensures { IsPlayedBy dialect most (R.remaining reader.old) client.old.member client.new.member result }
+    ensures played { IsPlayedBy dialect most (R.remaining reader.old) (talk client.old.member (W.contents writer.old)) (talk client.new.member (W.contents writer.new)) result }
+    ensures grows { Grows client.old.member client.new.member }
+{
+    play_while(
+        rt,
+        alloc,
+        service,
+        client,
+        reader,
+        writer,
+        explanations,
+        dialect,
+        most,
+        &Unhurried,
+    )
+}
+
+// Does so while there is patience, if there is a bound.
+fn play_while<N, H, R: Read, W: Write, E: Write, D, P: Patience>(
+    rt: &H,
+    alloc: Global,
+    service: &Service<N, D>,
+    client: &mut Client<N>,
+    reader: &mut R,
+    writer: &mut W,
+    explanations: &mut E,
+    dialect: Dialect,
+    most: Option<usize>,
+    patience: &P,
+) -> Result<(), ScriptFault>
+where
+    N: Named + Send + Sync + 'static,
+    H: Wait,
+    D: Disk,
+    ensures played { IsPlayedBy dialect most (R.remaining reader.old) (talk client.old.member (W.contents writer.old)) (talk client.new.member (W.contents writer.new)) result }
+    ensures grows { Grows client.old.member client.new.member }
 {
     let mut script = Reading::new(reader);
-    let mut teller = Teller {
-        answers: writer,
-        explanations,
+    let player = Player {
+        rt,
+        alloc,
+        service,
+        most,
+        patience,
     };
-    let player = Player { rt, alloc, service };
-    match player.play(client, &mut script, &mut teller, dialect, most) {
-        Ok(()) => Ok(()),
-        Err(fault) => match teller.tell_fault(fault) {
-            Ok(()) => Err(fault),
-            Err(unwritten) => Err(unwritten),
-        },
-    }
+    player.play(client, &mut script, dialect, writer, explanations)
 }
 
 // The number of the fault that ended a script.
@@ -77,6 +110,7 @@ fn attend_script<N, H, S, D>(
     service: &Service<N, D>,
     client: &mut Client<N>,
     spool: &mut S,
+    meter: &Meter,
     mut script: S::Script,
     mut answer: S::Answer,
 )
@@ -86,9 +120,10 @@ where
     S: Spool,
     D: Disk,
     ensures taken { S.taken spool.new ≡ S.taken spool.old }
-    ensures done { (end : Option ℕ) × (S.ended spool.new ≡ S.ended spool.old ++ end ∷ []) × IsDoneBy (S.Script.remaining script) end client.old.member client.new.member }
+    ensures done { (delivered : Delivered) × (S.ended spool.new ≡ S.ended spool.old ++ delivered ∷ [])
+        × IsDoneBy (taken_as (S.Script.remaining script) (S.Answer.contents answer)) delivered client.old.member client.new.member }
 {
-    let played = play(
+    let played = play_while(
         rt,
         alloc,
         service,
@@ -98,6 +133,10 @@ where
         &mut io::sink(),
         Dialect::Served,
         Some(MOST_LINES),
+        &Others {
+            spool: &*spool,
+            meter,
+        },
     );
     spool.deliver(script, answer, end_of(played));
 }
@@ -128,7 +167,7 @@ where
     if let Some((script, answer)) = spool.next() {
         meter.begin_script();
         let seen = client.receipts().len();
-        attend_script(rt, alloc, service, client, spool, script, answer);
+        attend_script(rt, alloc, service, client, spool, meter, script, answer);
         let entries = client.receipts().len().saturating_sub(seen);
         meter.end_script(entries as u64, client.held_since(seen));
     }
@@ -136,10 +175,13 @@ where
 }
 
 /// Does the scripts of a spool one after another, by one client of a service, until the spool says that no more is to be taken, or the
-/// meter is full that all clients of the service share. Of each 65,536 lines are done at most; of one that has more the answer ends in the line
-/// of 52.
+/// meter is full that all clients of the service share. Of each 65,536 lines are done at most, and none behind those whose receipts hold more
+/// than 256 MiB; of one that has more the answer ends in the line of 52.
 ///
-/// A fault that ends a script, 51 to 54, ends it alone: its answer is handed over with the fault's number, and the next is taken. The line
+/// A script that has been at work for long ends by 61 behind the line at work, or within a `run`, if others wait (`is_long`, `is_awaited`) or the
+/// meter is full, and if it has more.
+///
+/// A fault that ends a script, 51 to 54 or 61, ends it alone: its answer is handed over with the fault's number, and the next is taken. The line
 /// of the fault is the answer's last, but of 54 there is none: what becomes of an answer that can't be written is the spool's matter.
 pub fn attend<N, H, S, D>(
     rt: &H,

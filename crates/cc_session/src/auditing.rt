@@ -2,7 +2,7 @@
 
 ghost use Rattle.std.specs.Prelude.{◌≡◌, IfOk};
 ghost use Rattle.std.specs.Option.{option_map};
-ghost use Rattle.cc_session.specs.internal.Auditing.{IsSaidOf};
+ghost use Rattle.cc_session.specs.Auditing.{IsSaidOf};
 
 use cc_link::{Audit, StoredUnit, audit};
 use cc_service::Found;

@@ -1,54 +1,104 @@
 // The commands of a script, done by one client.
 
-ghost use Rattle.std.specs.Prelude.{◌≡◌, Option, Ok, IsTrue, false, IfErr, IfOk};
+ghost use Rattle.std.specs.Prelude.{◌≡◌, [], List, ℕ, Ok};
 ghost use Rattle.cc_answers.specs.Telling.{Tells};
 ghost use Rattle.cc_script.specs.Line.{asked_of};
-ghost use Rattle.cc_history.specs.declared.entry.Receipt.{Receipt};
+ghost use Rattle.cc_history.specs.History.{MemberView};
 ghost use Rattle.cc_service.specs.Serving.{GetAnswers, ListAnswers, PutAnswers, Puts, WithdrawAnswers};
-ghost use Rattle.cc_session.specs.Playing.{Audits, Calls, FetchesEach, IsCutShort, IsPlayedBy, IsSent, Obeys};
-ghost use Rattle.cc_session.specs.internal.Steps.{IsDone, IsShortOf};
+ghost use Rattle.cc_session.specs.Playing.{Audits, Compacts, Grows, IsPlayedBy, IsSent, IsUnended, talk};
+ghost use Rattle.cc_session.specs.Telling.{SaysChange, SaysNames, SaysShown};
+ghost use Rattle.cc_session.specs.internal.Calls.{AuditsName, AuditsNames, CallsAndTells, DoesAndTells, RunsAndTells, TellsAudit, TellsRun};
+ghost use Rattle.cc_session.specs.internal.Steps.{IsDone, IsHalted, IsObeyed, IsShortOf};
 
 use crate::auditing::audit_found;
+use crate::held::Held;
+use crate::hints::Hints;
+use crate::patience::{Patience, run_in_slices};
 use crate::reading::{Reading, Sent};
 use crate::showing::text_of;
 use crate::telling::{refuse, tell_change, tell_done};
-use cc_answers::{Teller, run_image};
+use cc_answers::{
+    tell_audit, tell_fault, tell_names, tell_no_memory, tell_ok, tell_run, tell_text,
+};
 use cc_disk::Disk;
+use cc_history::Receipt;
 use cc_library::Name;
 use cc_script::{
     Dialect, LINE_BYTES, MOST_BYTES, NextLine, ScriptCommand, ScriptFault, command_of,
 };
-use cc_service::{Client, Found, Named, Put, Service};
+use cc_service::{Client, Found, Named, Put, Service, ServiceFault};
 use cc_task::Part;
 use std::alloc::Global;
 use std::io::{Read, Write};
 use std::sync::Wait;
 
-// What plays the scripts of a service's clients.
+// What plays the scripts of a service's clients: of each so many lines at most, if there is a bound, and then while there is patience.
 #[derive(Drop)]
-pub(crate) struct Player<'a, N: Named, H, D: Disk> {
+pub(crate) struct Player<'a, N: Named, H, D: Disk, P> {
     pub(crate) rt: &'a H,
     pub(crate) alloc: Global,
     pub(crate) service: &'a Service<N, D>,
+    pub(crate) most: Option<usize>,
+    pub(crate) patience: &'a P,
 }
 
-impl<'a, N: Named + Send + Sync + 'static, H: Wait, D: Disk> Player<'a, N, H, D> {
-    // Adds or replaces a unit, whose source this is.
-    fn change<W: Write, E: Write>(
+impl<'a, N: Named + Send + Sync + 'static, H: Wait, D: Disk, P: Patience> Player<'a, N, H, D, P> {
+    // Puts a unit whose source this is, read up to here, and hands those of the next commands to the workers while it waits. If memory was refused, or a
+    // worker is gone, no hint stays, and it is tried once more.
+    fn put_source<R: Read>(
         &self,
         client: &mut Client<N>,
-        teller: &mut Teller<W, E>,
+        script: &Reading<R>,
+        hints: &mut Hints<N>,
         put: Put,
         name: &[u8],
         source: &[u8],
-    ) -> Result<(), ScriptFault>
-        ensures told { Tells result }
-        ensures called { Calls (PutAnswers (Puts put name.now source.now) name.now source.now client.old.member client.new.member) }
+    ) -> Result<Receipt, ServiceFault>
+        ensures { PutAnswers (Puts put name.now source.now) name.now source.now client.old.member client.new.member result }
     {
-        let answer = self
-            .service
-            .put(self.rt, self.alloc, client, put, name, source);
-        tell_change(self.alloc, teller, answer, source)
+        let (rt, alloc, service) = (self.rt, self.alloc, self.service);
+        let prepared = match hints.take(script.position(), source) {
+            Some(prepared) => Ok(prepared),
+            None => service.prepare(rt, alloc, client, source),
+        };
+        let refused = match prepared {
+            Ok(prepared) => {
+                if !service.is_busy() {
+                    hints.look_ahead(rt, alloc, service, client, script.position(), script.held());
+                }
+                service.put_prepared(rt, alloc, client, put, name, prepared)
+            }
+            Err(fault) => {
+                drop(fault);
+                return service.put(rt, alloc, client, put, name, source);
+            }
+        };
+        match refused {
+            Err(ServiceFault::OutOfMemory) | Err(ServiceFault::WorkersGone) => {
+                hints.forget();
+                service.put(rt, alloc, client, put, name, source)
+            }
+            answer => answer,
+        }
+    }
+
+    // Adds or replaces a unit, whose source this is.
+    fn change<R: Read, W: Write, E: Write>(
+        &self,
+        client: &mut Client<N>,
+        script: &Reading<R>,
+        hints: &mut Hints<N>,
+        put: Put,
+        name: &[u8],
+        source: &[u8],
+        answers: &mut W,
+        explanations: &mut E,
+    ) -> Result<(), ScriptFault>
+        ensures { CallsAndTells (PutAnswers (Puts put name.now source.now) name.now source.now) (SaysChange source.now)
+            (talk client.old.member (W.contents answers.old)) (talk client.new.member (W.contents answers.new)) result }
+    {
+        let answer = self.put_source(client, script, hints, put, name, source);
+        tell_change(self.alloc, answer, source, answers, explanations)
     }
 
     // Adds or replaces a unit whose source comes next.
@@ -56,62 +106,82 @@ impl<'a, N: Named + Send + Sync + 'static, H: Wait, D: Disk> Player<'a, N, H, D>
         &self,
         client: &mut Client<N>,
         script: &mut Reading<R>,
-        teller: &mut Teller<W, E>,
+        hints: &mut Hints<N>,
         put: Put,
         name: &[u8],
         length: usize,
+        answers: &mut W,
+        explanations: &mut E,
     ) -> Result<(), ScriptFault>
-        ensures { IsDone (λ before after old new. IsSent (Puts put) name.now length before after old new) (IsShortOf length) script.old script.new
-            client.old.member client.new.member result }
+        ensures done { IsDone (λ before after old new. IsSent (Puts put) name.now length before after old new) (IsShortOf length) (IsUnended length)
+            script.old script.new (talk client.old.member (W.contents answers.old)) (talk client.new.member (W.contents answers.new)) result }
+        ensures grows { Grows client.old.member client.new.member }
     {
         match script.source(self.alloc, length)? {
-            Sent::Source(source) => self.change(client, teller, put, name, source.as_slice()),
-            Sent::NoRoom => teller.tell_no_memory(),
-            Sent::Unended => script.refuse_and_skip(teller),
+            Sent::Source(source) => {
+                let source = source.as_slice();
+                self.change(
+                    client,
+                    script,
+                    hints,
+                    put,
+                    name,
+                    source,
+                    answers,
+                    explanations,
+                )
+            }
+            Sent::NoRoom => tell_no_memory(answers, explanations),
+            Sent::Unended => script.refuse_and_skip(answers, explanations),
         }
     }
 
     fn withdraw<W: Write, E: Write>(
         &self,
         client: &mut Client<N>,
-        teller: &mut Teller<W, E>,
         name: &[u8],
+        answers: &mut W,
+        explanations: &mut E,
     ) -> Result<(), ScriptFault>
-        ensures told { Tells result }
-        ensures called { Calls (WithdrawAnswers name.now client.old.member client.new.member) }
+        ensures { CallsAndTells (WithdrawAnswers name.now) (SaysChange []) (talk client.old.member (W.contents answers.old)) (talk client.new.member (W.contents answers.new)) result }
     {
         let answer = self.service.withdraw(self.rt, self.alloc, client, name);
-        tell_change(self.alloc, teller, answer, &[])
+        tell_change(self.alloc, answer, &[], answers, explanations)
     }
 
     fn list<W: Write, E: Write>(
         &self,
         client: &mut Client<N>,
-        teller: &mut Teller<W, E>,
+        answers: &mut W,
+        explanations: &mut E,
     ) -> Result<(), ScriptFault>
-        ensures told { Tells result }
-        ensures called { Calls (ListAnswers client.old.member client.new.member) }
+        ensures { CallsAndTells ListAnswers SaysNames (talk client.old.member (W.contents answers.old)) (talk client.new.member (W.contents answers.new)) result }
     {
         match self.service.list(self.rt, self.alloc, client) {
-            Ok(listing) => {
-                teller.tell_names(listing.names().as_slice(), listing.receipt().number)
-            }
-            Err(fault) => refuse(self.alloc, teller, fault, &[]),
+            Ok(listing) => tell_names(
+                listing.names().as_slice(),
+                listing.receipt().number,
+                answers,
+            ),
+            Err(fault) => refuse(self.alloc, fault, &[], answers, explanations),
         }
     }
 
-    // Runs the image of a unit that was found.
+    // Runs the image of a unit that was found, or begins to.
     fn run_found<W: Write, E: Write>(
         &self,
-        teller: &mut Teller<W, E>,
         found: Found,
         steps: u64,
+        answers: &mut W,
+        explanations: &mut E,
     ) -> Result<(), ScriptFault>
-        ensures { Tells result }
+        ensures { TellsRun self.now.most steps found (W.contents answers.old) (W.contents answers.new) result }
     {
-        match run_image(self.alloc, &found.unit().stored().image, &[], steps) {
-            Ok(run) => teller.tell_run(&run),
-            Err(_) => teller.tell_no_memory(),
+        let image = &found.unit().stored().image;
+        match run_in_slices(self.alloc, image, steps, self.most.is_some(), self.patience) {
+            Ok(Some(run)) => tell_run(&run, answers),
+            Ok(None) => Err(ScriptFault::Stopped),
+            Err(_) => tell_no_memory(answers, explanations),
         }
     }
 
@@ -119,76 +189,83 @@ impl<'a, N: Named + Send + Sync + 'static, H: Wait, D: Disk> Player<'a, N, H, D>
     fn run<W: Write, E: Write>(
         &self,
         client: &mut Client<N>,
-        teller: &mut Teller<W, E>,
         name: &[u8],
         steps: u64,
+        answers: &mut W,
+        explanations: &mut E,
     ) -> Result<(), ScriptFault>
-        ensures told { Tells result }
-        ensures called { Calls (GetAnswers name.now client.old.member client.new.member) }
+        ensures { RunsAndTells self.now.most name.now steps (talk client.old.member (W.contents answers.old)) (talk client.new.member (W.contents answers.new)) result }
     {
         match self.service.get(self.rt, self.alloc, client, name) {
-            Ok(found) => self.run_found(teller, found, steps),
-            Err(fault) => refuse(self.alloc, teller, fault, &[]),
+            Ok(found) => self.run_found(found, steps, answers, explanations),
+            Err(fault) => refuse(self.alloc, fault, &[], answers, explanations),
         }
     }
 
-    // Tells this part of a name's unit.
+    // Writes this part of a name's unit.
     fn show<W: Write, E: Write>(
         &self,
         client: &mut Client<N>,
-        teller: &mut Teller<W, E>,
         name: &[u8],
         part: Part,
+        answers: &mut W,
+        explanations: &mut E,
     ) -> Result<(), ScriptFault>
-        ensures told { Tells result }
-        ensures called { Calls (GetAnswers name.now client.old.member client.new.member) }
+        ensures { CallsAndTells (GetAnswers name.now) (SaysShown part) (talk client.old.member (W.contents answers.old)) (talk client.new.member (W.contents answers.new)) result }
     {
         match self.service.get(self.rt, self.alloc, client, name) {
-            Ok(found) => self.show_found(teller, found, part),
-            Err(fault) => refuse(self.alloc, teller, fault, &[]),
+            Ok(found) => self.show_found(found, part, answers, explanations),
+            Err(fault) => refuse(self.alloc, fault, &[], answers, explanations),
         }
     }
 
-    // Tells this part of a unit that was found.
+    // Writes this part of a unit that was found.
     fn show_found<W: Write, E: Write>(
         &self,
-        teller: &mut Teller<W, E>,
         found: Found,
         part: Part,
+        answers: &mut W,
+        explanations: &mut E,
     ) -> Result<(), ScriptFault>
-        ensures { Tells result }
+        ensures { (text : List ℕ) × SaysShown part (Ok found) text × Tells (W.contents answers.old) (W.contents answers.new) text result }
     {
         match text_of(self.alloc, &found, part) {
-            Ok(text) => teller.tell_text(text.as_slice()),
-            Err(_) => teller.tell_no_memory(),
+            Ok(text) => tell_text(text.as_slice(), answers),
+            Err(_) => tell_no_memory(answers, explanations),
         }
     }
 
-    fn compact<W: Write, E: Write>(&self, teller: &mut Teller<W, E>) -> Result<(), ScriptFault>
-        ensures { Tells result }
+    // Writes the library anew. It is no client's call.
+    fn compact<W: Write, E: Write>(
+        &self,
+        answers: &mut W,
+        explanations: &mut E,
+    ) -> Result<(), ScriptFault>
+        ensures { (client : MemberView) → DoesAndTells Compacts (talk client (W.contents answers.old)) (talk client (W.contents answers.new)) result }
     {
         let answer = self.service.compact(self.rt, self.alloc);
-        tell_done(self.alloc, teller, answer)
+        tell_done(self.alloc, answer, answers, explanations)
     }
 
-    // Tells what an audit says of a unit that was found, or that memory ran out in it: whether it said anything.
-    fn tell_audit<W: Write, E: Write>(
+    // Writes what an audit says of a unit that was found, or that memory ran out in it: whether it said anything.
+    fn audit_unit<W: Write, E: Write>(
         &self,
-        teller: &mut Teller<W, E>,
         name: &[u8],
         found: Found,
+        answers: &mut W,
+        explanations: &mut E,
     ) -> Result<bool, ScriptFault>
-        ensures { Tells result }
+        ensures { TellsAudit name.now (Ok found) (W.contents answers.old) (W.contents answers.new) result }
     {
         match audit_found(self.alloc, &found) {
-            Ok(audit) => {
-                teller.tell_audit(name, audit)?;
-                Ok(true)
-            }
-            Err(_) => {
-                teller.tell_no_memory()?;
-                Ok(false)
-            }
+            Ok(audit) => match tell_audit(name, audit, answers) {
+                Ok(()) => Ok(true),
+                Err(fault) => Err(fault),
+            },
+            Err(_) => match tell_no_memory(answers, explanations) {
+                Ok(()) => Ok(false),
+                Err(fault) => Err(fault),
+            },
         }
     }
 
@@ -196,16 +273,15 @@ impl<'a, N: Named + Send + Sync + 'static, H: Wait, D: Disk> Player<'a, N, H, D>
     fn audit_name<W: Write, E: Write>(
         &self,
         client: &mut Client<N>,
-        teller: &mut Teller<W, E>,
         name: &[u8],
+        answers: &mut W,
+        explanations: &mut E,
     ) -> Result<bool, ScriptFault>
-        ensures told { Tells result }
-        ensures called { Calls (GetAnswers name.now client.old.member client.new.member) }
-        ensures found { IfOk result (λ is_audited. IsTrue is_audited → (receipt : Receipt) × GetAnswers name.now client.old.member client.new.member (Ok receipt)) }
+        ensures { AuditsName name.now (talk client.old.member (W.contents answers.old)) (talk client.new.member (W.contents answers.new)) result }
     {
         match self.service.get(self.rt, self.alloc, client, name) {
-            Ok(found) => self.tell_audit(teller, name, found),
-            Err(fault) => match refuse(self.alloc, teller, fault, &[]) {
+            Ok(found) => self.audit_unit(name, found, answers, explanations),
+            Err(fault) => match refuse(self.alloc, fault, &[], answers, explanations) {
                 Ok(()) => Ok(false),
                 Err(fault) => Err(fault),
             },
@@ -216,16 +292,17 @@ impl<'a, N: Named + Send + Sync + 'static, H: Wait, D: Disk> Player<'a, N, H, D>
     fn audit_names<W: Write, E: Write>(
         &self,
         client: &mut Client<N>,
-        teller: &mut Teller<W, E>,
         names: &[Name],
+        answers: &mut W,
+        explanations: &mut E,
     ) -> Result<bool, ScriptFault>
-        ensures told { Tells result }
-        ensures whole { IfOk result (λ all. FetchesEach names.now all client.old.member client.new.member) }
-        ensures part { IfErr result (λ fault. FetchesEach names.now false client.old.member client.new.member) }
+        ensures { AuditsNames names.now (talk client.old.member (W.contents answers.old)) (talk client.new.member (W.contents answers.new)) result }
     {
         for name in names {
-            if !self.audit_name(client, teller, name.bytes())? {
-                return Ok(false);
+            match self.audit_name(client, name.bytes(), answers, explanations) {
+                Ok(true) => {}
+                Ok(false) => return Ok(false),
+                Err(fault) => return Err(fault),
             }
         }
         Ok(true)
@@ -235,18 +312,20 @@ impl<'a, N: Named + Send + Sync + 'static, H: Wait, D: Disk> Player<'a, N, H, D>
     fn audit<W: Write, E: Write>(
         &self,
         client: &mut Client<N>,
-        teller: &mut Teller<W, E>,
+        answers: &mut W,
+        explanations: &mut E,
     ) -> Result<(), ScriptFault>
-        ensures told { Tells result }
-        ensures called { Audits client.old.member client.new.member }
+        ensures { DoesAndTells Audits (talk client.old.member (W.contents answers.old)) (talk client.new.member (W.contents answers.new)) result }
     {
         match self.service.list(self.rt, self.alloc, client) {
-            Ok(listing) => match self.audit_names(client, teller, listing.names().as_slice()) {
-                Ok(true) => teller.tell_ok(),
-                Ok(false) => Ok(()),
-                Err(fault) => Err(fault),
-            },
-            Err(fault) => refuse(self.alloc, teller, fault, &[]),
+            Ok(listing) => {
+                match self.audit_names(client, listing.names().as_slice(), answers, explanations) {
+                    Ok(true) => tell_ok(answers),
+                    Ok(false) => Ok(()),
+                    Err(fault) => Err(fault),
+                }
+            }
+            Err(fault) => refuse(self.alloc, fault, &[], answers, explanations),
         }
     }
 
@@ -256,54 +335,119 @@ impl<'a, N: Named + Send + Sync + 'static, H: Wait, D: Disk> Player<'a, N, H, D>
         &self,
         client: &mut Client<N>,
         script: &mut Reading<R>,
-        teller: &mut Teller<W, E>,
+        hints: &mut Hints<N>,
         dialect: Dialect,
         line: &[u8],
+        answers: &mut W,
+        explanations: &mut E,
     ) -> Result<(), ScriptFault>
-        ensures { IsDone (λ before after old new. Obeys (asked_of dialect line.now) before after old new) (λ rest. IsCutShort (asked_of dialect line.now) rest)
-            script.old script.new client.old.member client.new.member result }
+        ensures done { IsObeyed self.now.most (asked_of dialect line.now)
+            script.old script.new (talk client.old.member (W.contents answers.old)) (talk client.new.member (W.contents answers.new)) result }
+        ensures grows { Grows client.old.member client.new.member }
     {
         match command_of(dialect, line) {
             Some(ScriptCommand::Add { name, length }) => {
-                self.put(client, script, teller, Put::Add, name, length)
+                self.put(
+                    client,
+                    script,
+                    hints,
+                    Put::Add,
+                    name,
+                    length,
+                    answers,
+                    explanations,
+                )
             }
             Some(ScriptCommand::Replace { name, length }) => {
-                self.put(client, script, teller, Put::Replace, name, length)
+                self.put(
+                    client,
+                    script,
+                    hints,
+                    Put::Replace,
+                    name,
+                    length,
+                    answers,
+                    explanations,
+                )
             }
-            Some(ScriptCommand::Withdraw { name }) => self.withdraw(client, teller, name),
-            Some(ScriptCommand::List) => self.list(client, teller),
-            Some(ScriptCommand::Run { name, steps }) => self.run(client, teller, name, steps),
-            Some(ScriptCommand::Compact) => self.compact(teller),
-            Some(ScriptCommand::Audit) => self.audit(client, teller),
-            Some(ScriptCommand::Image { name }) => self.show(client, teller, name, Part::Image),
-            Some(ScriptCommand::Source { name }) => self.show(client, teller, name, Part::Source),
-            None => teller.tell_fault(ScriptFault::BadLine),
+            Some(ScriptCommand::Withdraw { name }) => {
+                self.withdraw(client, name, answers, explanations)
+            }
+            Some(ScriptCommand::List) => self.list(client, answers, explanations),
+            Some(ScriptCommand::Run { name, steps }) => {
+                self.run(client, name, steps, answers, explanations)
+            }
+            Some(ScriptCommand::Compact) => self.compact(answers, explanations),
+            Some(ScriptCommand::Audit) => self.audit(client, answers, explanations),
+            Some(ScriptCommand::Image { name }) => {
+                self.show(client, name, Part::Image, answers, explanations)
+            }
+            Some(ScriptCommand::Source { name }) => {
+                self.show(client, name, Part::Source, answers, explanations)
+            }
+            None => tell_fault(ScriptFault::BadLine, answers, explanations),
         }
     }
 
-    // Does what a script of this dialect asks for, up to its end or a fault that ends it; where there is a bound, so many lines at most.
-    pub(crate) fn play<R: Read, W: Write, E: Write>(
+    // Does what a script of this dialect asks for, up to its end or a fault that ends it.
+    fn play_lines<R: Read, W: Write, E: Write>(
         &self,
         client: &mut Client<N>,
         script: &mut Reading<R>,
-        teller: &mut Teller<W, E>,
+        hints: &mut Hints<N>,
         dialect: Dialect,
-        most: Option<usize>,
+        answers: &mut W,
+        explanations: &mut E,
     ) -> Result<(), ScriptFault>
         requires { script.old.left ≡ 16777216 }
-        ensures { IsPlayedBy dialect most script.old.rest client.old.member client.new.member result }
+        ensures halted { IsHalted dialect self.now.most script.old.rest (talk client.old.member (W.contents answers.old)) (talk client.new.member (W.contents answers.new)) result }
+        ensures grows { Grows client.old.member client.new.member }
     {
         let mut line = [0u8; LINE_BYTES];
+        let mut held = Held::new(client);
         // Each line but the last takes a byte at least.
         for lines in 0..=MOST_BYTES {
-            match script.next_line(&mut line, most, lines)? {
-                NextLine::Line(length) => {
-                    self.obey(client, script, teller, dialect, &line[..length])?
-                }
-                NextLine::TooLong => script.refuse_and_skip(teller)?,
+            held.count(client);
+            let limit = held.limit(self.most, lines, self.patience);
+            match script.next_line(&mut line, limit)? {
+                NextLine::Line(length) => self.obey(
+                    client,
+                    script,
+                    hints,
+                    dialect,
+                    &line[..length],
+                    answers,
+                    explanations,
+                )?,
+                NextLine::TooLong => script.refuse_and_skip(answers, explanations)?,
                 NextLine::End => return Ok(()),
             }
         }
         Err(ScriptFault::ScriptTooLong)
+    }
+
+    // Does so, and then writes the line of the fault that ended the script. If that cannot be written the fault is 54.
+    pub(crate) fn play<R: Read, W: Write, E: Write>(
+        &self,
+        client: &mut Client<N>,
+        script: &mut Reading<R>,
+        dialect: Dialect,
+        answers: &mut W,
+        explanations: &mut E,
+    ) -> Result<(), ScriptFault>
+        requires { script.old.left ≡ 16777216 }
+        ensures played { IsPlayedBy dialect self.now.most script.old.rest (talk client.old.member (W.contents answers.old)) (talk client.new.member (W.contents answers.new)) result }
+        ensures grows { Grows client.old.member client.new.member }
+    {
+        let mut hints = Hints::new(self.alloc);
+        let played = self.play_lines(client, script, &mut hints, dialect, answers, explanations);
+        drop(hints);
+        match played {
+            Ok(()) => Ok(()),
+            Err(fault) => match tell_fault(fault, answers, explanations) {
+                Ok(()) => Err(fault),
+                Err(unwritten) => Err(unwritten),
+            },
+        }
     }
 }

@@ -1,21 +1,29 @@
 // Serving on and on: each generation is one service, and the next begins with the disk and the spools that it left.
 
-ghost use Rattle.std.specs.Prelude.{◌≡◌, ◌≤◌, ℕ, true, map};
-ghost use Rattle.cc_session.specs.Generations.{ServesOn};
+ghost use Rattle.std.specs.Prelude.{◌≡◌, ◌≤◌, ℕ, zero, suc, true, map};
+ghost use Rattle.cc_session.specs.Generations.{GoesOn, ServesOn};
 ghost use Rattle.cc_session.specs.declared.end.SessionEnd.TheVariants.{Finished};
 ghost use Rattle.cc_session.specs.Spooling.{ServingEnds, given_by};
 
 use crate::bounds::Bounds;
 use crate::end::SessionEnd;
-use crate::serving::{Served, serve};
+use crate::serving::{Served, serve_quietly};
 use crate::steward::Steward;
+use crate::telling::tell_end;
+use cc_answers::explain_words;
 use cc_disk::Disk;
 use cc_service::NoGate;
 use cc_spool::Spool;
 use std::alloc::Global;
 use std::io::Write;
+use std::rt::Clock;
 use std::sync::Wait;
+use std::thread;
 use std::thread::Threads;
+use std::time::Duration;
+
+// The longest pause between two generations, in seconds.
+const MOST_PAUSE: u64 = 60;
 
 // Whether each spool is over.
 fn are_over<S: Spool>(spools: &mut [S]) -> bool
@@ -29,25 +37,155 @@ fn are_over<S: Spool>(spools: &mut [S]) -> bool
     true
 }
 
-// Whether a next generation is to begin: the last one ended without a fault, and some spool is not over.
-fn goes_on<D: Drop, S: Spool + Drop>(left: &mut Served<D, S>) -> bool
-    ensures finished { result ≡ true → left.old.end ≡ Finished }
+// Waits for so many seconds, or until each spool is over; whether it is.
+fn rest<H: Clock, S: Spool>(rt: &H, seconds: u64, spools: &mut [S]) -> bool
+    ensures { map (given_by S.taken S.ended) spools.new ≡ map (given_by S.taken S.ended) spools.old }
+{
+    for _ in 0..seconds {
+        if are_over(spools) {
+            return true;
+        }
+        thread::sleep(rt, Duration::from_secs(1));
+    }
+    are_over(spools)
+}
+
+// Whether the first generation ended so that a next one may begin.
+fn is_well(end: SessionEnd) -> bool
+    ensures { result ≡ true → GoesOn zero end }
+{
+    match end {
+        SessionEnd::Finished => true,
+        SessionEnd::Fault(_) => false,
+    }
+}
+
+// Whether a later one did: without a fault, or by one that may pass.
+fn may_pass(end: SessionEnd) -> bool
+    ensures { result ≡ true → GoesOn (suc zero) end }
+{
+    match end {
+        SessionEnd::Finished => true,
+        SessionEnd::Fault(number) => number == 40 || number == 41,
+    }
+}
+
+// For how many seconds the server waits behind a generation that ended so, behind which it waited for so many the last time.
+fn pause_behind(end: SessionEnd, last: u64) -> u64
+    ensures { result ≤ 60 }
+{
+    match end {
+        SessionEnd::Finished => 0,
+        SessionEnd::Fault(_) => last.saturating_mul(2).max(1).min(MOST_PAUSE),
+    }
+}
+
+// Tells a person that a generation ended by a fault that may pass: of faults in a row the first.
+fn tell_pause<E: Write>(end: SessionEnd, pause: u64, explanations: &mut E) {
+    match end {
+        SessionEnd::Fault(number) if pause == 1 => {
+            let _ = explain_words(number, explanations);
+            let _ = writeln!(
+                explanations,
+                "cclib: it is tried again until the server can go on"
+            );
+            let _ = explanations.flush();
+        }
+        SessionEnd::Fault(_) | SessionEnd::Finished => {}
+    }
+}
+
+// Whether a next generation is to begin: the last one ended without a fault or by one that may pass, and some spool is not over. Behind a fault
+// there is a pause.
+fn goes_on<H: Clock, E: Write, D: Drop, S: Spool + Drop>(
+    rt: &H,
+    left: &mut Served<D, S>,
+    pause: &mut u64,
+    explanations: &mut E,
+) -> bool
+    ensures may { result ≡ true → GoesOn (suc zero) left.old.end }
     ensures end { left.new.end ≡ left.old.end }
     ensures disk { left.new.disk ≡ left.old.disk }
     ensures spools { map (given_by S.taken S.ended) left.new.spools.items ≡ map (given_by S.taken S.ended) left.old.spools.items }
 {
-    match left.end {
-        SessionEnd::Finished => !are_over(left.spools.as_mut_slice()),
-        SessionEnd::Fault(_) => false,
+    if !may_pass(left.end) {
+        return false;
     }
+    *pause = pause_behind(left.end, *pause);
+    tell_pause(left.end, *pause, explanations);
+    !rest(rt, *pause, left.spools.as_mut_slice())
+}
+
+// Serves so, and writes no line of the fault that ended it.
+fn serve_all<H, S, E, D, T>(
+    rt: &H,
+    alloc: Global,
+    spools: Vec<S>,
+    explanations: &mut E,
+    disk: D,
+    workers: usize,
+    bounds: Bounds,
+    steward: &mut T,
+) -> Served<D, S>
+where
+    H: Threads + Wait + Clock + Copy + Send + Sync + 'static,
+    S: Spool + Send + Drop,
+    E: Write,
+    D: Disk + Send + Drop,
+    T: Steward,
+    requires some { 1 ≤ workers }
+    requires few { workers ≤ 8 }
+    ensures generations { (earlier : ℕ) × ServesOn (ServingEnds D.Disk) earlier
+        (map (given_by S.taken S.ended) spools.items) (map (given_by S.taken S.ended) result.spools.items) disk result.disk result.end }
+{
+    let mut left = serve_quietly(
+        rt,
+        alloc,
+        spools,
+        explanations,
+        disk,
+        workers,
+        NoGate,
+        bounds,
+        steward,
+    );
+    if !is_well(left.end) {
+        return left;
+    }
+    let mut pause = 0;
+    for _ in rt.forever() {
+        if !goes_on(rt, &mut left, &mut pause, explanations) {
+            break;
+        }
+        let Served {
+            disk,
+            spools,
+            end: _,
+        } = left;
+        left = serve_quietly(
+            rt,
+            alloc,
+            spools,
+            explanations,
+            disk,
+            workers,
+            NoGate,
+            bounds,
+            steward,
+        );
+    }
+    left
 }
 
 /// Serves as `serve` does, one generation behind the other, until each spool is over or a service ends by a fault. A generation begins with
 /// the disk and the spools that the one before left; the numbers of its receipts begin at 1. Between two of them no script is taken, for as
 /// long as the service's end, the opening of the library and `steward` take.
 ///
-/// What goes to `writer` and `explanations`, and what is handed back, is as with `serve`, of the last generation. A fault of a later opening
-/// ends it too.
+/// If a later generation ends by 40 or 41, which may pass, the next is tried after a pause: of a second, and then twice as long each time, up
+/// to a minute. The first fault of a row is explained on `explanations`. It ends by that fault only if each spool is over then. Any fault of the
+/// first generation ends it.
+///
+/// What goes to `writer` and `explanations`, and what is handed back, is as with `serve`, of the last generation.
 pub fn serve_on<H, S, W, E, D, T>(
     rt: &H,
     alloc: Global,
@@ -60,7 +198,7 @@ pub fn serve_on<H, S, W, E, D, T>(
     steward: &mut T,
 ) -> Served<D, S>
 where
-    H: Threads + Wait + Copy + Send + Sync + 'static,
+    H: Threads + Wait + Clock + Copy + Send + Sync + 'static,
     S: Spool + Send + Drop,
     W: Write,
     E: Write,
@@ -70,40 +208,19 @@ where
     requires few { workers ≤ 8 }
     ensures generations { (earlier : ℕ) × ServesOn (ServingEnds D.Disk) earlier
         (map (given_by S.taken S.ended) spools.items) (map (given_by S.taken S.ended) result.spools.items) disk result.disk result.end }
+    // Nothing is written where no fault ended it.
+    ensures still { result.end ≡ Finished → W.contents writer.new ≡ W.contents writer.old }
 {
-    let mut left = serve(
+    let left = serve_all(
         rt,
         alloc,
         spools,
-        writer,
         explanations,
         disk,
         workers,
-        NoGate,
         bounds,
         steward,
     );
-    for _ in rt.forever() {
-        if !goes_on(&mut left) {
-            break;
-        }
-        let Served {
-            disk,
-            spools,
-            end: _,
-        } = left;
-        left = serve(
-            rt,
-            alloc,
-            spools,
-            writer,
-            explanations,
-            disk,
-            workers,
-            NoGate,
-            bounds,
-            steward,
-        );
-    }
+    tell_end(alloc, left.end, writer, explanations);
     left
 }

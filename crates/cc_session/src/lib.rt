@@ -3,9 +3,11 @@
 //!
 //! `running` opens the service and ends it, `serving` does so for many clients, `generations` one such service behind the other, `attending`
 //! does one script, or those of a spool, by a client of a service that runs. `bounds` says when a service is ended so that the next begins,
-//! `steward` who is told of it. `reading` reads a script, `calls` does its commands, `auditing` audits a unit, `showing` has the text of its
-//! image or its source, `telling` tells what the service answered, `end` is how a session ended. Which commands a script has is the matter
-//! of `cc_script`, where scripts come from that of `cc_spool`, how an answer is written and a fault explained that of `cc_answers`.
+//! `steward` who is told of it. `reading` reads a script, `held` says how far it may go, `patience` whether others wait, `calls` does its
+//! commands, `hints` hands sources in before their turn, `auditing` audits a unit,
+//! `showing` has the text of its image or its source, `telling` tells what the service answered, `end` is how a session ended. Which commands
+//! a script has is the matter of `cc_script`, where scripts come from that of `cc_spool`, how an answer is written and a fault explained that
+//! of `cc_answers`.
 //! It hands out `session`, `session_and_explain`, `serve`, `serve_on`, `Served`, `attend`, `play` and `SessionEnd`; `Bounds`, `BOUNDS`,
 //! `Meter`; `Steward`, `NoSteward`, `Generation`, `GenerationEnd`; `Gate` and `NoGate`.
 #![tactic(auto)]
@@ -16,6 +18,9 @@ mod bounds;
 mod calls;
 mod end;
 mod generations;
+mod held;
+mod hints;
+mod patience;
 mod reading;
 mod running;
 mod serving;

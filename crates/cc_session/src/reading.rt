@@ -2,11 +2,13 @@
 
 ghost use Rattle.std.specs.Prelude.{◌≡◌, ◌⊎◌, ◌≤◌, ℕ, List, IfErr, IfOk, OnOk};
 ghost use Rattle.cc_script.specs.Reading.{Between, IsLine, IsNext, IsNoSource, IsNotRead, IsWithinLine};
-ghost use Rattle.cc_script.specs.declared.fault.ScriptFault.TheVariants.{WriteFault};
+ghost use Rattle.std.specs.Io.KnownBytes.{Appends};
+ghost use Rattle.cc_answers.specs.Telling.{script_fault_text};
+ghost use Rattle.cc_script.specs.declared.fault.ScriptFault.TheVariants.{BadLine, WriteFault};
 ghost use Rattle.cc_session.specs.internal.Steps.{HasSent, IsNoLine, IsSentAs, MayFollow};
 
-use cc_answers::Teller;
-use cc_script::{LINE_BYTES, NextLine, Script, ScriptFault};
+use cc_answers::tell_fault;
+use cc_script::{LINE_BYTES, MOST_BYTES, NextLine, Script, ScriptFault};
 use std::alloc::Global;
 use std::io::{Read, Write};
 use std::marker::Model;
@@ -60,29 +62,35 @@ impl<R: Read> Reading<R> {
         }
     }
 
-    // The script's next line, behind so many that are done; 52 where these are all that may be, and one more comes.
+    // How many bytes of it were handed out.
+    pub(crate) fn position(&self) -> usize {
+        MOST_BYTES.saturating_sub(self.script.left())
+    }
+
+    // What was read of it and not handed out yet.
+    pub(crate) fn held(&self) -> &[u8] {
+        self.script.held()
+    }
+
+    // The script's next line; where one comes, and there is a limit, that fault.
     #[tactic(auto, using(crate::proofs::Playing::some_left))]
     pub(crate) fn next_line(
         &mut self,
         line: &mut [u8; LINE_BYTES],
-        most: Option<usize>,
-        lines: usize,
+        limit: Option<ScriptFault>,
     ) -> Result<NextLine, ScriptFault>
         ensures within { IfOk result IsWithinLine }
-        ensures few { IfOk result (MayFollow most lines) }
-        ensures refused { IfErr result (IsNoLine most lines self.old self.new.left) }
+        ensures few { IfOk result (MayFollow limit) }
+        ensures refused { IfErr result (IsNoLine limit self.old self.new.left) }
         ensures bytes { IfOk result (λ next. Between self.old self.new (λ before after. IsNext before next line.new after)) }
     {
         let next = self.script.next_line(&mut self.reader, line)?;
         match next {
             NextLine::End => Ok(next),
-            NextLine::Line(_) | NextLine::TooLong => {
-                if most == Some(lines) {
-                    Err(ScriptFault::ScriptTooLong)
-                } else {
-                    Ok(next)
-                }
-            }
+            NextLine::Line(_) | NextLine::TooLong => match limit {
+                Some(fault) => Err(fault),
+                None => Ok(next),
+            },
         }
     }
 
@@ -103,15 +111,20 @@ impl<R: Read> Reading<R> {
         Ok(behind_line(source, is_ended))
     }
 
-    // Tells that a line that was not read to its end is no command, and skips it.
+    // Writes that a line that was not read to its end is no command, 50, and skips it.
     pub(crate) fn refuse_and_skip<W: Write, E: Write>(
         &mut self,
-        teller: &mut Teller<W, E>,
+        answers: &mut W,
+        explanations: &mut E,
     ) -> Result<(), ScriptFault>
-        ensures refused { IfErr result (λ fault. (fault ≡ WriteFault) ⊎ IsNotRead self.old self.new.left fault) }
+        ensures refused { IfErr result (λ fault. (fault ≡ WriteFault)
+            ⊎ (Appends (W.contents answers.old) (W.contents answers.new) (script_fault_text BadLine) × IsNotRead self.old self.new.left fault)) }
         ensures bytes { OnOk result (Between self.old self.new (λ before after. (rest : List ℕ) × IsLine before rest after)) }
+        ensures written { OnOk result (Appends (W.contents answers.old) (W.contents answers.new) (script_fault_text BadLine)) }
     {
-        teller.tell_fault(ScriptFault::BadLine)?;
-        self.script.skip_line(&mut self.reader)
+        match tell_fault(ScriptFault::BadLine, answers, explanations) {
+            Ok(()) => self.script.skip_line(&mut self.reader),
+            Err(fault) => Err(fault),
+        }
     }
 }

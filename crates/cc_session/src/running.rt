@@ -1,23 +1,26 @@
 // A session, from the opening of its service to the end.
 
-ghost use Rattle.std.specs.Prelude.{◌≡◌, if◌then◌else◌, ◌≤◌, ◌<◌, ℕ, List, [], Option, IsTrue, IfOk, IfErr, vec_len};
+ghost use Rattle.std.specs.Prelude.{◌≡◌, ◌≤◌, ◌<◌, ℕ, List, [], Option, IsTrue, IfOk, IfErr, vec_len};
 ghost use Rattle.std.specs.Vec.{vec_capacity};
 ghost use Rattle.cc_disk.specs.Images.{OnlyReads};
 ghost use Rattle.cc_library.specs.Answers.{OpenFaults};
 ghost use Rattle.cc_library.specs.Apply.{Units};
 ghost use Rattle.cc_library.specs.Recovered.{Recovers};
+ghost use Rattle.cc_service.specs.Opened.{IsOpened};
 ghost use Rattle.cc_service.specs.Since.{IsPast};
 ghost use Rattle.cc_service.specs.Client.{members};
-ghost use Rattle.cc_session.specs.Session.{EndsSince, HaveCalled, IsEnded, SessionEnds, told_after};
+ghost use Rattle.cc_session.specs.Session.{EndsSince, HaveCalled, IsEnded, SessionEnds};
+ghost use Rattle.cc_session.specs.internal.Ends.{given_up_after};
 ghost use Rattle.cc_session.specs.internal.Steps.{EndsFor};
 
 use crate::calls::Player;
 use crate::end::SessionEnd;
+use crate::patience::Unhurried;
 use crate::reading::Reading;
-use crate::telling::refused;
-use cc_answers::Teller;
+use crate::telling::{refused, tell_estranged};
+use cc_answers::tell_no_memory;
 use cc_disk::Disk;
-use cc_library::{Library, LibraryFault, UnitMap};
+use cc_library::{Library, LibraryFault};
 use cc_script::{Dialect, ScriptFault};
 use cc_service::{Client, Closed, Fresh, Gate, Named, NoGate, Service, ServiceFault};
 use std::alloc::Global;
@@ -27,23 +30,23 @@ use std::snapshot::Snapshot;
 use std::sync::Wait;
 use std::thread::Threads;
 
-// What a service begins with: its disk, which is known as it was before, the map that it recovers to, and what no type names yet.
+// What a service begins with: the library as its opening left it, whose disk is known as it was before, and what no type names yet.
 #[derive(Drop)]
 pub(crate) struct Begun<D: Disk> {
-    pub(crate) disk: D,
+    pub(crate) library: Library<D>,
     pub(crate) before: Snapshot<D>,
-    pub(crate) base: Snapshot<UnitMap>,
     pub(crate) fresh: Fresh,
 }
 
-// What a service on this disk begins with. The library is opened to learn what the disk recovers to, which a service's type names.
+// What a service on this disk begins with. The library's map is what the service's type names.
 pub(crate) fn begin<D: Disk + Drop>(alloc: Global, disk: D) -> Result<Begun<D>, (LibraryFault, D)>
-    ensures base { IfOk result (λ b. IsTrue D.honest → (units : Units) → Recovers (D.seen b.disk) units → units ≡ b.base.value) }
-    ensures sound { IfOk result (λ b. D.failures b.disk ≡ D.failures disk) }
+    ensures opened { IfOk result (λ b. IsOpened D.Disk b.library) }
+    ensures recovered { IfOk result (λ b. IsTrue D.honest → Recovers (D.seen b.library.disk) b.library.units) }
+    ensures sound { IfOk result (λ b. D.failures b.library.disk ≡ D.failures disk) }
     ensures refused { IfErr result (λ e. OpenFaults D.honest (D.seen disk) (D.failures disk) (D.failures e.1) e.0) }
     ensures before { IfOk result (λ b. b.before.value ≡ disk) }
-    ensures reads { IfOk result (λ b. IsTrue D.honest → OnlyReads D.seen D.may_leave D.moment D.left_since disk b.disk) }
-    ensures past { IfOk result (λ b. IsTrue D.honest → IsPast D.Disk (D.moment b.before.value) (D.may_leave b.before.value) b.disk) }
+    ensures reads { IfOk result (λ b. IsTrue D.honest → OnlyReads D.seen D.may_leave D.moment D.left_since disk b.library.disk) }
+    ensures past { IfOk result (λ b. IsTrue D.honest → IsPast D.Disk (D.moment b.before.value) (D.may_leave b.before.value) b.library.disk) }
     ensures reads_refused { IfErr result (λ e. IsTrue D.honest → OnlyReads D.seen D.may_leave D.moment D.left_since disk e.1) }
 {
     let before = Snapshot::of(&disk);
@@ -51,56 +54,60 @@ pub(crate) fn begin<D: Disk + Drop>(alloc: Global, disk: D) -> Result<Begun<D>, 
         Ok(library) => library,
         Err(refused) => return Err(refused),
     };
-    let base = Snapshot::of(library.units());
-    let disk = library.into_disk();
     match Fresh::new(alloc) {
         Ok(fresh) => Ok(Begun {
-            disk,
+            library,
             before,
-            base,
             fresh,
         }),
-        Err(_) => Err((LibraryFault::OutOfMemory, disk)),
+        Err(_) => Err((LibraryFault::OutOfMemory, library.into_disk())),
     }
 }
 
-// What is told where the service's end was refused by this number: the fault that ended its work, where one did, else the number. Where
-// all receipts stand it is 40, for there was no memory to say so.
-fn told_after(are_all: bool, number: u32, played: SessionEnd) -> SessionEnd
-    ensures { result ≡ told_after (if are_all then 40 else number) played }
-{
-    match played {
-        SessionEnd::Finished if are_all => SessionEnd::Fault(40),
-        SessionEnd::Finished => SessionEnd::Fault(number),
-        SessionEnd::Fault(first) => SessionEnd::Fault(first),
-    }
-}
-
-// How a session ended whose script did so.
-fn ended<W: Write, E: Write>(
-    teller: &mut Teller<W, E>,
-    played: Result<(), ScriptFault>,
+// The end of a service that was given up. If its clients' receipts are not all there it is 39, whatever fault ended their work. If they are, it is
+// the fault that ended the work; else 40, for there was no memory to end. A fault that comes first here has its line written.
+fn given_up<W: Write, E: Write>(
+    alloc: Global,
+    are_all: bool,
+    played: SessionEnd,
+    answers: &mut W,
+    explanations: &mut E,
 ) -> SessionEnd
-    ensures { EndsFor played result }
+    ensures end { result ≡ given_up_after are_all played }
+    ensures still { result ≡ played → W.contents answers.new ≡ W.contents answers.old }
 {
     match played {
-        Ok(()) => SessionEnd::Finished,
-        Err(fault) => {
-            let _ = teller.tell_fault(fault);
-            SessionEnd::Fault(fault.number())
+        SessionEnd::Fault(first) if are_all || first == 39 => SessionEnd::Fault(first),
+        SessionEnd::Finished if are_all => {
+            let _ = tell_no_memory(answers, explanations);
+            SessionEnd::Fault(40)
+        }
+        SessionEnd::Fault(_) | SessionEnd::Finished => {
+            tell_estranged(alloc, answers, explanations);
+            SessionEnd::Fault(39)
         }
     }
 }
 
-// Does a script by one client of a service.
-#[tactic(auto, using(crate::proofs::Calling::called_by))]
+// How a session ended whose script did so.
+fn ended(played: Result<(), ScriptFault>) -> SessionEnd
+    ensures { EndsFor played result }
+{
+    match played {
+        Ok(()) => SessionEnd::Finished,
+        Err(fault) => SessionEnd::Fault(fault.number()),
+    }
+}
+
+// Does a script by one client of a service. However the session ends then, this holds if nothing is written in between.
 fn play_alone<N, H, R, W, E, D>(
     rt: &H,
     alloc: Global,
     script: &mut Reading<R>,
-    teller: &mut Teller<W, E>,
     service: &Service<N, D>,
     clients: &mut Vec<Client<N>>,
+    answers: &mut W,
+    explanations: &mut E,
 ) -> SessionEnd
 where
     N: Named + Send + Sync + 'static,
@@ -112,16 +119,23 @@ where
     requires room { vec_len clients.old < vec_capacity clients.old }
     requires none { clients.old.items ≡ [] }
     requires fresh { script.old.left ≡ 16777216 }
-    ensures { HaveCalled script.old.rest (members clients.new.items) result }
+    ensures { (end : SessionEnd) (after : Option (List ℕ)) → (end ≡ result → after ≡ W.contents answers.new)
+        → HaveCalled script.old.rest (W.contents answers.old) after end (members clients.new.items) result }
 {
     match service.client(rt, alloc) {
         Ok(mut client) => {
-            let player = Player { rt, alloc, service };
-            let played = player.play(&mut client, script, teller, Dialect::Plain, None);
+            let player = Player {
+                rt,
+                alloc,
+                service,
+                most: None,
+                patience: &Unhurried,
+            };
+            let played = player.play(&mut client, script, Dialect::Plain, answers, explanations);
             clients.push_reserved(client);
-            ended(teller, played)
+            ended(played)
         }
-        Err(fault) => SessionEnd::Fault(refused(alloc, teller, fault)),
+        Err(fault) => SessionEnd::Fault(refused(alloc, fault, answers, explanations)),
     }
 }
 
@@ -137,10 +151,11 @@ fn disk_of<D: Disk>(closed: Closed<D>) -> D
 pub(crate) fn finish<N, H, W, E, D>(
     rt: &H,
     alloc: Global,
-    teller: &mut Teller<W, E>,
     service: Service<N, D>,
     clients: Vec<Client<N>>,
     played: SessionEnd,
+    answers: &mut W,
+    explanations: &mut E,
 ) -> (D, SessionEnd)
 where
     N: Named + Send + Sync + 'static,
@@ -149,15 +164,20 @@ where
     E: Write,
     D: Disk,
     // Whatever bytes those were that recover to the map that the service's type names.
-    ensures { (bytes : List ℕ) → (IsTrue D.honest → Recovers bytes N.base)
+    ensures ended { (bytes : List ℕ) → (IsTrue D.honest → Recovers bytes N.base)
         → IsEnded D.Disk bytes N.from N.left (members clients.items) played result.1 result.0 }
+    // Nothing is written if it ends as the clients' work did.
+    ensures still { result.1 ≡ played → W.contents answers.new ≡ W.contents answers.old }
 {
     match service.finish(rt, alloc, clients) {
         Ok(closed) => (disk_of(closed), played),
         Err((fault, service, clients)) => {
+            drop(fault);
             let (disk, are_all) = service.give_up(rt, alloc, clients);
-            let number = refused(alloc, teller, fault);
-            (disk, told_after(are_all, number, played))
+            (
+                disk,
+                given_up(alloc, are_all, played, answers, explanations),
+            )
         }
     }
 }
@@ -167,10 +187,11 @@ fn do_script<N, H, R, W, E, D, G>(
     rt: &H,
     alloc: Global,
     script: &mut Reading<R>,
-    teller: &mut Teller<W, E>,
     begun: Begun<D>,
     workers: usize,
     gate: G,
+    answers: &mut W,
+    explanations: &mut E,
 ) -> (D, SessionEnd)
 where
     N: Named + Send + Sync + 'static,
@@ -183,32 +204,41 @@ where
     requires ledger { begun.fresh.ledger ≡ N.name }
     requires parts { N.parts ≡ 1025 }
     requires queue { begun.fresh.queue ≡ N.queue }
-    requires named { IsTrue D.honest → (units : Units) → Recovers (D.seen begun.disk) units → units ≡ N.base }
-    requires past { IsTrue D.honest → IsPast D.Disk N.from N.left begun.disk }
+    requires opened { IsOpened D.Disk begun.library }
+    requires recovered { IsTrue D.honest → Recovers (D.seen begun.library.disk) begun.library.units }
+    requires named { IsTrue D.honest → begun.library.units ≡ N.base }
+    requires past { IsTrue D.honest → IsPast D.Disk N.from N.left begun.library.disk }
     requires some { 1 ≤ workers }
     requires few { workers ≤ 8 }
     requires fresh { script.old.left ≡ 16777216 }
-    ensures { EndsSince D.Disk N.from N.left (Unit {0}) (HaveCalled script.old.rest) begun.disk result.0 result.1 }
+    ensures { EndsSince D.Disk N.from N.left (Unit {0}) (HaveCalled script.old.rest (W.contents answers.old) (W.contents answers.new) result.1) begun.library.disk result.0 result.1 }
 {
     let Begun {
-        disk,
+        library,
         before: _,
-        base: _,
         fresh,
     } = begun;
     let Ok(mut clients) = Vec::with_capacity(alloc, 1) else {
         drop(fresh);
         let fault = ServiceFault::Opening(LibraryFault::OutOfMemory);
-        let number = refused(alloc, teller, fault);
-        return (disk, SessionEnd::Fault(number));
+        let number = refused(alloc, fault, answers, explanations);
+        return (library.into_disk(), SessionEnd::Fault(number));
     };
-    match Service::<N, D>::open(rt, alloc, fresh, disk, workers, gate) {
+    match Service::<N, D>::over(rt, alloc, fresh, library, workers, gate) {
         Ok(service) => {
-            let played = play_alone(rt, alloc, script, teller, &service, &mut clients);
-            finish(rt, alloc, teller, service, clients, played)
+            let played = play_alone(
+                rt,
+                alloc,
+                script,
+                &service,
+                &mut clients,
+                answers,
+                explanations,
+            );
+            finish(rt, alloc, service, clients, played, answers, explanations)
         }
         Err((fault, disk)) => {
-            let number = refused(alloc, teller, fault);
+            let number = refused(alloc, fault, answers, explanations);
             (disk, SessionEnd::Fault(number))
         }
     }
@@ -232,28 +262,26 @@ where
     G: Gate + Drop + Send + Sync + 'static,
     requires some { 1 ≤ workers }
     requires few { workers ≤ 8 }
-    ensures answers { SessionEnds D.Disk (R.remaining reader.old) disk result.0 result.1 }
+    ensures answers { SessionEnds D.Disk (R.remaining reader.old) (W.contents writer.old) (W.contents writer.new) disk result.0 result.1 }
 {
     let mut script = Reading::new(reader);
-    let mut teller = Teller {
-        answers: writer,
-        explanations,
-    };
     match begin(alloc, disk) {
         Ok(begun) => {
-            let (disk, end) = do_script::<Brand, H, &mut R, &mut W, &mut E, D, G>(
+            let (disk, end) = do_script::<Brand, H, &mut R, W, E, D, G>(
                 rt,
                 alloc,
                 &mut script,
-                &mut teller,
                 begun,
                 workers,
                 gate,
+                writer,
+                explanations,
             );
             (Some(disk), end)
         }
         Err((fault, disk)) => {
-            let number = refused(alloc, &mut teller, ServiceFault::Opening(fault));
+            let fault = ServiceFault::Opening(fault);
+            let number = refused(alloc, fault, writer, explanations);
             (Some(disk), SessionEnd::Fault(number))
         }
     }
@@ -262,13 +290,14 @@ where
 /// Opens the library on a disk as a service with this many workers, 1 to 8, does the commands of a script by one client, and ends the
 /// service.
 ///
-/// The script, a plain one, comes from `reader`, each answer goes to `writer`, which is flushed behind it. A refusal writes its fault's line, and the
-/// session goes on; a fault of the opening, of the script (51 to 54; of 54 there is no line) or of the service's end (39, 40) ends it, and
-/// the first of them is told. The disk is handed back after each.
+/// The script, a plain one, comes from `reader`, each answer goes to `writer`, which is flushed after it. If the session ends as the script did
+/// (`Finished`, or 51 to 53) the writer got the lines of the script's turns in their order, and no other byte. A refusal writes its fault's line, and the
+/// session goes on; a fault of the opening, of the script (51 to 54; of 54 there is no line) or of the service's end (39, 40) ends it. The
+/// end is the first of them, but 39 goes before a fault of the script. The disk is handed back after each.
 ///
-/// 51 is told only where the script has fewer bytes than a line's source, 52 only where it has more than 16,777,216. After each
-/// of these faults the library is kept with all that the client's receipts say; or, where a receipt does not stand in the history or
-/// other calls stand there, with some legal history.
+/// 51 comes only if the script has fewer bytes than a line's source, 52 only if it has more than 16,777,216. After each end but 39 the library
+/// is kept with all that the client's receipts say. 39 says that a receipt is not in the history, or that other calls are: then some legal
+/// history is kept.
 pub fn session<H, R: Read, W: Write, D: Disk + Drop>(
     rt: &H,
     alloc: Global,
@@ -281,7 +310,7 @@ where
     H: Threads + Wait + Copy + Send + 'static,
     requires some { 1 ≤ workers }
     requires few { workers ≤ 8 }
-    ensures answers { SessionEnds D.Disk (R.remaining reader.old) disk result.0 result.1 }
+    ensures answers { SessionEnds D.Disk (R.remaining reader.old) (W.contents writer.old) (W.contents writer.new) disk result.0 result.1 }
 {
     session_and_explain(
         rt,

@@ -9,10 +9,11 @@ ghost use Rattle.cc_library.specs.Apply.{Units};
 ghost use Rattle.cc_library.specs.Recovered.{Recovers};
 ghost use Rattle.cc_service.specs.Client.{members};
 ghost use Rattle.cc_service.specs.Fault.{fault_number};
+ghost use Rattle.cc_service.specs.Opened.{IsOpened};
 ghost use Rattle.cc_service.specs.Since.{IsPast};
 ghost use Rattle.cc_service.specs.declared.fault.ServiceFault.TheVariants.{TooManyClients};
 ghost use Rattle.cc_session.specs.Session.{EndsSince, HasEnded};
-ghost use Rattle.cc_session.specs.declared.end.SessionEnd.TheVariants.{Fault};
+ghost use Rattle.cc_session.specs.declared.end.SessionEnd.TheVariants.{Fault, Finished};
 ghost use Rattle.cc_session.specs.Spooling.{HasDone, HaveServed, ServingEnds, given_by};
 
 use crate::attending::attend;
@@ -20,14 +21,13 @@ use crate::bounds::{Bounds, Meter};
 use crate::end::SessionEnd;
 use crate::running::{Begun, begin, finish};
 use crate::steward::Steward;
-use crate::telling::refused;
-use cc_answers::Teller;
+use crate::telling::tell_end;
 use cc_disk::Disk;
 use cc_library::LibraryFault;
 use cc_service::{Client, Gate, Named, Service, ServiceFault};
 use cc_spool::Spool;
 use std::alloc::{AllocError, Global};
-use std::io::Write;
+use std::io::{self, Write};
 use std::marker::Brand;
 use std::sync::Wait;
 use std::thread;
@@ -187,21 +187,20 @@ struct Worked<N: Named, S> {
 }
 
 // A client for each spool does what this gives. Where the service has too few of them nothing is done.
-fn work<N, H, S, W, E, D, T>(
+fn work<N, H, S, E, D, T>(
     rt: &H,
     alloc: Global,
-    teller: &mut Teller<W, E>,
     service: &Service<N, D>,
     room: Room<N, S>,
     spools: Vec<S>,
     meter: &Meter,
     steward: &mut T,
+    explanations: &mut E,
 ) -> Worked<N, S>
 where
     N: Named + Send + Sync + 'static,
     H: Threads + Wait + Send + Sync,
     S: Spool + Send + Drop,
-    W: Write,
     E: Write,
     D: Disk + Send,
     T: Steward,
@@ -218,7 +217,7 @@ where
     match hire(rt, alloc, service, spools.len(), &mut clients) {
         Ok(()) => {
             pair(&mut clients, spools, &mut posts);
-            steward.opened(&mut teller.explanations);
+            steward.opened(explanations);
             attend_all(rt, alloc, service, posts.as_mut_slice(), meter);
             dismiss(posts, &mut clients, &mut left);
             Worked {
@@ -228,7 +227,8 @@ where
             }
         }
         Err(fault) => {
-            let number = refused(alloc, teller, fault);
+            let number = fault.number();
+            drop(fault);
             Worked {
                 clients,
                 spools,
@@ -247,9 +247,7 @@ pub struct Served<D: Drop, S: Drop> {
 }
 
 // What is left where no service was opened, for this reason.
-fn unserved<S: Spool + Drop, W: Write, E: Write, D: Disk + Drop>(
-    alloc: Global,
-    teller: &mut Teller<W, E>,
+fn unserved<S: Spool + Drop, D: Disk + Drop>(
     spools: Vec<S>,
     disk: D,
     fault: ServiceFault,
@@ -258,7 +256,8 @@ fn unserved<S: Spool + Drop, W: Write, E: Write, D: Disk + Drop>(
     ensures spools { result.spools ≡ spools }
     ensures end { result.end ≡ Fault (fault_number fault) }
 {
-    let number = refused(alloc, teller, fault);
+    let number = fault.number();
+    drop(fault);
     Served {
         disk,
         spools,
@@ -267,21 +266,20 @@ fn unserved<S: Spool + Drop, W: Write, E: Write, D: Disk + Drop>(
 }
 
 // The clients of a service do what the spools give, and it is ended.
-fn serve_opened<N, H, S, W, E, D, T>(
+fn serve_opened<N, H, S, E, D, T>(
     rt: &H,
     alloc: Global,
-    teller: &mut Teller<W, E>,
     service: Service<N, D>,
     room: Room<N, S>,
     spools: Vec<S>,
     bounds: Bounds,
     steward: &mut T,
+    explanations: &mut E,
 ) -> Served<D, S>
 where
     N: Named + Send + Sync + 'static,
     H: Threads + Wait + Send + Sync,
     S: Spool + Send + Drop,
-    W: Write,
     E: Write,
     D: Disk + Send + Drop,
     T: Steward,
@@ -297,31 +295,47 @@ where
         clients,
         spools,
         end: worked,
-    } = work(rt, alloc, teller, &service, room, spools, &meter, steward);
-    let (disk, end) = finish(rt, alloc, teller, service, clients, worked);
+    } = work(
+        rt,
+        alloc,
+        &service,
+        room,
+        spools,
+        &meter,
+        steward,
+        explanations,
+    );
+    let (disk, end) = finish(
+        rt,
+        alloc,
+        service,
+        clients,
+        worked,
+        &mut io::sink(),
+        &mut io::sink(),
+    );
     if worked == SessionEnd::Finished {
-        steward.ended(meter.generation(end), &mut teller.explanations);
+        steward.ended(meter.generation(end), explanations);
     }
     Served { disk, spools, end }
 }
 
 // Opens a service for the spools, where there is room for them.
-fn serve_begun<N, H, S, W, E, D, G, T>(
+fn serve_begun<N, H, S, E, D, G, T>(
     rt: &H,
     alloc: Global,
-    teller: &mut Teller<W, E>,
     begun: Begun<D>,
     spools: Vec<S>,
     workers: usize,
     gate: G,
     bounds: Bounds,
     steward: &mut T,
+    explanations: &mut E,
 ) -> Served<D, S>
 where
     N: Named + Send + Sync + 'static,
     H: Threads + Wait + Copy + Send + Sync + 'static,
     S: Spool + Send + Drop,
-    W: Write,
     E: Write,
     D: Disk + Send + Drop,
     G: Gate + Drop + Send + Sync + 'static,
@@ -329,30 +343,80 @@ where
     requires ledger { begun.fresh.ledger ≡ N.name }
     requires parts { N.parts ≡ 1025 }
     requires queue { begun.fresh.queue ≡ N.queue }
-    requires named { IsTrue D.honest → (units : Units) → Recovers (D.seen begun.disk) units → units ≡ N.base }
-    requires past { IsTrue D.honest → IsPast D.Disk N.from N.left begun.disk }
+    requires opened { IsOpened D.Disk begun.library }
+    requires recovered { IsTrue D.honest → Recovers (D.seen begun.library.disk) begun.library.units }
+    requires named { IsTrue D.honest → begun.library.units ≡ N.base }
+    requires past { IsTrue D.honest → IsPast D.Disk N.from N.left begun.library.disk }
     requires some { 1 ≤ workers }
     requires few { workers ≤ 8 }
     ensures { let before = map (given_by S.taken S.ended) spools.items in let after = map (given_by S.taken S.ended) result.spools.items in
-        EndsSince D.Disk N.from N.left (after ≡ before) (HaveServed before after) begun.disk result.disk result.end }
+        EndsSince D.Disk N.from N.left (after ≡ before) (HaveServed before after) begun.library.disk result.disk result.end }
 {
     let Begun {
-        disk,
+        library,
         before: _,
-        base: _,
         fresh,
     } = begun;
     let Ok(room) = room_for(alloc, spools.len()) else {
         drop(fresh);
         let fault = ServiceFault::Opening(LibraryFault::OutOfMemory);
-        return unserved(alloc, teller, spools, disk, fault);
+        return unserved(spools, library.into_disk(), fault);
     };
-    match Service::<N, D>::open(rt, alloc, fresh, disk, workers, gate) {
-        Ok(service) => serve_opened(rt, alloc, teller, service, room, spools, bounds, steward),
+    match Service::<N, D>::over(rt, alloc, fresh, library, workers, gate) {
+        Ok(service) => serve_opened(
+            rt,
+            alloc,
+            service,
+            room,
+            spools,
+            bounds,
+            steward,
+            explanations,
+        ),
         Err((fault, disk)) => {
             drop(room);
-            unserved(alloc, teller, spools, disk, fault)
+            unserved(spools, disk, fault)
         }
+    }
+}
+
+// Serves as `serve` does, and writes no line of a fault.
+pub(crate) fn serve_quietly<H, S, E, D, G, T>(
+    rt: &H,
+    alloc: Global,
+    spools: Vec<S>,
+    explanations: &mut E,
+    disk: D,
+    workers: usize,
+    gate: G,
+    bounds: Bounds,
+    steward: &mut T,
+) -> Served<D, S>
+where
+    H: Threads + Wait + Copy + Send + Sync + 'static,
+    S: Spool + Send + Drop,
+    E: Write,
+    D: Disk + Send + Drop,
+    G: Gate + Drop + Send + Sync + 'static,
+    T: Steward,
+    requires some { 1 ≤ workers }
+    requires few { workers ≤ 8 }
+    ensures answers { ServingEnds D.Disk
+        (map (given_by S.taken S.ended) spools.items) (map (given_by S.taken S.ended) result.spools.items) disk result.disk result.end }
+{
+    match begin(alloc, disk) {
+        Ok(begun) => serve_begun::<Brand, H, S, E, D, G, T>(
+            rt,
+            alloc,
+            begun,
+            spools,
+            workers,
+            gate,
+            bounds,
+            steward,
+            explanations,
+        ),
+        Err((fault, disk)) => unserved(spools, disk, ServiceFault::Opening(fault)),
     }
 }
 
@@ -363,8 +427,8 @@ where
 /// they were, how the service ended.
 ///
 /// The line of a fault of the opening (35, 37, 38, 40, 41; 30 where there are too many spools) or of the end (39, 40) goes to `writer`,
-/// and what helps a person with it to `explanations`. Each is written; `end` is the first. A fault that ends a script is told in its answer
-/// alone. Disk and spools are handed back after each.
+/// and what helps a person with it to `explanations`. `end` is the first, or 39, and is written. A fault that ends a script is told in its
+/// answer alone. Disk and spools are handed back after each.
 pub fn serve<H, S, W, E, D, G, T>(
     rt: &H,
     alloc: Global,
@@ -389,26 +453,20 @@ where
     requires few { workers ≤ 8 }
     ensures answers { ServingEnds D.Disk
         (map (given_by S.taken S.ended) spools.items) (map (given_by S.taken S.ended) result.spools.items) disk result.disk result.end }
+    // Nothing is written where no fault ended it.
+    ensures still { result.end ≡ Finished → W.contents writer.new ≡ W.contents writer.old }
 {
-    let mut teller = Teller {
-        answers: writer,
+    let left = serve_quietly(
+        rt,
+        alloc,
+        spools,
         explanations,
-    };
-    match begin(alloc, disk) {
-        Ok(begun) => serve_begun::<Brand, H, S, &mut W, &mut E, D, G, T>(
-            rt,
-            alloc,
-            &mut teller,
-            begun,
-            spools,
-            workers,
-            gate,
-            bounds,
-            steward,
-        ),
-        Err((fault, disk)) => {
-            let fault = ServiceFault::Opening(fault);
-            unserved(alloc, &mut teller, spools, disk, fault)
-        }
-    }
+        disk,
+        workers,
+        gate,
+        bounds,
+        steward,
+    );
+    tell_end(alloc, left.end, writer, explanations);
+    left
 }

@@ -1,7 +1,7 @@
 // What is told of a unit that was found: its image or its source, as an answer has it.
 
 ghost use Rattle.std.specs.Prelude.{◌≡◌, IfOk};
-ghost use Rattle.cc_session.specs.internal.Showing.{IsShownOf};
+ghost use Rattle.cc_session.specs.Showing.{IsShownOf};
 
 use cc_service::Found;
 use cc_task::Part;

@@ -1,82 +1,138 @@
-// What is told of what a service answered.
+// What is written of what a service answered.
 
-ghost use Rattle.std.specs.Prelude.{◌≡◌};
+ghost use Rattle.std.specs.Prelude.{◌≡◌, List, ℕ};
 ghost use Rattle.cc_answers.specs.Telling.{Tells};
+ghost use Rattle.cc_answers.specs.Text.{position_text};
 ghost use Rattle.cc_service.specs.Fault.{fault_number};
+ghost use Rattle.cc_session.specs.declared.end.SessionEnd.TheVariants.{Finished};
+ghost use Rattle.cc_session.specs.Telling.{change_text, done_text, refusal_text, where_text};
 
-use cc_answers::{Refusal, Stands, Teller};
+use crate::end::SessionEnd;
+use cc_answers::{Refusal, Stands, tell_number, tell_ok, tell_refusal};
 use cc_history::Receipt;
 use cc_script::ScriptFault;
 use cc_service::ServiceFault;
 use std::alloc::Global;
 use std::io::Write;
 
-// A refusal of the service, as it is told.
-fn refusal_of(fault: &ServiceFault) -> Refusal<'_, ServiceFault> {
-    let stands = match fault {
+// The position of a refusal of the service in the source.
+fn stands_of(fault: &ServiceFault) -> Stands<'_>
+    ensures { (source : List ℕ) → position_text source result ≡ where_text source fault.now }
+{
+    match fault {
         ServiceFault::Text(fault) => Stands::Text(fault),
         ServiceFault::Piece { function: _, fault } => Stands::Function(*fault),
-        _ => Stands::Nowhere,
-    };
-    Refusal {
-        number: fault.number(),
-        fault,
-        stands,
+        ServiceFault::Opening(_)
+        | ServiceFault::TooManyClients
+        | ServiceFault::BadName
+        | ServiceFault::WorkersGone
+        | ServiceFault::ImageTooLarge
+        | ServiceFault::Book(_)
+        | ServiceFault::OutOfMemory => Stands::Nowhere,
     }
 }
 
-// Tells a refusal, for the source that was sent.
+// A refusal of the service, as it is written.
+fn refusal_of(fault: &ServiceFault) -> Refusal<'_>
+    ensures number { result.number ≡ fault_number fault.now }
+    ensures stands { (source : List ℕ) → position_text source result.stands ≡ where_text source fault.now }
+{
+    Refusal {
+        number: fault.number(),
+        stands: stands_of(fault),
+    }
+}
+
+// Writes a refusal, for the source that was sent.
 pub(crate) fn refuse<W: Write, E: Write>(
     alloc: Global,
-    teller: &mut Teller<W, E>,
     fault: ServiceFault,
     source: &[u8],
+    answers: &mut W,
+    explanations: &mut E,
 ) -> Result<(), ScriptFault>
-    ensures { Tells result }
+    ensures { Tells (W.contents answers.old) (W.contents answers.new) (refusal_text source.now fault) result }
 {
-    let told = teller.tell_refusal(alloc, &refusal_of(&fault), source);
+    let told = tell_refusal(alloc, refusal_of(&fault), source, answers, explanations);
     drop(fault);
     told
 }
 
-// Tells a refusal of the service's opening or end; answers its number.
+// Writes a refusal of the service's opening or end; answers its number.
 pub(crate) fn refused<W: Write, E: Write>(
     alloc: Global,
-    teller: &mut Teller<W, E>,
     fault: ServiceFault,
+    answers: &mut W,
+    explanations: &mut E,
 ) -> u32
     ensures { result ≡ fault_number fault }
 {
     let number = fault.number();
-    let _ = refuse(alloc, teller, fault, &[]);
+    let _ = refuse(alloc, fault, &[], answers, explanations);
     number
 }
 
-// Tells that a change was made, or why not, for the source that was sent.
-pub(crate) fn tell_change<W: Write, E: Write>(
+// Writes the line of 39.
+pub(crate) fn tell_estranged<W: Write, E: Write>(
     alloc: Global,
-    teller: &mut Teller<W, E>,
-    answer: Result<Receipt, ServiceFault>,
-    source: &[u8],
-) -> Result<(), ScriptFault>
-    ensures { Tells result }
+    answers: &mut W,
+    explanations: &mut E,
+) {
+    let refusal = Refusal {
+        number: 39,
+        stands: Stands::Nowhere,
+    };
+    let _ = tell_refusal(alloc, refusal, &[], answers, explanations);
+}
+
+// Writes the line of the fault that ended a service, where one did.
+pub(crate) fn tell_end<W: Write, E: Write>(
+    alloc: Global,
+    end: SessionEnd,
+    answers: &mut W,
+    explanations: &mut E,
+)
+    ensures { end ≡ Finished → W.contents answers.new ≡ W.contents answers.old }
 {
-    match answer {
-        Ok(receipt) => teller.tell_number(receipt.number),
-        Err(fault) => refuse(alloc, teller, fault, source),
+    match end {
+        SessionEnd::Finished => {}
+        SessionEnd::Fault(number) => {
+            let refusal = Refusal {
+                number,
+                stands: Stands::Nowhere,
+            };
+            let _ = tell_refusal(alloc, refusal, &[], answers, explanations);
+        }
     }
 }
 
-// Tells that the library was written anew, or why not.
-pub(crate) fn tell_done<W: Write, E: Write>(
+// Writes that a change was made, or why not, for the source that was sent.
+pub(crate) fn tell_change<W: Write, E: Write>(
     alloc: Global,
-    teller: &mut Teller<W, E>,
-    answer: Result<(), ServiceFault>,
+    answer: Result<Receipt, ServiceFault>,
+    source: &[u8],
+    answers: &mut W,
+    explanations: &mut E,
 ) -> Result<(), ScriptFault>
-    ensures { Tells result }
+    ensures { Tells (W.contents answers.old) (W.contents answers.new) (change_text source.now answer) result }
 {
     match answer {
-        Ok(()) => teller.tell_ok(),
-        Err(fault) => refuse(alloc, teller, fault, &[]),
+        Ok(receipt) => tell_number(receipt.number, answers),
+        Err(fault) => refuse(alloc, fault, source, answers, explanations),
+    }
+}
+
+// Writes that the library was written anew, or why not.
+pub(crate) fn tell_done<W: Write, E: Write>(
+    alloc: Global,
+    answer: Result<(), ServiceFault>,
+    answers: &mut W,
+    explanations: &mut E,
+) -> Result<(), ScriptFault>
+    ensures { Tells (W.contents answers.old) (W.contents answers.new) (done_text answer) result }
+{
+    match answer {
+        Ok(()) => tell_ok(answers),
+        Err(fault) => refuse(alloc, fault, &[], answers, explanations),
     }
 }

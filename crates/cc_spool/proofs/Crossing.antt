@@ -3,6 +3,8 @@ use denote.RattleType.{RattleType}
 use denote.Param.Send.{IsSend, sendable, recorded_send, struct_send}
 use denote.Builtin.{u32}
 use denote.Struct.Declared.{shape}
+use denote.Struct.Tuple.{Tuple}
+use Rattle.std.proofs.Common.{[], ◌∷◌}
 use Rattle.std.proofs.Crossing.{crosses}
 use Rattle.std.specs.contracts.option.Option as Option
 use Rattle.cc_disk.proofs.Crossing.{history_send}
@@ -21,10 +23,14 @@ answered_send W t = search (sendable, crosses) depth 20
 end_send : IsSend (Option.the_row u32)
 end_send = search (sendable, crosses) depth 20
 
+-- a script with the writer of its answer
+job_send : (R W : RattleType) → IsSend R → IsSend W → IsSend (Tuple (R ∷ W ∷ []))
+job_send R W s t = search (sendable, crosses) depth 20
+
 pub spool_send : (R W : RattleType) → IsSend R → IsSend W → IsSend (MemorySpool.the_row R W)
 spool_send R W s t =
     recorded_send _ _ _ (MemorySpool.the_type R W).to_one (struct_send (shape (MemorySpool.the_type R W))
-    (search (sendable, crosses) depth 20, (let a = answered_send W t in search (sendable, crosses) depth 20, (history_send R s, (history_send (Option.the_row u32) end_send, tt)))))
+    (search (sendable, crosses) depth 20, (let a = answered_send W t in search (sendable, crosses) depth 20, (history_send (Tuple (R ∷ W ∷ [])) (job_send R W s t), (history_send (Answered.the_row W) (answered_send W t), (search (sendable, crosses) depth 20, (search (sendable, crosses) depth 20, tt)))))))
 
 found_send : IsSend Found.the_row
 found_send = search (sendable, crosses) depth 20
@@ -39,32 +45,7 @@ unanswered_send : IsSend Unanswered.the_row
 unanswered_send = let e = ending_send in search (sendable, crosses) depth 20
 
 queue_send : IsSend Queue.the_field.row
-queue_send =
-    struct_send (shape Queue.the_type) (
-      let l = layout_send in search (sendable, crosses) depth 20,
-      (
-        search (sendable, crosses) depth 20,
-        (
-          search (sendable, crosses) depth 20,
-          (
-            search (sendable, crosses) depth 20,
-            (
-              search (sendable, crosses) depth 20,
-              (
-                search (sendable, crosses) depth 20,
-                (
-                  search (sendable, crosses) depth 20,
-                  (
-                    search (sendable, crosses) depth 20,
-                    (let u = unanswered_send in search (sendable, crosses) depth 20, (search (sendable, crosses) depth 20, tt)),
-                  ),
-                ),
-              ),
-            ),
-          ),
-        ),
-      ),
-    )
+queue_send = struct_send (shape Queue.the_type) (let l = layout_send in search (sendable, crosses) depth 20, (search (sendable, crosses) depth 20, (search (sendable, crosses) depth 20, (search (sendable, crosses) depth 20, (search (sendable, crosses) depth 20, (search (sendable, crosses) depth 20, (search (sendable, crosses) depth 20, (search (sendable, crosses) depth 20, (search (sendable, crosses) depth 20, (search (sendable, crosses) depth 20, ((let u = unanswered_send in search (sendable, crosses) depth 20), (search (sendable, crosses) depth 20, (search (sendable, crosses) depth 20, tt)))))))))))))
 
 pub folder_send : IsSend FolderSpool.the_row
 folder_send =

@@ -10,9 +10,10 @@ use crate::refusal::Refusal;
 use std::alloc::AllocError;
 use std::fs::{self, DirBuilder, File, OpenOptions, Permissions, TryLockError};
 use std::os::unix::fs::{DirBuilderExt, FileExt, OpenOptionsExt, PermissionsExt};
+use std::path::Path;
 
-/// A path, where there is memory for it.
-type Path = Result<String, AllocError>;
+/// A path, if there is memory for it.
+type Along = Result<String, AllocError>;
 
 /// Settles what was written to a file, or the names in a directory.
 pub(crate) fn settle(file: &File) -> Result<(), Refusal> {
@@ -64,7 +65,7 @@ fn set_file_rights(file: &File, rights: u32) -> Result<(), Refusal> {
 
 impl FolderLayout {
     // What is at a path, if something is; a link is not followed.
-    fn look_along(&self, path: Path) -> Result<Option<Found>, Refusal> {
+    fn look_along(&self, path: Along) -> Result<Option<Found>, Refusal> {
         let path = path?;
         let told = match fs::symlink_metadata(&self.rt, path.as_str()) {
             Ok(told) => Ok(Some(Found::of(&told))),
@@ -76,19 +77,19 @@ impl FolderLayout {
         }
     }
 
-    fn remove_along(&self, path: Path) -> Result<(), Refusal> {
+    fn remove_along(&self, path: Along) -> Result<(), Refusal> {
         let path = path?;
         fs::remove_file(&self.rt, path.as_str())?;
         Ok(())
     }
 
-    fn rename_along(&self, from: Path, to: Path) -> Result<(), Refusal> {
+    fn rename_along(&self, from: Along, to: Along) -> Result<(), Refusal> {
         let (from, to) = (from?, to?);
         fs::rename(&self.rt, from.as_str(), to.as_str())?;
         Ok(())
     }
 
-    fn open_along(&self, how: &OpenOptions, path: Path) -> Result<File, Refusal> {
+    fn open_along(&self, how: &OpenOptions, path: Along) -> Result<File, Refusal> {
         let path = path?;
         Ok(how.open(&self.rt, path.as_str())?)
     }
@@ -126,6 +127,18 @@ impl FolderLayout {
     /// Takes a file away.
     pub(crate) fn remove(&self, place: Place, name: &str) -> Result<(), Refusal> {
         self.remove_along(self.path_of(place, name))
+    }
+
+    /// Takes a claim away: a file, or an empty directory that somebody put in its place.
+    pub(crate) fn remove_claim(&self, name: &str) -> Result<(), Refusal> {
+        match self.remove(Place::Claimed, name) {
+            Ok(()) => Ok(()),
+            Err(_) => {
+                let path = self.path_of(Place::Claimed, name)?;
+                fs::remove_dir(&self.rt, path.as_str())?;
+                Ok(())
+            }
+        }
     }
 
     /// Moves a script's file to another place, where it replaces what is there.
@@ -166,6 +179,13 @@ impl FolderLayout {
         self.look_along(self.part(part))
     }
 
+    /// What has the folder's name: a link that is there, and not what it leads to.
+    pub(crate) fn look_at_name(&self) -> Result<Option<Found>, Refusal> {
+        let path = self.path.as_str().trim_end_matches('/');
+        let path = if path.is_empty() { "/" } else { path };
+        self.look_along(String::from_str(self.alloc, path))
+    }
+
     /// Whether something is at the path of a part. An `Err` where that is not known.
     pub(crate) fn has(&self, part: &str) -> Result<bool, Refusal> {
         match self.look_at(part) {
@@ -179,11 +199,27 @@ impl FolderLayout {
         self.open_along(OpenOptions::new().read(true), self.part(part))
     }
 
-    /// Opens `lock`, and makes it where it is not there.
+    /// Opens `lock`, which is there: no file is made along a link that has its place.
     pub(crate) fn open_lock(&self) -> Result<File, Refusal> {
         let mut how = OpenOptions::new();
-        how.read(true).write(true).create(true);
+        how.read(true).write(true);
         self.open_along(&how, self.part("lock"))
+    }
+
+    /// Makes a file in the folder itself, if nothing has its name, a link neither.
+    pub(crate) fn make_part_file(&self, part: &str) -> Result<File, Refusal> {
+        let mut how = OpenOptions::new();
+        how.write(true).create_new(true).mode(0o600);
+        self.open_along(&how, self.part(part))
+    }
+
+    /// Settles the name of the folder.
+    pub(crate) fn sync_above(&self) -> Result<(), Refusal> {
+        let above = match Path::new(self.path.as_str()).parent() {
+            Some(above) if !above.as_str().is_empty() => above.as_str(),
+            _ => ".",
+        };
+        settle(&File::open(&self.rt, above)?)
     }
 
     /// Takes a part away that is a file.

@@ -67,7 +67,9 @@ pub(crate) enum ClaimResult {
     Answered,
     /// Its answer could not be handed over.
     Kept(Ending),
-    /// Another has it, it is gone or no regular file, or it can't be answered.
+    /// It is gone: another has it, or its client took it back.
+    Gone,
+    /// It is no regular file, an earlier script of its name is not at an end, or it can't be answered.
     Left,
 }
 
@@ -168,15 +170,27 @@ fn begin(layout: &FolderLayout, name: &str, file: File) -> ClaimResult {
     }
 }
 
+/// Whether the script of that name can be claimed; none if it is gone. Nothing is opened for that.
+pub(crate) fn may_be_claimed(layout: &FolderLayout, name: &str) -> Option<bool> {
+    match layout.look(Place::Waiting, name) {
+        Ok(Some(found)) => Some(found.is_file() && is_unused(layout, name)),
+        Ok(None) => None,
+        Err(_) => Some(false),
+    }
+}
+
 /// Claims the script of that name, where that can be done.
 pub(crate) fn claim(layout: &FolderLayout, name: &str) -> ClaimResult {
-    if !layout.is_file(Place::Waiting, name) {
-        return ClaimResult::Left;
+    match may_be_claimed(layout, name) {
+        Some(true) => {}
+        Some(false) => return ClaimResult::Left,
+        None => return ClaimResult::Gone,
     }
     // Only one can make it.
     let Ok(file) = layout.make(Place::Answer, name) else {
         return ClaimResult::Left;
     };
+    // Until it was made another client may have handed an answer over.
     match move_claimed(layout, name) {
         Move::Made => begin(layout, name, file),
         Move::NotMade => {
@@ -205,7 +219,7 @@ pub(crate) fn hand_over(layout: &FolderLayout, name: &str) -> Result<(), Refusal
         return Err(refusal);
     }
     // A claim without an answer is taken away at the next start.
-    let _ = layout.remove(Place::Claimed, name);
+    let _ = layout.remove_claim(name);
     Ok(())
 }
 

@@ -26,7 +26,7 @@ pub(crate) struct Found {
     pub(crate) bytes: u64,
     /// When it was last written: the seconds since 1970, and the nanoseconds behind these.
     pub(crate) seconds: i64,
-    nanoseconds: i64,
+    pub(crate) nanoseconds: i64,
 }
 
 impl Found {
@@ -64,6 +64,11 @@ impl Found {
     /// Whether it is a directory.
     pub(crate) fn is_directory(&self) -> bool {
         self.mode & KIND == DIRECTORY
+    }
+
+    /// Whether it was last written before another one.
+    pub(crate) fn is_older(&self, other: &Found) -> bool {
+        (self.seconds, self.nanoseconds) < (other.seconds, other.nanoseconds)
     }
 
     /// Whether two looks found one file.

@@ -10,15 +10,17 @@
 // Clients write to `tmp` and `new`, so what stands there may be anything: it is looked at without following a link before it is opened, or
 // not opened at all.
 
+use crate::board::Board;
 use crate::calls::{is_locked, settle, take_lock};
 use crate::found::Found;
+use crate::keeping::{Keeping, Limits};
 use crate::place::Place;
 use crate::refusal::Refusal;
 use std::alloc::{AllocError, Global};
 use std::fs::{File, Permissions};
 use std::os::unix::fs::PermissionsExt;
-use std::sync::Arc;
-use std::sync::atomic::{AtomicBool, Ordering};
+use std::sync::atomic::{AtomicBool, AtomicU64, Ordering};
+use std::sync::{Arc, Mutex};
 use std::time::Duration;
 use std::{io, thread};
 
@@ -32,6 +34,15 @@ const LOCK_TRIES: u64 = 100;
 
 const LOCK_PAUSE: u64 = 10;
 
+/// What a client keeps, which clears nothing.
+const ALL: Limits = Limits {
+    days: u32::MAX,
+    bytes: u64::MAX,
+    is_quiet: true,
+    patience: u32::MAX,
+    clients: usize::MAX,
+};
+
 /// A spool's folder.
 #[derive(Drop)]
 pub struct FolderLayout {
@@ -42,8 +53,30 @@ pub struct FolderLayout {
     pub(crate) file_rights: u32,
     // The file `lock`, where this server holds it.
     held: Option<Found>,
-    // Whether it could not be used for a while: known to all that have the folder of one server.
-    is_lost: Arc<AtomicBool>,
+    // What all clients of one server know of it.
+    pub(crate) common: Arc<Common>,
+}
+
+/// What all clients of one server know of its folder. They take the board without waiting for it.
+#[derive(Drop)]
+pub(crate) struct Common {
+    pub(crate) board: Mutex<Board>,
+    pub(crate) keeping: Mutex<Keeping>,
+    // How many bytes the answers in `done` are counted to take.
+    taken: AtomicU64,
+    // How many scripts were begun, and how many clients do one.
+    begun: AtomicU64,
+    busy: AtomicU64,
+    // How many clients have a number, and that of the one that is to end its script for one that waits: 0 if none is.
+    numbered: AtomicU64,
+    leaving: AtomicU64,
+    // How many clients there are, and for how many seconds one may do a script while others wait.
+    clients: u64,
+    patience: u64,
+    // Whether the answers in `done` that may not go yet take more than they may. As long as they were not counted, that is taken to be so.
+    is_full: AtomicBool,
+    // Whether the folder could not be used for a while.
+    is_lost: AtomicBool,
 }
 
 /// The lock of a folder, held as long as it lives.
@@ -53,15 +86,40 @@ pub struct Held {
 }
 
 impl FolderLayout {
-    /// The folder at this path, whether or not it is there. Where others may not write to its `new`, it is a group's.
+    /// The folder at this path, whether or not it is there, as a client has it. If others may not write to its `new`, it is a group's.
     pub fn new(rt: HostRuntime, alloc: Global, path: &str) -> Result<FolderLayout, AllocError> {
+        FolderLayout::for_server(rt, alloc, path, ALL)
+    }
+
+    /// The same, as a server has it that has these limits.
+    pub fn for_server(
+        rt: HostRuntime,
+        alloc: Global,
+        path: &str,
+        limits: Limits,
+    ) -> Result<FolderLayout, AllocError> {
         let mut layout = FolderLayout {
             rt,
             alloc,
             path: String::from_str(alloc, path)?,
             file_rights: OPEN_FILE,
             held: None,
-            is_lost: Arc::new(alloc, AtomicBool::new(false))?,
+            common: Arc::new(
+                alloc,
+                Common {
+                    board: Mutex::new(Board::new(alloc)),
+                    keeping: Mutex::new(Keeping::new(limits)),
+                    taken: AtomicU64::new(0),
+                    begun: AtomicU64::new(0),
+                    busy: AtomicU64::new(0),
+                    numbered: AtomicU64::new(0),
+                    leaving: AtomicU64::new(0),
+                    clients: limits.clients as u64,
+                    patience: u64::from(limits.patience),
+                    is_full: AtomicBool::new(true),
+                    is_lost: AtomicBool::new(false),
+                },
+            )?,
         };
         layout.look_for_rights();
         Ok(layout)
@@ -75,7 +133,7 @@ impl FolderLayout {
             path: String::from_str(self.alloc, self.path.as_str())?,
             file_rights: OPEN_FILE,
             held: self.held,
-            is_lost: Arc::try_clone(&self.is_lost)?,
+            common: Arc::try_clone(&self.common)?,
         };
         layout.look_for_rights();
         Ok(layout)
@@ -96,12 +154,15 @@ impl FolderLayout {
 
     /// Takes the folder for this server, until what is returned is let go. None where another one has had it for a second.
     pub(crate) fn lock(&self) -> Result<Option<Held>, Refusal> {
-        if let Some(found) = self.look_at("lock")?
-            && !found.is_file()
-        {
-            return Err(Refusal::NoLock);
-        }
-        let file = self.open_lock()?;
+        let file = match self.look_at("lock")? {
+            Some(found) if !found.is_file() => return Err(Refusal::NoLock),
+            Some(_) => self.open_lock()?,
+            // Another server may have made it just now.
+            None => match self.make_part_file("lock") {
+                Ok(file) => file,
+                Err(_) => self.open_lock()?,
+            },
+        };
         for _ in 0..LOCK_TRIES {
             if take_lock(&file)? {
                 return Ok(Some(Held { file }));
@@ -141,12 +202,87 @@ impl FolderLayout {
 
     /// Whether the folder could not be used for a while.
     pub(crate) fn is_lost(&self) -> bool {
-        self.is_lost.load(Ordering::SeqCst)
+        self.common.is_lost.load(Ordering::SeqCst)
     }
 
     /// Tells all that have this folder that it could not be used for a while.
     pub(crate) fn give_up(&self) {
-        self.is_lost.store(true, Ordering::SeqCst);
+        self.common.is_lost.store(true, Ordering::SeqCst);
+    }
+
+    /// How many bytes the answers in `done` are counted to take.
+    pub(crate) fn taken(&self) -> u64 {
+        self.common.taken.load(Ordering::SeqCst)
+    }
+
+    /// Notes that an answer was handed over which takes so many bytes.
+    pub(crate) fn note_taken(&self, bytes: u64) {
+        self.common.taken.fetch_add(bytes, Ordering::SeqCst);
+    }
+
+    /// Notes how many bytes the answers in `done` take.
+    pub(crate) fn set_taken(&self, bytes: u64) {
+        self.common.taken.store(bytes, Ordering::SeqCst);
+    }
+
+    /// Whether the answers in `done` that may not go yet take more than they may.
+    pub(crate) fn is_full(&self) -> bool {
+        self.common.is_full.load(Ordering::SeqCst)
+    }
+
+    /// Notes that.
+    pub(crate) fn set_full(&self, is_full: bool) {
+        self.common.is_full.store(is_full, Ordering::SeqCst);
+    }
+
+    /// How many scripts the clients of this server have begun.
+    pub(crate) fn begun(&self) -> u64 {
+        self.common.begun.load(Ordering::SeqCst)
+    }
+
+    /// Notes that a client began one.
+    pub(crate) fn note_begun(&self) {
+        self.common.begun.fetch_add(1, Ordering::SeqCst);
+        self.common.busy.fetch_add(1, Ordering::SeqCst);
+    }
+
+    /// Notes that a client is at the end of one that it began.
+    pub(crate) fn note_ended(&self, client: u64) {
+        self.common.busy.fetch_sub(1, Ordering::SeqCst);
+        if self.is_leaving(client) {
+            self.common.leaving.store(0, Ordering::SeqCst);
+        }
+    }
+
+    /// A number that no other client has, from 1 on.
+    pub(crate) fn number(&self) -> u64 {
+        let before = self.common.numbered.fetch_add(1, Ordering::SeqCst);
+        before.saturating_add(1)
+    }
+
+    /// Whether a client is to end its script for one that waits.
+    pub(crate) fn is_leaving(&self, client: u64) -> bool {
+        self.common.leaving.load(Ordering::SeqCst) == client
+    }
+
+    /// Whether no client is to end its script for one that waits.
+    pub(crate) fn is_none_leaving(&self) -> bool {
+        self.common.leaving.load(Ordering::SeqCst) == 0
+    }
+
+    /// A client is to end its script for one that waits. It is asked by who has the board, so one at a time.
+    pub(crate) fn leave(&self, client: u64) {
+        self.common.leaving.store(client, Ordering::SeqCst);
+    }
+
+    /// Whether each client does a script.
+    pub(crate) fn are_all_busy(&self) -> bool {
+        self.common.clients <= self.common.busy.load(Ordering::SeqCst)
+    }
+
+    /// For how many seconds a script may be at work while others wait.
+    pub(crate) fn patience(&self) -> u64 {
+        self.common.patience
     }
 
     /// Whether the server is asked to end.
@@ -157,12 +293,12 @@ impl FolderLayout {
         }
     }
 
-    /// Takes back that the server is asked to end. An `Err` where `stop` can't be removed, or the folder is no longer the one that is held.
+    /// Takes back that the server is asked to end. An `Err` if `stop` can't be removed, or the folder is no longer the one that is held.
     pub fn unstop(&self) -> io::Result<()> {
         Ok(self.take_stop_back()?)
     }
 
-    pub(crate) fn take_stop_back(&self) -> Result<(), Refusal> {
+    fn take_stop_back(&self) -> Result<(), Refusal> {
         self.must_be_held()?;
         match self.remove_part("stop") {
             Err(refusal) if !refusal.is_absent() => Err(refusal),
@@ -170,10 +306,23 @@ impl FolderLayout {
         }
     }
 
+    /// Takes back what asked an earlier server to end: a `stop` that was made before a file of this start. One that was made since asks this one.
+    pub(crate) fn take_old_stop_back(&self, begun: &Found) -> Result<(), Refusal> {
+        match self.look_at("stop")? {
+            Some(found) if found.is_older(begun) => self.take_stop_back(),
+            _ => Ok(()),
+        }
+    }
+
+    /// Settles which names a part has.
+    pub(crate) fn sync_part(&self, part: &str) -> Result<(), Refusal> {
+        let part = self.open_part(part)?;
+        settle(&part)
+    }
+
     /// Settles what was claimed, and which answers are being written.
     pub(crate) fn sync_claims(&self) -> Result<(), Refusal> {
-        let cur = self.open_part("cur")?;
-        settle(&cur)
+        self.sync_part("cur")
     }
 
     /// Moves a script that is whole from `tmp` to `new`, under another name, if nothing has that name.
@@ -183,6 +332,8 @@ impl FolderLayout {
         {
             return Err(refusal);
         }
+        // Else a power cut could lose a script that waits. If it is refused, the script waits all the same.
+        let _ = self.sync_part("new");
         // If the old name stays, the file has two: the new one counts.
         let _ = self.remove(Place::Written, written);
         Ok(())

@@ -3,7 +3,7 @@
 //! `spool` is what serving needs of a spool, `memory` a spool in memory, `folder` one in a folder in which clients of other processes leave
 //! scripts and find their answers. Of that, `layout` has the parts, `place` where the files of a script stand in them, `calls` the system's
 //! calls on these, `found` and `entries` what such a call tells, `refusal` why one is refused. `rights` makes the parts, `names` says which
-//! files are taken, `claims` has how a script is claimed and answered, `answer` the file that its answer is written to, `recovery` what a
+//! files are taken, `board` which of them are to be tried, `keeping` how many answers stay, `claims` has how a script is claimed and answered, `answer` the file that its answer is written to, `recovery` what a
 //! server that was killed left, `submission` how a client leaves a script and waits for its answer, `lines` which fault that tells,
 //! `framing` how a source stands in it, `fault` why one of these is refused.
 //!
@@ -14,6 +14,7 @@
 #![tactic(auto)]
 
 mod answer;
+mod board;
 mod calls;
 mod claims;
 mod entries;
@@ -21,6 +22,7 @@ mod fault;
 mod folder;
 mod found;
 mod framing;
+mod keeping;
 mod layout;
 mod lines;
 mod memory;
@@ -33,9 +35,11 @@ mod spool;
 mod submission;
 
 pub use answer::AnswerFile;
+pub use board::MOST_ENTRIES;
 pub use fault::SpoolFault;
-pub use folder::{FolderSpool, MOST_ENTRIES, count_entries};
+pub use folder::{FolderSpool, count_entries};
 pub use framing::{fault_lines, frame, source_in};
+pub use keeping::Limits;
 pub use layout::{FolderLayout, Held};
 pub use memory::{Answered, MemorySpool};
 pub use names::is_plain;

@@ -2,6 +2,7 @@
 
 ghost use Rattle.std.specs.Prelude.{◌≡◌, ◌≢◌, ◌<◌, ◌≤◌, ◌++◌, ◌∷◌, [], true, false, IfOk, IfNone, IfSome, map, vec_len};
 ghost use Rattle.std.specs.Vec.{vec_capacity};
+ghost use Rattle.cc_spool.specs.Spool.{delivered_as, taken_as};
 
 use crate::spool::Spool;
 use cc_disk::History;
@@ -9,7 +10,7 @@ use std::alloc::{AllocError, Global};
 use std::collections::VecDeque;
 use std::io::{Read, Write};
 
-/// An answer that was handed over, and the number of the fault that ended its script, 51 to 54, where one did. At 54 the answer may be cut
+/// An answer that was handed over, and the number of the fault that ended its script, 51 to 54 or 61, if one did. At 54 the answer may be cut
 /// anywhere, and has no line of it.
 #[derive(Drop)]
 pub struct Answered<W: Drop> {
@@ -23,8 +24,11 @@ pub struct Answered<W: Drop> {
 pub struct MemorySpool<R: Drop, W: Drop> {
     waiting: VecDeque<(R, W)>,
     answered: Vec<Answered<W>>,
-    taken: History<R>,
-    ended: History<Option<u32>>,
+    taken: History<(R, W)>,
+    ended: History<Answered<W>>,
+    // What it answers of the script that is being done.
+    is_long: bool,
+    is_awaited: bool,
 }
 
 impl<R: Read + Drop + Send, W: Write + Drop + Send> MemorySpool<R, W> {
@@ -43,7 +47,22 @@ impl<R: Read + Drop + Send, W: Write + Drop + Send> MemorySpool<R, W> {
             answered,
             taken: History::new(),
             ended: History::new(),
+            is_long: false,
+            is_awaited: false,
         })
+    }
+
+    /// From now on each script counts as one that has been at work for long, or for which others wait.
+    pub fn set_awaited(&mut self, is_long: bool, is_awaited: bool)
+        ensures waiting { self.new.waiting ≡ self.old.waiting }
+        ensures answered { self.new.answered ≡ self.old.answered }
+        ensures taken { self.new.taken ≡ self.old.taken }
+        ensures ended { self.new.ended ≡ self.old.ended }
+        ensures long { self.new.is_long ≡ is_long }
+        ensures awaited { self.new.is_awaited ≡ is_awaited }
+    {
+        self.is_long = is_long;
+        self.is_awaited = is_awaited;
     }
 
     /// The answers so far, in turn.
@@ -59,13 +78,13 @@ impl<R: Read + Drop + Send, W: Write + Drop + Send> Spool for MemorySpool<R, W> 
 
     type Answer = W;
 
-    ghost taken = { λ s. map R.remaining s.taken.items };
+    ghost taken = { λ s. map (λ job. taken_as (R.remaining job.0) (W.contents job.1)) s.taken.items };
 
-    ghost ended = { λ s. s.ended.items };
+    ghost ended = { λ s. map (λ a. delivered_as (W.contents a.answer) a.fault) s.ended.items };
 
     fn is_over(&mut self) -> bool
-        ensures taken { map R.remaining self.new.taken.items ≡ map R.remaining self.old.taken.items }
-        ensures ended { self.new.ended.items ≡ self.old.ended.items }
+        ensures taken { map (λ job. taken_as (R.remaining job.0) (W.contents job.1)) self.new.taken.items ≡ map (λ job. taken_as (R.remaining job.0) (W.contents job.1)) self.old.taken.items }
+        ensures ended { map (λ a. delivered_as (W.contents a.answer) a.fault) self.new.ended.items ≡ map (λ a. delivered_as (W.contents a.answer) a.fault) self.old.ended.items }
         ensures same { self.new ≡ self.old }
         ensures over { result ≡ true → self.old.waiting.items ≡ [] }
         ensures more { result ≡ false → self.old.waiting.items ≢ [] }
@@ -74,29 +93,44 @@ impl<R: Read + Drop + Send, W: Write + Drop + Send> Spool for MemorySpool<R, W> 
     }
 
     fn next(&mut self) -> Option<(R, W)>
-        ensures taken { IfSome result (λ job. map R.remaining self.new.taken.items ≡ map R.remaining self.old.taken.items ++ R.remaining job.0 ∷ []) }
-        ensures none { IfNone result (map R.remaining self.new.taken.items ≡ map R.remaining self.old.taken.items) }
-        ensures ended { self.new.ended.items ≡ self.old.ended.items }
+        ensures taken { IfSome result (λ job. map (λ job. taken_as (R.remaining job.0) (W.contents job.1)) self.new.taken.items
+            ≡ map (λ job. taken_as (R.remaining job.0) (W.contents job.1)) self.old.taken.items ++ taken_as (R.remaining job.0) (W.contents job.1) ∷ []) }
+        ensures none { IfNone result (map (λ job. taken_as (R.remaining job.0) (W.contents job.1)) self.new.taken.items ≡ map (λ job. taken_as (R.remaining job.0) (W.contents job.1)) self.old.taken.items) }
+        ensures ended { map (λ a. delivered_as (W.contents a.answer) a.fault) self.new.ended.items ≡ map (λ a. delivered_as (W.contents a.answer) a.fault) self.old.ended.items }
         ensures first { IfSome result (λ job. self.old.waiting.items ≡ job ∷ self.new.waiting.items) }
         ensures over { IfNone result (self.old.waiting.items ≡ []) }
         ensures answered { self.new.answered ≡ self.old.answered }
     {
-        let (script, answer) = self.waiting.pop_front()?;
-        self.taken = self.taken.and(&script);
-        Some((script, answer))
+        let job = self.waiting.pop_front()?;
+        self.taken = self.taken.and(&job);
+        Some(job)
+    }
+
+    fn is_long(&self) -> bool
+        ensures { result ≡ self.now.is_long }
+    {
+        self.is_long
+    }
+
+    fn is_awaited(&self) -> bool
+        ensures { result ≡ self.now.is_awaited }
+    {
+        self.is_awaited
     }
 
     fn deliver(&mut self, script: R, answer: W, fault: Option<u32>)
-        ensures taken { map R.remaining self.new.taken.items ≡ map R.remaining self.old.taken.items }
-        ensures ended { self.new.ended.items ≡ self.old.ended.items ++ fault ∷ [] }
+        ensures taken { map (λ job. taken_as (R.remaining job.0) (W.contents job.1)) self.new.taken.items ≡ map (λ job. taken_as (R.remaining job.0) (W.contents job.1)) self.old.taken.items }
+        ensures ended { map (λ a. delivered_as (W.contents a.answer) a.fault) self.new.ended.items
+            ≡ map (λ a. delivered_as (W.contents a.answer) a.fault) self.old.ended.items ++ delivered_as (W.contents answer) fault ∷ [] }
         ensures waiting { self.new.waiting ≡ self.old.waiting }
         ensures answered { vec_len self.old.answered < vec_capacity self.old.answered
             → self.new.answered.items ≡ self.old.answered.items ++ record { answer = answer; fault = fault } ∷ [] }
         ensures capacity { vec_capacity self.old.answered ≤ vec_capacity self.new.answered }
     {
         drop(script);
-        self.ended = self.ended.and(&fault);
+        let answered = Answered { answer, fault };
+        self.ended = self.ended.and(&answered);
         // There is room for as many answers as there were scripts. One more than that is dropped where memory is refused.
-        let _ = self.answered.push(Answered { answer, fault });
+        let _ = self.answered.push(answered);
     }
 }

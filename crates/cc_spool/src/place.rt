@@ -15,6 +15,8 @@ pub(crate) enum Place {
     Answer,
     /// `done/ID`: its answer, whole.
     Done,
+    /// In the folder itself, which has no script's file but those that a start is tried with.
+    Top,
 }
 
 impl Place {
@@ -25,6 +27,7 @@ impl Place {
             Place::Waiting => "new",
             Place::Claimed | Place::Answer => "cur",
             Place::Done => "done",
+            Place::Top => ".",
         }
     }
 

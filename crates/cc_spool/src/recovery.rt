@@ -124,6 +124,8 @@ enum LeftAnswer {
     Gone,
     // Its script was not claimed.
     Unclaimed,
+    // Its script was answered: a client made this file before the claim of another one was taken away.
+    Answered,
     Begun,
 }
 
@@ -133,10 +135,22 @@ fn left_answer(layout: &FolderLayout, name: &str) -> Result<LeftAnswer, Refusal>
     };
     if !found.is_file() {
         Err(Refusal::NotOwn)
-    } else if 0 < found.bytes || layout.look(Place::Claimed, name)?.is_some() {
+    } else if 0 < found.bytes {
         Ok(LeftAnswer::Begun)
-    } else {
+    } else if layout.look(Place::Claimed, name)?.is_none() {
         Ok(LeftAnswer::Unclaimed)
+    } else if has_answer(layout, name)? {
+        Ok(LeftAnswer::Answered)
+    } else {
+        Ok(LeftAnswer::Begun)
+    }
+}
+
+// Whether `done` has an answer of the server's under this name.
+fn has_answer(layout: &FolderLayout, name: &str) -> Result<bool, Refusal> {
+    match layout.look(Place::Done, name)? {
+        Some(found) => layout.is_servers(&found),
+        None => Ok(false),
     }
 }
 
@@ -155,6 +169,11 @@ pub(crate) fn complete_answer(layout: &FolderLayout, name: &str) -> Result<bool,
             layout.remove(Place::Answer, name)?;
             Ok(false)
         }
+        LeftAnswer::Answered => {
+            layout.remove(Place::Answer, name)?;
+            remove_answered(layout, name)?;
+            Ok(false)
+        }
         LeftAnswer::Begun => {
             complete_left(layout, name)?;
             Ok(true)
@@ -164,11 +183,11 @@ pub(crate) fn complete_answer(layout: &FolderLayout, name: &str) -> Result<bool,
 
 // Takes away a script without an answer: that was handed over. An `Err` leaves it for the next start.
 fn remove_answered(layout: &FolderLayout, name: &str) -> Result<(), Refusal> {
-    if layout.look(Place::Answer, name)?.is_none() {
-        take_out(layout, name)?;
-        layout.remove(Place::Claimed, name)?;
+    if layout.look(Place::Answer, name)?.is_some() || layout.is_free(Place::Claimed, name) {
+        return Ok(());
     }
-    Ok(())
+    take_out(layout, name)?;
+    layout.remove_claim(name)
 }
 
 /// What a start found of an earlier server.
@@ -178,6 +197,9 @@ pub struct Recovered {
     pub begun: u64,
     /// The names of those that could not be answered yet, for the spool that tries them again (`FolderSpool::keep`).
     pub kept: Vec<String>,
+    /// How many claims of scripts that were answered could not be taken away: directories that somebody put in a script's place, and that are not
+    /// empty.
+    pub stuck: u64,
 }
 
 impl Recovered {
@@ -199,7 +221,9 @@ impl Recovered {
             self.answer(layout, name.as_str())?;
         }
         for name in left.claims.as_slice() {
-            let _ = remove_answered(layout, name.as_str());
+            if remove_answered(layout, name.as_str()).is_err() {
+                self.stuck = self.stuck.saturating_add(1);
+            }
         }
         Ok(())
     }
@@ -218,6 +242,7 @@ pub fn recover(layout: &FolderLayout) -> io::Result<Recovered> {
     let mut recovered = Recovered {
         begun: 0,
         kept: Vec::new(layout.alloc),
+        stuck: 0,
     };
     left.look(layout)?;
     recovered.recover(layout, &left)?;
@@ -228,7 +253,7 @@ pub fn recover(layout: &FolderLayout) -> io::Result<Recovered> {
 fn may_be_cleared(place: Place, name: &str) -> bool {
     let is_clients = match place {
         Place::Written | Place::Done => true,
-        Place::Waiting | Place::Claimed | Place::Answer => false,
+        Place::Waiting | Place::Claimed | Place::Answer | Place::Top => false,
     };
     name.starts_with(TRIED) || is_clients && is_plain(name)
 }
@@ -268,7 +293,13 @@ fn clear_parts(layout: &FolderLayout, days: u32) -> Result<u64, Refusal> {
     let now = i64::try_from(since_1970(&layout.rt)?.as_secs()).unwrap_or(0);
     let moment = now.saturating_sub(i64::from(days) * DAY);
     let mut cleared = 0u64;
-    for place in [Place::Done, Place::Written, Place::Waiting, Place::Claimed] {
+    for place in [
+        Place::Done,
+        Place::Written,
+        Place::Waiting,
+        Place::Claimed,
+        Place::Top,
+    ] {
         cleared = cleared.saturating_add(clear_part(layout, place, moment)?);
     }
     Ok(cleared)

@@ -26,6 +26,10 @@ pub(crate) enum Refusal {
     NoFolder,
     /// The folder has parts, and no `lock`.
     NoSpool,
+    /// The folder is another user's.
+    Foreign,
+    /// Everybody may write to the folder.
+    Wide,
     /// The folder or a part of it is not the server's.
     NotOwn,
 }
@@ -74,6 +78,14 @@ impl From<Refusal> for io::Error {
             Refusal::NoSpool => (
                 io::ErrorKind::AlreadyExists,
                 "it has `cur`, `tmp`, `new` or `done` but no `lock`, so it is no spool",
+            ),
+            Refusal::Foreign => (
+                io::ErrorKind::PermissionDenied,
+                "it, or a link that is its name, belongs to another user than the server, who could put anything in its place",
+            ),
+            Refusal::Wide => (
+                io::ErrorKind::PermissionDenied,
+                "everybody may write to it, and could have the server write elsewhere: `chmod o-w` takes that away",
             ),
             Refusal::NotOwn => (
                 io::ErrorKind::PermissionDenied,

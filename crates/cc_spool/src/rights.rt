@@ -70,22 +70,57 @@ fn must_be_spool(layout: &FolderLayout) -> Result<(), Refusal> {
     Ok(())
 }
 
-// Makes the folder where it is not there.
+// Makes the folder if it is not there.
 fn make_folder(layout: &FolderLayout) -> Result<(), Refusal> {
     if !layout.has(".")? {
         layout.make_folder()?;
         layout.set_rights(".", 0o755)?;
+        // What can't be opened can't be settled: then only a power cut soon after could lose the folder.
+        let _ = layout.sync_above();
     }
     Ok(())
+}
+
+// An `Err` if the folder is not of the user whose file this start made in it, or everybody may write to it: who may can put a link in the place
+// of `lock` or of a part at any moment, and a file would be made along it. So may who has a link that is the folder's name; root may in any case.
+fn must_be_own(layout: &FolderLayout, made: &Found) -> Result<(), Refusal> {
+    let Some(found) = layout.look_at(".")? else {
+        return Err(Refusal::Foreign);
+    };
+    if found.user != made.user {
+        return Err(Refusal::Foreign);
+    }
+    if found.rights() & 0o002 != 0 {
+        return Err(Refusal::Wide);
+    }
+    match layout.look_at_name()? {
+        Some(named) if named.user == made.user || named.user == 0 => Ok(()),
+        _ => Err(Refusal::Foreign),
+    }
+}
+
+// Makes a file and takes it away: what was written before it is older than this start.
+fn begin(layout: &FolderLayout, process: u32) -> Result<Found, Refusal> {
+    let own = fresh_name(&layout.rt, layout.alloc, process)?;
+    let name = format!(in layout.alloc; "{TRIED}{own}")?;
+    let file = layout.make_part_file(name.as_str())?;
+    let begun = Found::of_file(&file);
+    drop(file);
+    let _ = layout.remove_part(name.as_str());
+    drop(own);
+    drop(name);
+    begun
 }
 
 fn take(layout: &mut FolderLayout, process: u32) -> Result<Option<Held>, Refusal> {
     make_folder(layout)?;
     must_be_spool(layout)?;
+    let begun = begin(layout, process)?;
+    must_be_own(layout, &begun)?;
     let Some(held) = layout.lock()? else {
         return Ok(None);
     };
-    match settle_folder(layout, &held, process) {
+    match settle_folder(layout, &held, &begun, process) {
         Ok(()) => {
             held.open_to_clients(layout.file_rights);
             Ok(Some(held))
@@ -101,15 +136,26 @@ fn take(layout: &mut FolderLayout, process: u32) -> Result<Option<Held>, Refusal
 ///
 /// What is not there of it is made: the folder with 0755; `cur` with 0700, `new` and `tmp` with 3777, `done` with 0755; where the folder has
 /// the set-group-id bit `cur` with 2700 and the others with 2770. What is there keeps its rights. Then it tries what a server does in it.
-/// An `Err` where one of these is refused, which leaves what was made; or where a part is there and `lock` is not.
+/// An `Err` where one of these is refused, which leaves what was made; or where a part is there and `lock` is not; or, before `lock` is opened, if
+/// the folder, or a link that is its name, is another user's, or everybody may write to the folder.
 pub fn take_folder(layout: &mut FolderLayout, process: u32) -> io::Result<Option<Held>> {
     Ok(take(layout, process)?)
 }
 
-fn settle_folder(layout: &mut FolderLayout, held: &Held, process: u32) -> Result<(), Refusal> {
+fn settle_folder(
+    layout: &mut FolderLayout,
+    held: &Held,
+    begun: &Found,
+    process: u32,
+) -> Result<(), Refusal> {
     layout.hold(held)?;
-    layout.take_stop_back()?;
+    // What was opened is what is there, and no other file along a link.
+    layout.must_be_held()?;
+    layout.take_old_stop_back(begun)?;
     make_parts(layout)?;
+    for part in [".", "cur", "tmp", "new", "done"] {
+        layout.sync_part(part)?;
+    }
     layout.look_for_rights();
     try_folder(layout, process)
 }
@@ -209,7 +255,7 @@ pub fn wide_parts(layout: &FolderLayout) -> io::Result<Vec<WidePart>> {
         ("cur", 0o700),
         ("tmp", 0o3777),
         ("new", 0o3777),
-        ("done", 0o3777),
+        ("done", 0o775),
     ] {
         note_wide(layout, part, most, &mut wide)?;
     }

@@ -1,6 +1,7 @@
 // What serving needs of a spool.
 
-ghost use Rattle.std.specs.Prelude.{◌≡◌, ◌++◌, ◌∷◌, [], ℕ, List, Option, IfSome, IfNone};
+ghost use Rattle.std.specs.Prelude.{◌≡◌, ◌++◌, ◌∷◌, [], List, IfSome, IfNone};
+ghost use Rattle.cc_spool.specs.Spool.{Delivered, Taken, delivered_as, taken_as};
 
 use std::io::{Read, Write};
 
@@ -15,11 +16,12 @@ pub trait Spool {
     /// What its answer is written to.
     type Answer: Write + Drop + Send;
 
-    /// The scripts that were taken so far, in turn: the bytes of each, where they are known.
-    ghost taken: { Self → List (Option (List ℕ)) };
+    /// The scripts that were taken so far, in turn: of each its bytes, and what the writer of its answer held then, if these are known.
+    ghost taken: { Self → List Taken };
 
-    /// How the scripts ended whose answers were handed over, in turn: the number of the fault that ended it, 51 to 54, where one did.
-    ghost ended: { Self → List (Option ℕ) };
+    /// The answers that were handed over so far, in turn: of each what its writer holds, if that is known, and the number of the fault that
+    /// ended its script, 51 to 54 or 61, if one did.
+    ghost ended: { Self → List Delivered };
 
     /// Whether no more is to be taken.
     fn is_over(&mut self) -> bool
@@ -28,13 +30,21 @@ pub trait Spool {
 
     /// The next script, and what its answer is to be written to; none where none came within 64 ms.
     fn next(&mut self) -> Option<(Self::Script, Self::Answer)>
-        ensures taken { IfSome result (λ job. taken self.new ≡ taken self.old ++ Self.Script.remaining job.0 ∷ []) }
+        ensures taken { IfSome result (λ job. taken self.new ≡ taken self.old ++ taken_as (Self.Script.remaining job.0) (Self.Answer.contents job.1) ∷ []) }
         ensures none { IfNone result (taken self.new ≡ taken self.old) }
         ensures ended { ended self.new ≡ ended self.old };
 
-    /// Hands the answer of the script over, which a fault of this number ended, 51 to 54, where one did. At 54 the answer may be cut
+    /// Whether the script that is being done has been at work for as long as a script may while others wait. It is asked after each line,
+    /// and takes a look at the clock at most.
+    fn is_long(&self) -> bool;
+
+    /// Whether others wait for the end of the script that is being done: a script waits and all clients are busy, or no more scripts are to
+    /// be taken.
+    fn is_awaited(&self) -> bool;
+
+    /// Hands the answer of the script over, which a fault of this number ended, 51 to 54 or 61, if one did. At 54 the answer may be cut
     /// anywhere, and has no line of it.
     fn deliver(&mut self, script: Self::Script, answer: Self::Answer, fault: Option<u32>)
         ensures taken { taken self.new ≡ taken self.old }
-        ensures ended { ended self.new ≡ ended self.old ++ fault ∷ [] };
+        ensures ended { ended self.new ≡ ended self.old ++ delivered_as (Self.Answer.contents answer) fault ∷ [] };
 }

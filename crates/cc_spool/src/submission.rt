@@ -26,10 +26,10 @@ use std::time::{Duration, Instant};
 /// The most bytes of a script that are sent: one more than a script may have, so that the server sees that it is too long.
 const MOST_BYTES: u64 = 16_777_217;
 
-/// The pauses between two looks for an answer, in milliseconds.
-const LEAST_PAUSE: u64 = 1;
+/// The pauses between two looks for an answer, in microseconds: each is longer by a quarter than the one before.
+const LEAST_PAUSE: u64 = 200;
 
-const MOST_PAUSE: u64 = 64;
+const MOST_PAUSE: u64 = 64_000;
 
 /// For how long no server is there, or the folder can't be used, before a client gives up, in milliseconds.
 const NO_SERVER: u64 = 3_000;
@@ -190,11 +190,14 @@ fn answer_of(layout: &FolderLayout, name: &str) -> Result<Option<File>, Refusal>
     }
 }
 
-// Takes a script back; whether it was not claimed before.
-fn take_back(layout: &FolderLayout, name: &str) -> Result<bool, Refusal> {
+// Takes a script back. Without the sync a power cut could undo that, and the script would be done after all.
+fn take_back(layout: &FolderLayout, name: &str) -> Result<Seen, Refusal> {
     match layout.remove(Place::Waiting, name) {
-        Ok(()) => Ok(true),
-        Err(refusal) if refusal.is_absent() => Ok(false),
+        Ok(()) => Ok(match layout.sync_part("new") {
+            Ok(()) => Seen::Back,
+            Err(refusal) => Seen::Unsettled(refusal),
+        }),
+        Err(refusal) if refusal.is_absent() => Ok(Seen::Claimed),
         Err(refusal) => Err(refusal),
     }
 }
@@ -224,6 +227,8 @@ enum Seen {
     Waiting,
     // It was taken back.
     Back,
+    // It was taken back, but a power cut could undo that.
+    Unsettled(Refusal),
     // It was claimed.
     Claimed,
 }
@@ -278,10 +283,8 @@ impl Waiting {
     fn look_waiting(&self, layout: &FolderLayout) -> Result<Seen, Refusal> {
         if self.unclaimed < self.most.unwrap_or(NO_SERVER) {
             Ok(Seen::Waiting)
-        } else if take_back(layout, self.name.as_str())? {
-            Ok(Seen::Back)
         } else {
-            Ok(Seen::Claimed)
+            take_back(layout, self.name.as_str())
         }
     }
 
@@ -328,14 +331,14 @@ impl Waiting {
 // How long a script has waited, and what a person was told of it.
 #[derive(Clone, Copy, Drop)]
 struct Patience {
-    // Of the last look.
+    // Up to when the milliseconds are counted.
     moment: Instant,
     // In milliseconds.
     waited: u64,
     // For how long looks have failed in a row, in milliseconds.
     failing: u64,
     is_told: bool,
-    // The next pause, in milliseconds.
+    // The next pause, in microseconds.
     pause: u64,
 }
 
@@ -350,7 +353,7 @@ impl Patience {
         })
     }
 
-    // The milliseconds since the last look.
+    // The whole milliseconds since the last look; what is left of one counts at the next.
     fn pass(&mut self, rt: &HostRuntime) -> Result<u64, Refusal> {
         let now = Instant::now(rt)?;
         let since = now.duration_since(self.moment);
@@ -358,7 +361,8 @@ impl Patience {
             .as_secs()
             .saturating_mul(1000)
             .saturating_add(u64::from(since.subsec_millis()));
-        self.moment = now;
+        let counted = self.moment.checked_add(Duration::from_millis(passed));
+        self.moment = counted.unwrap_or(now);
         self.waited = self.waited.saturating_add(passed);
         Ok(passed)
     }
@@ -379,10 +383,8 @@ impl Patience {
 
     // Waits a moment.
     fn rest(&mut self, rt: &HostRuntime) {
-        thread::sleep(rt, Duration::from_millis(self.pause));
-        if self.pause < MOST_PAUSE {
-            self.pause *= 2;
-        }
+        thread::sleep(rt, Duration::from_micros(self.pause));
+        self.pause = MOST_PAUSE.min(self.pause.saturating_add(self.pause / 4));
     }
 }
 
@@ -398,6 +400,7 @@ fn wait_for_answer<E: Write>(
         match waiting.look(layout, since) {
             Ok(Seen::Answer(file)) => return Ok(Some(file)),
             Ok(Seen::Back) => return Ok(None),
+            Ok(Seen::Unsettled(refusal)) => return Err(refusal),
             Ok(seen) => {
                 if patience.look() {
                     let is_claimed = matches!(seen, Seen::Claimed);

@@ -29,7 +29,7 @@ fn number_of(unit: &TypedUnit, name: &[u8]) -> Option<usize>
     None
 }
 
-// Writes the last stage of a function: the lines of its code, where the unit has an image.
+// Writes the last stage of a function: the lines of its code; if there are none, whether memory ran out or the unit has no image.
 fn write_code<W: Write>(
     unit: &TypedUnit,
     function: usize,
@@ -41,6 +41,7 @@ fn write_code<W: Write>(
     Stage::Code.begin(unit.function_name(function), writer)?;
     match code {
         Ok(listing) => writer.write_all(listing.of_function(function)),
+        Err(fault) if fault.number() == 40 => writeln!(writer, "none: memory ran out"),
         Err(_) => writeln!(writer, "none: the program has no image"),
     }
 }

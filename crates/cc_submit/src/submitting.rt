@@ -8,17 +8,20 @@ ghost use Rattle.cc_submit.specs.internal.Sent.{asks_source, has_source, is_whol
 
 use cc_answers::{Persons, Telling, explain_bad_line, explain_no_command, explain_words, words_of};
 use cc_command_line::Submitter;
+use cc_screen::Screen;
 use cc_script::{Dialect, ScriptCommand, ScriptFault, command_of};
 use cc_spool::{FolderLayout, SpoolFault, Submission, fault_lines, source_in, submit};
 use cc_task::Task;
 use cc_tasks::perform_and_explain;
 use std::alloc::{AllocError, Global};
-use std::io::{self, BufWriter, Input, Print, Read, Write};
+use std::io::{self, BufWriter, Input, IsTerminal, Print, Read, Write};
 
 /// The most bytes of a source that are sent: one more than a source may have, so that the server sees that it is too long.
 const MOST_SOURCE: usize = 65_537;
 
 const READ_FAULT: &[u8] = b"fault 53 ReadFault\n";
+
+const NO_MEMORY: &[u8] = b"fault 40 OutOfMemory\n";
 
 // What is sent.
 #[derive(Drop)]
@@ -186,6 +189,18 @@ fn explain<R: AllocGlobal, E: Write>(
     Ok(())
 }
 
+// Writes the line of the fault by which the system refused a call in the folder: 40 if it was memory, else 56; the status.
+fn refused<W: Write>(why: &io::Error, writer: &mut W) -> u8
+    ensures { result ≡ 1 }
+{
+    if why.kind() != io::ErrorKind::OutOfMemory {
+        return fault(SpoolFault::FolderFault, writer);
+    }
+    let _ = writer.write_all(NO_MEMORY);
+    let _ = writer.flush();
+    1
+}
+
 // Writes the line of a fault of the folder, and tells why and where the script is; the status.
 fn folder_fault<W: Write, E: Write>(
     folder: &str,
@@ -196,7 +211,7 @@ fn folder_fault<W: Write, E: Write>(
 ) -> u8
     ensures { result ≡ 1 }
 {
-    let status = fault(SpoolFault::FolderFault, writer);
+    let status = refused(why, writer);
     let _ = writeln!(told, "cclib: the folder {folder} can't be used: {why}");
     let _ = match name {
         None => writeln!(told, "cclib: nothing of the script is done"),
@@ -355,7 +370,8 @@ fn leave<R: AllocGlobal + Input, W: Write, E: Write + Drop>(
     finish(rt, done, asked, sent, writer, told)
 }
 
-/// Leaves a script for the server of a folder, and prints its answer; the status. The error is lack of memory before it began.
+/// Leaves a script for the server of a folder, and prints its answer; the status. On a terminal control bytes of the answer are shown as `?`.
+/// The error is lack of memory before it began.
 pub fn submit_script<R: AllocGlobal + Input + Print, E: Write + Drop>(
     rt: &R,
     files: &HostRuntime,
@@ -365,12 +381,13 @@ pub fn submit_script<R: AllocGlobal + Input + Print, E: Write + Drop>(
     errors: E,
 ) -> Result<u8, AllocError> {
     let alloc = rt.alloc();
-    let (Ok(mut writer), Ok(errors)) = (
+    let (Ok(buffered), Ok(errors)) = (
         BufWriter::new(alloc, io::writer(rt)),
         BufWriter::new(alloc, errors),
     ) else {
         return Err(AllocError);
     };
+    let mut writer = Screen::new(buffered, files.stdout().is_terminal());
     let mut told = Telling {
         errors,
         is_quiet: persons.is_quiet,
@@ -382,6 +399,7 @@ pub fn submit_script<R: AllocGlobal + Input + Print, E: Write + Drop>(
             let _ = explain_no_command(&mut told.errors);
             return Ok(2);
         }
+        Err(why) if why.kind() == io::ErrorKind::OutOfMemory => return Err(AllocError),
         Err(_) => {
             let _ = writer.write_all(READ_FAULT);
             let _ = writer.flush();

@@ -2,6 +2,8 @@
 pub mod Answer
 -- The numbers and the places of the faults.
 pub mod Fault
+-- What is written of a text, byte for byte.
+pub mod Written
 -- What is taken out of a library, and why nothing is.
 pub mod Part
 -- What only private contracts speak of.

@@ -1,7 +1,10 @@
 // Every refusal of the program, with its line.
 
-ghost use Rattle.std.specs.Prelude.{◌≡◌};
+ghost use Rattle.std.specs.Prelude.{◌≡◌, List, ℕ, OnOk};
+ghost use Rattle.std.specs.Io.KnownBytes.{Appends};
+ghost use Rattle.cc_answers.specs.Text.{position_text};
 ghost use Rattle.cc_tasks.specs.Fault.{fault_number, fault_place};
+ghost use Rattle.cc_tasks.specs.Written.{fault_text, where_text};
 
 use cc_answers::{Stands, write_fault_line};
 use cc_link::{LinkFault, PieceFault, TextFault};
@@ -41,6 +44,10 @@ pub enum Fault {
 }
 
 impl From<AllocError> for Fault {
+    ghost use Rattle.cc_tasks.specs.declared.fault.Fault.TheVariants.{OutOfMemory};
+
+    ghost from_gives = { λ _ fault. fault ≡ OutOfMemory };
+
     fn from(_error: AllocError) -> Self {
         Fault::OutOfMemory
     }
@@ -80,7 +87,9 @@ impl Fault {
     }
 
     /// Where in the text the fault stands, for what is told of it there.
-    pub(crate) fn stands(&self) -> Stands<'_> {
+    pub(crate) fn stands(&self) -> Stands<'_>
+        ensures { (text : List ℕ) → position_text text result ≡ where_text text self.now }
+    {
         match self {
             Fault::Text(fault) => Stands::Text(fault),
             Fault::Piece(fault) => Stands::Function(*fault),
@@ -94,7 +103,9 @@ impl Fault {
     }
 
     /// Writes the fault's line for the text that has it, as `write_fault_line` does.
-    pub fn write_line<W: Write>(&self, text: &[u8], writer: &mut W) -> io::Result<()> {
-        write_fault_line(self.number(), self, self.stands(), text, writer)
+    pub fn write_line<W: Write>(&self, text: &[u8], writer: &mut W) -> io::Result<()>
+        ensures { OnOk result (Appends (W.contents writer.old) (W.contents writer.new) (fault_text text.now self.now)) }
+    {
+        write_fault_line(self.number(), self.stands(), text, writer)
     }
 }

@@ -1,11 +1,16 @@
 // A part of a unit that a library keeps.
 
-ghost use Rattle.std.specs.Prelude.{◌≡◌, IfOk, IfErr, IsTrue};
+ghost use Rattle.std.specs.Prelude.{◌≡◌, IfOk, IfErr, IsTrue, OnOk};
+ghost use Rattle.std.specs.Io.KnownBytes.{Appends};
 ghost use Rattle.std.specs.FinMap as map;
 ghost use Rattle.cc_disk.specs.Images.{OnlyReads};
 ghost use Rattle.cc_tasks.specs.Part.{IsPart, IsPartIn, IsNoPartIn, IsPartOn, IsNoPartOn, part_fault_number};
+ghost use Rattle.cc_tasks.specs.Written.{Writes, found_text};
 
+use super::fault::Fault;
 use super::unknown::explain_unknown;
+use super::work::flushed;
+use cc_answers::{Stands, write_fault_line};
 use cc_disk::Disk;
 use cc_hex::image::write;
 use cc_library::{Library, LibraryFault, Name, UnitMap};
@@ -133,4 +138,23 @@ pub fn take_out<D: Disk + Drop, E: Write>(
         }
         Err((fault, disk)) => (Err(PartFault::Library(fault)), disk),
     }
+}
+
+// Writes what was taken out, or the line of the fault.
+fn write_found<W: Write>(found: &Result<Vec<u8>, PartFault>, writer: &mut W) -> io::Result<()>
+    ensures { OnOk result (Appends (W.contents writer.old) (W.contents writer.new) (found_text found.now)) }
+{
+    match found {
+        Ok(bytes) => writer.write_all(bytes.as_slice()),
+        Err(fault) => write_fault_line(fault.number(), Stands::Nowhere, b"", writer),
+    }
+}
+
+/// Writes what was taken out, or the line of why there is nothing, and flushes the writer. 54 if it could not be written.
+#[tactic(auto, using(crate::proofs::Working::written))]
+pub fn write_part<W: Write>(found: &Result<Vec<u8>, PartFault>, writer: &mut W) -> Result<(), Fault>
+    ensures { Writes (W.contents writer.old) (W.contents writer.new) (found_text found.now) result }
+{
+    let write = write_found(found, writer);
+    flushed(write, writer)
 }

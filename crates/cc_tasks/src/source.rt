@@ -1,6 +1,8 @@
 // Reading the text.
 
-ghost use Rattle.std.specs.Prelude.{◌≤◌, IfOk, vec_len};
+ghost use Rattle.std.specs.Prelude.{◌≡◌, ◌⊎◌, ◌≤◌, IfOk, IfErr, vec_len};
+ghost use Rattle.cc_tasks.specs.Written.{IsTextOf};
+ghost use Rattle.cc_tasks.specs.declared.fault.Fault.TheVariants.{OutOfMemory, Read as Unread};
 
 use super::fault::Fault;
 use cc_tokens::MOST_BYTES;
@@ -14,7 +16,9 @@ const MOST_READ: usize = MOST_BYTES + 1;
 ///
 /// `Read` where a read fails, `OutOfMemory` where there is no room for the bytes.
 pub fn read_source<R: Read>(alloc: Global, reader: &mut R) -> Result<Vec<u8>, Fault>
-    ensures { IfOk result (λ text. vec_len text ≤ MOST_READ) }
+    ensures few { IfOk result (λ text. vec_len text ≤ MOST_READ) }
+    ensures text { IfOk result (λ text. IsTextOf (R.remaining reader.old) text.items) }
+    ensures refused { IfErr result (λ fault. (fault ≡ Unread) ⊎ (fault ≡ OutOfMemory)) }
 {
     let mut text = Vec::new(alloc);
     let mut piece = [0u8; 4096];

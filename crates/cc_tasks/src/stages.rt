@@ -80,7 +80,10 @@ fn try_perform<R: Read, W: Write>(
             };
             Performed { text, told }
         }
-        Err(performed) => performed,
+        Err(fault) => Performed {
+            text: Vec::new(alloc),
+            told: Err(fault),
+        },
     }
 }
 

@@ -1,18 +1,23 @@
 // Doing a task over any reader and writer.
 
-ghost use Rattle.std.specs.Prelude.{◌≤◌};
+ghost use Rattle.std.specs.Prelude.{◌≡◌, IfOk, IfErr, OnOk};
+ghost use Rattle.std.specs.Io.KnownBytes.{Appends};
+ghost use Rattle.cc_tasks.specs.Written.{answer_text, cause_name, outcome_text, stop_text, HasNoAnswer, IsPerformed, IsTextOf, Writes};
+ghost use Rattle.cc_tasks.specs.internal.Working.{Flushes, IsDoneFor, RefusesBy, TellsOf, status_of};
 
 use super::answer::{Answer, answer_for};
 use super::explain::{explain_fault, explain_program, explain_wrong};
 use super::fault::Fault;
 use super::source::read_source;
-use cc_answers::write_run;
+use cc_answers::{write_run, write_words};
 use cc_meaning::{Cause, Outcome, Stop};
 use cc_task::Task;
 use std::alloc::Global;
 use std::io::{self, Read, Write};
 
-fn cause_name(cause: Cause) -> &'static str {
+fn cause_name(cause: Cause) -> &'static str
+    ensures { result.now ≡ cause_name cause }
+{
     match cause {
         Cause::Division => "Division",
         Cause::Shift => "Shift",
@@ -21,7 +26,9 @@ fn cause_name(cause: Cause) -> &'static str {
     }
 }
 
-fn write_stop<W: Write>(stop: Stop, writer: &mut W) -> io::Result<()> {
+fn write_stop<W: Write>(stop: Stop, writer: &mut W) -> io::Result<()>
+    ensures { OnOk result (Appends (W.contents writer.old) (W.contents writer.new) (stop_text stop)) }
+{
     match stop {
         Stop::Going => writeln!(writer, "going"),
         Stop::Ended(word) => writeln!(writer, "ended {}", word.cast_signed()),
@@ -29,22 +36,38 @@ fn write_stop<W: Write>(stop: Stop, writer: &mut W) -> io::Result<()> {
     }
 }
 
-fn write_outcome<W: Write>(outcome: &Outcome, writer: &mut W) -> io::Result<()> {
-    for word in outcome.output.as_slice() {
-        writeln!(writer, "{}", word.cast_signed())?;
-    }
+#[tactic(auto, using(cc_answers::proofs::Writing::written_on))]
+fn write_outcome<W: Write>(outcome: &Outcome, writer: &mut W) -> io::Result<()>
+    ensures { OnOk result (Appends (W.contents writer.old) (W.contents writer.new) (outcome_text outcome.now)) }
+{
+    write_words(outcome.output.as_slice(), writer)?;
     write_stop(outcome.stop, writer)
 }
 
-// Writes an answer, and flushes the writer.
-fn write_answer<W: Write>(answer: &Answer, writer: &mut W) -> io::Result<()> {
+// Writes an answer.
+fn write_answer<W: Write>(answer: &Answer, writer: &mut W) -> io::Result<()>
+    ensures { OnOk result (Appends (W.contents writer.old) (W.contents writer.new) (answer_text answer.now)) }
+{
     match answer {
-        Answer::Accepted => writeln!(writer, "ok")?,
-        Answer::Ran(outcome) => write_outcome(outcome, writer)?,
-        Answer::Executed(run) => write_run(run, writer)?,
-        Answer::Listed(lines) | Answer::Image(lines) => writer.write_all(lines.as_slice())?,
+        Answer::Accepted => writeln!(writer, "ok"),
+        Answer::Ran(outcome) => write_outcome(outcome, writer),
+        Answer::Executed(run) => write_run(run, writer),
+        Answer::Listed(lines) => writer.write_all(lines.as_slice()),
+        Answer::Image(lines) => writer.write_all(lines.as_slice()),
     }
-    writer.flush()
+}
+
+// Flushes a writer after a write: 54 if one of the two failed.
+pub(crate) fn flushed<W: Write>(write: io::Result<()>, writer: &mut W) -> Result<(), Fault>
+    ensures { Flushes write (W.contents writer.old) (W.contents writer.new) result }
+{
+    match write {
+        Ok(()) => match writer.flush() {
+            Ok(()) => Ok(()),
+            Err(_) => Err(Fault::Write),
+        },
+        Err(_) => Err(Fault::Write),
+    }
 }
 
 // Why the run went wrong that an answer tells of, where it did.
@@ -58,29 +81,45 @@ fn cause_of(answer: &Answer) -> Option<Cause> {
     }
 }
 
-/// Writes the line of a fault of a text, and flushes the writer; the fault.
-pub(crate) fn refused<W: Write>(fault: Fault, text: &[u8], writer: &mut W) -> Fault {
-    let _ = fault.write_line(text, writer);
-    let _ = writer.flush();
-    fault
+/// Writes the line of a fault of a text, and flushes the writer: the fault, or 54 if its line could not be written.
+#[tactic(auto, using(crate::proofs::Working::refused_by))]
+pub(crate) fn refused<W: Write>(fault: Fault, text: &[u8], writer: &mut W) -> Fault
+    ensures { RefusesBy fault text.now (W.contents writer.old) (W.contents writer.new) result }
+{
+    let write = fault.write_line(text, writer);
+    match flushed(write, writer) {
+        Ok(()) => fault,
+        Err(unwritten) => {
+            drop(fault);
+            unwritten
+        }
+    }
+}
+
+// Writes an answer. The result is why its run went wrong, if it did.
+#[tactic(auto, using(crate::proofs::Working::written))]
+fn tell_answer<W: Write>(answer: &Answer, writer: &mut W) -> Result<Option<Cause>, Fault>
+    ensures { Writes (W.contents writer.old) (W.contents writer.new) (answer_text answer.now) result }
+{
+    let write = write_answer(answer, writer);
+    match flushed(write, writer) {
+        Ok(()) => Ok(cause_of(answer)),
+        Err(fault) => Err(fault),
+    }
 }
 
 // Does a task for a text: writes the answer, or the fault's line, and answers why the run went wrong, where it did.
+#[tactic(auto, using(crate::proofs::Working::told_answer, crate::proofs::Working::told_fault))]
 fn tell<W: Write>(
     alloc: Global,
     task: &Task,
     text: &[u8],
     writer: &mut W,
-) -> Result<Option<Cause>, Fault> {
+) -> Result<Option<Cause>, Fault>
+    ensures { TellsOf task.now text.now (W.contents writer.old) (W.contents writer.new) result }
+{
     match answer_for(alloc, task, text) {
-        Ok(answer) => {
-            let written = write_answer(&answer, writer);
-            let cause = cause_of(&answer);
-            match written {
-                Ok(()) => Ok(cause),
-                Err(_) => Err(Fault::Write),
-            }
-        }
+        Ok(answer) => tell_answer(&answer, writer),
         Err(fault) => Err(refused(fault, text, writer)),
     }
 }
@@ -97,29 +136,36 @@ pub(crate) fn read_text<R: Read, W: Write>(
     alloc: Global,
     reader: &mut R,
     writer: &mut W,
-) -> Result<Vec<u8>, Performed> {
+) -> Result<Vec<u8>, Fault>
+    ensures text { IfOk result (λ text. IsTextOf (R.remaining reader.old) text.items) }
+    ensures kept { OnOk result (W.contents writer.new ≡ W.contents writer.old) }
+    ensures unread { IfErr result (HasNoAnswer (R.remaining reader.old) (W.contents writer.old) (W.contents writer.new)) }
+{
     match read_source(alloc, reader) {
         Ok(text) => Ok(text),
-        Err(fault) => Err(Performed {
-            text: Vec::new(alloc),
-            told: Err(refused(fault, b"", writer)),
-        }),
+        Err(fault) => Err(refused(fault, b"", writer)),
     }
 }
 
 // Does a task.
+#[tactic(auto, using(crate::proofs::Working::done))]
 fn try_perform<R: Read, W: Write>(
     alloc: Global,
     task: &Task,
     reader: &mut R,
     writer: &mut W,
-) -> Performed {
+) -> Performed
+    ensures { IsDoneFor task.now (R.remaining reader.old) (W.contents writer.old) (W.contents writer.new) result.told }
+{
     match read_text(alloc, reader, writer) {
         Ok(text) => {
             let told = tell(alloc, task, text.as_slice(), writer);
             Performed { text, told }
         }
-        Err(performed) => performed,
+        Err(fault) => Performed {
+            text: Vec::new(alloc),
+            told: Err(fault),
+        },
     }
 }
 
@@ -137,7 +183,7 @@ fn explain<W: Write>(alloc: Global, task: &Task, performed: &Performed, writer: 
 
 /// The status of a task that was done.
 pub(crate) fn status(performed: Performed) -> u8
-    ensures { result ≤ 1 }
+    ensures { result ≡ status_of performed.told }
 {
     match &performed.told {
         Ok(_) => 0,
@@ -149,13 +195,14 @@ pub(crate) fn status(performed: Performed) -> u8
 ///
 /// The status is 0 for an answer and 1 for a fault. A read that fails is fault 53; a write that fails is fault 54, of
 /// which no line is written.
+#[tactic(auto, using(crate::proofs::Working::performed))]
 pub fn perform<H: AllocGlobal, R: Read, W: Write>(
     rt: &H,
     task: Task,
     reader: &mut R,
     writer: &mut W,
 ) -> u8
-    ensures { result ≤ 1 }
+    ensures { IsPerformed task (R.remaining reader.old) (W.contents writer.old) (W.contents writer.new) result }
 {
     let performed = try_perform(rt.alloc(), &task, reader, writer);
     status(performed)
@@ -165,6 +212,7 @@ pub fn perform<H: AllocGlobal, R: Read, W: Write>(
 /// place, as editors read it, what was found there and what was expected, and the line of the text; of another program what is warned of.
 /// Of a write to `writer` that fails it says so. Where memory for an explanation runs out, or it can not be written, there is none; the
 /// status is the same.
+#[tactic(auto, using(crate::proofs::Working::performed))]
 pub fn perform_and_explain<H: AllocGlobal, R: Read, W: Write, E: Write>(
     rt: &H,
     task: Task,
@@ -172,7 +220,7 @@ pub fn perform_and_explain<H: AllocGlobal, R: Read, W: Write, E: Write>(
     writer: &mut W,
     explanations: &mut E,
 ) -> u8
-    ensures { result ≤ 1 }
+    ensures { IsPerformed task (R.remaining reader.old) (W.contents writer.old) (W.contents writer.new) result }
 {
     let performed = try_perform(rt.alloc(), &task, reader, writer);
     explain(rt.alloc(), &task, &performed, explanations);

@@ -4,7 +4,7 @@ ghost use Rattle.std.specs.Prelude.{◌≤◌};
 
 use cc_answers::{Persons, Telling, greet};
 use cc_command_line::Session;
-use cc_filing::{disk_of, no_disk};
+use cc_filing::{disk_of, no_disk, tell_wide_disk};
 use cc_session::{Gate, SessionEnd, session, session_and_explain};
 use std::alloc::AllocError;
 use std::io::{self, BufWriter, Input, Print, Write};
@@ -63,6 +63,7 @@ where
         Ok(disk) => disk,
         Err(reason) => return Ok(no_disk(reason, asked.disk.as_str(), &mut writer, &mut told)),
     };
+    let _ = tell_wide_disk(files, asked.disk.as_str(), &mut told);
     let mut reader = rt.reader();
     let (disk, end) = if persons.is_quiet {
         session(

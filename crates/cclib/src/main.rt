@@ -133,7 +133,6 @@ where
         + Drop
         + 'static,
 {
-    reserve_stack(rt.alloc())?;
     let words = match std::env::args(rt) {
         Ok(words) => words,
         Err(error) if error.kind() == io::ErrorKind::InvalidData => {
@@ -149,7 +148,16 @@ where
         Err(nothing) => return status_of(nothing),
     };
     persons.is_quiet = is_quiet;
+    if goes_deep(&work) && reserve_stack(rt.alloc()).is_err() {
+        drop(work);
+        return Err(AllocError);
+    }
     do_work(rt, files, errors, persons, work)
+}
+
+// Whether a work may need more of the stack than a process begins with: each but a client's, which sends texts as they are.
+fn goes_deep(work: &Work) -> bool {
+    !matches!(work, Work::Submit(_))
 }
 
 // Does a work.

@@ -1,6 +1,8 @@
 // The command `serve`: the scripts that others leave in a folder, by many clients at a time, over a library in a file.
 
-ghost use Rattle.std.specs.Prelude.{◌≡◌, ◌≢◌, ◌≤◌, true, false, IfOk};
+ghost use Rattle.std.specs.Fmt.{decimal};
+ghost use Rattle.std.specs.Io.KnownBytes.{Appends};
+ghost use Rattle.std.specs.Prelude.{◌≡◌, ◌≢◌, ◌≤◌, ◌++◌, ◌∷◌, [], true, false, IfOk, OnOk, codes};
 ghost use Rattle.cc_session.specs.declared.end.SessionEnd.TheVariants.{Finished};
 
 use cc_answers::Telling;
@@ -12,6 +14,7 @@ use cc_filing::{
 use cc_session::{BOUNDS, Generation, GenerationEnd, Served, SessionEnd, Steward, serve_on};
 use std::alloc::AllocError;
 use std::io::{self, BufWriter, Print, Write};
+use std::rt::Clock;
 use std::sync::Wait;
 use std::thread::Threads;
 
@@ -42,29 +45,60 @@ impl Steward for Serving {
     }
 }
 
-// Writes how serving ended, where no line of a fault was written; the status.
-fn ended<W: Write, E: Write>(
+// Prints how many answers were handed over.
+fn print_served<W: Write>(answered: u64, writer: &mut W) -> io::Result<()>
+    ensures { OnOk result (Appends (W.contents writer.old) (W.contents writer.new) (codes "served " ++ decimal answered ++ 10 ∷ [])) }
+{
+    writeln!(writer, "served {answered}")?;
+    writer.flush()
+}
+
+// The same; whether it was printed.
+fn is_served_printed<W: Write, E: Write>(answered: u64, writer: &mut W, told: &mut E) -> bool
+    ensures { result ≡ true → Appends (W.contents writer.old) (W.contents writer.new) (codes "served " ++ decimal answered ++ 10 ∷ []) }
+{
+    match print_served(answered, writer) {
+        Ok(()) => true,
+        Err(_) => {
+            let _ = writeln!(told, "cclib: `served {answered}` could not be printed");
+            let _ = told.flush();
+            false
+        }
+    }
+}
+
+// Writes how serving ended, where no line of a fault was written; whether all that had to be printed was.
+fn write_end<W: Write, E: Write>(
     end: SessionEnd,
     counts: AnswerCounts,
     folder: &str,
     writer: &mut W,
     told: &mut E,
-) -> u8
-    ensures well { end ≡ Finished → counts.kept ≡ 0 → counts.has_failed ≡ false → result ≡ 0 }
-    ensures fault { end ≢ Finished → result ≡ 1 }
-    ensures kept { 1 ≤ counts.kept → result ≡ 1 }
-    ensures failed { counts.has_failed ≡ true → result ≡ 1 }
+) -> bool
+    ensures served { end ≡ Finished → counts.has_failed ≡ false → result ≡ true
+        → Appends (W.contents writer.old) (W.contents writer.new) (codes "served " ++ decimal counts.answered ++ 10 ∷ []) }
 {
     let _ = tell_kept(counts.kept, told);
     match end {
         SessionEnd::Finished if counts.has_failed => {
-            no_folder(NoFolder::Lost, folder, writer, told)
+            let _status = no_folder(NoFolder::Lost, folder, writer, told);
+            true
         }
-        SessionEnd::Finished => {
-            let _ = writeln!(writer, "served {}", counts.answered);
-            let _ = writer.flush();
-            u8::from(counts.kept > 0)
-        }
+        SessionEnd::Finished => is_served_printed(counts.answered, writer, told),
+        SessionEnd::Fault(_) => true,
+    }
+}
+
+// The status of a server that ended so.
+fn status_of(end: SessionEnd, counts: AnswerCounts, is_printed: bool) -> u8
+    ensures well { end ≡ Finished → counts.kept ≡ 0 → counts.has_failed ≡ false → is_printed ≡ true → result ≡ 0 }
+    ensures fault { end ≢ Finished → result ≡ 1 }
+    ensures kept { 1 ≤ counts.kept → result ≡ 1 }
+    ensures failed { counts.has_failed ≡ true → result ≡ 1 }
+    ensures unprinted { is_printed ≡ false → result ≡ 1 }
+{
+    match end {
+        SessionEnd::Finished => { u8::from(counts.kept > 0 || counts.has_failed || !is_printed) }
         SessionEnd::Fault(_) => 1,
     }
 }
@@ -78,7 +112,7 @@ fn serve_taken<R, W: Write, E: Write>(
     told: &mut E,
 ) -> Result<u8, AllocError>
 where
-    R: AllocGlobal + Threads + Wait + Copy + Send + Sync + 'static,
+    R: AllocGlobal + Threads + Wait + Clock + Copy + Send + Sync + 'static,
     requires some { 1 ≤ asked.now.workers }
     requires few { asked.now.workers ≤ 8 }
     ensures { IfOk result (λ status. status ≤ 1) }
@@ -118,13 +152,13 @@ where
         // The next start takes it away where it can't be now.
         let _ = layout.unstop();
     }
-    let status = ended(end, counts, asked.folder.as_str(), writer, told);
+    let is_printed = write_end(end, counts, asked.folder.as_str(), writer, told);
     drop(held);
-    Ok(status)
+    Ok(status_of(end, counts, is_printed))
 }
 
-/// Serves a folder until it has `stop`; the status: 0 where the service ended well and each answer was handed over, else 1. The error is lack
-/// of memory before it began.
+/// Serves a folder until it has `stop`; the status: 0 if the service ended well, each answer was handed over, and `served N` was printed, else
+/// 1. The error is lack of memory before it began.
 pub fn serve_folder<R, E: Write + Drop>(
     rt: &R,
     files: &HostRuntime,
@@ -133,7 +167,7 @@ pub fn serve_folder<R, E: Write + Drop>(
     errors: E,
 ) -> Result<u8, AllocError>
 where
-    R: AllocGlobal + Print + Threads + Wait + Copy + Send + Sync + 'static,
+    R: AllocGlobal + Print + Threads + Wait + Clock + Copy + Send + Sync + 'static,
     requires some { 1 ≤ asked.now.workers }
     requires few { asked.now.workers ≤ 8 }
     ensures { IfOk result (λ status. status ≤ 1) }
@@ -146,7 +180,7 @@ where
         return Err(AllocError);
     };
     let mut told = Telling { errors, is_quiet };
-    match take_to_serve(files, alloc, asked, &mut writer, &mut told)? {
+    match take_to_serve(files, alloc, asked, is_quiet, &mut writer, &mut told)? {
         Ok(taken) => serve_taken(rt, taken, asked, &mut writer, &mut told),
         Err(status) => Ok(status),
     }

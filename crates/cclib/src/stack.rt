@@ -1,25 +1,23 @@
-// Room for the stack, taken before anything else.
+// Room for the stack, taken before a text is read.
 //
 // The system lets the stack of a process grow as it is used, and ends the process by a signal where a limit on its memory refuses that.
 // What the deepest text needs is bounded, since a text nests 64 levels and 512 tokens at most: 606 KiB were seen, for `run` of 62 loops
 // within one another around 508 times `~`. So 1 MiB is asked for once as any other memory, and given back, which shows that it is there;
 // and then the stack is used down to there, which takes it for good. Where it is not there, that is lack of memory, and not a signal.
+//
+// What reads no text does without: the command line and a client of a server need 64 KiB (seen), and a process begins with 128.
 
 use std::alloc::{AllocError, Global};
 
 /// How many blocks of the stack are taken, each of 4,096 bytes: more than the deepest text needs.
 const BLOCKS: usize = 256;
 
-// Whether this many blocks are free: takes them, uses them and gives them back.
+// Whether this many blocks are free: takes them and gives them back. What is refused is refused as they are taken, so none is used: that would
+// cost more than all else of a start.
 #[inline(never)]
 fn is_free(alloc: Global, blocks: usize) -> bool {
-    let mut room = Vec::new(alloc);
-    for _ in 0..blocks {
-        if room.push([1u8; 4096]).is_err() {
-            return false;
-        }
-    }
-    room.len() == blocks
+    let room: Result<Vec<[u8; 4096]>, AllocError> = Vec::with_capacity(alloc, blocks);
+    room.is_ok()
 }
 
 // Uses this many blocks of the stack below this call; the byte that is put there.

@@ -26,6 +26,8 @@ mod programs;
 #[cfg(test)]
 mod refusals;
 #[cfg(test)]
+mod screens;
+#[cfg(test)]
 mod spools;
 #[cfg(test)]
 mod stages;

@@ -12,6 +12,8 @@ struct Asked {
     workers: usize,
     clients: usize,
     keep: u32,
+    done: u64,
+    patience: u32,
 }
 
 static SERVERS: [Asked; 3] = [
@@ -21,6 +23,8 @@ static SERVERS: [Asked; 3] = [
         workers: 2,
         clients: 4,
         keep: 7,
+        done: 1_073_741_824,
+        patience: 600,
     },
     Asked {
         words: &[
@@ -35,11 +39,16 @@ static SERVERS: [Asked; 3] = [
             "64",
             "--keep",
             "3650",
+            "--done",
+            "1099511627776",
+            "--patience=86400",
         ],
         area: Some(1_073_741_824),
         workers: 8,
         clients: 64,
         keep: 3650,
+        done: 1_099_511_627_776,
+        patience: 86_400,
     },
     Asked {
         words: &[
@@ -51,11 +60,15 @@ static SERVERS: [Asked; 3] = [
             "--workers=1",
             "--clients=1",
             "--keep=1",
+            "--done=1048576",
+            "--patience=1",
         ],
         area: Some(64),
         workers: 1,
         clients: 1,
         keep: 1,
+        done: 1_048_576,
+        patience: 1,
     },
 ];
 
@@ -70,6 +83,8 @@ fn asks_for_server(alloc: Global, asked: &Asked) -> bool {
                     workers,
                     clients,
                     keep,
+                    done,
+                    patience,
                 },
             ),
         ) => {
@@ -79,6 +94,8 @@ fn asks_for_server(alloc: Global, asked: &Asked) -> bool {
                 && workers == asked.workers
                 && clients == asked.clients
                 && keep == asked.keep
+                && done == asked.done
+                && patience == asked.patience
         }
         other => {
             drop(other);
@@ -170,7 +187,7 @@ fn clients(rt: HostRuntime) {
     }
 }
 
-static REFUSED: [&[&str]; 14] = [
+static REFUSED: [&[&str]; 18] = [
     &["cclib", "serve"],
     &["cclib", "serve", "a.disk"],
     &["cclib", "serve", "a.disk", "spool", "more"],
@@ -180,6 +197,10 @@ static REFUSED: [&[&str]; 14] = [
     &["cclib", "serve", "a.disk", "spool", "--clients", "65"],
     &["cclib", "serve", "a.disk", "spool", "--keep", "0"],
     &["cclib", "serve", "a.disk", "spool", "--keep", "3651"],
+    &["cclib", "serve", "a.disk", "spool", "--done", "1048575"],
+    &["cclib", "serve", "a.disk", "spool", "--done=1099511627777"],
+    &["cclib", "serve", "a.disk", "spool", "--patience", "0"],
+    &["cclib", "serve", "a.disk", "spool", "--patience=86401"],
     &["cclib", "submit"],
     &["cclib", "submit", "spool", "--wait", "0"],
     &["cclib", "submit", "spool", "--wait", "86401"],

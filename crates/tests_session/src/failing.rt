@@ -102,8 +102,8 @@ fn a_device_that_fails_once(rt: HostRuntime) -> Result<(), Fail> {
     let mut reader =
         b"add a 16\nint main(void){}\nadd b 16\nint main(void){}\ncompact\nlist\n".as_slice();
     let mut written = Vec::new(alloc);
-    // Twice three calls open the library.
-    let disk = FuseDisk::new(formatted(alloc, 4096)?, 8, FuseMode::Once);
+    // Three calls open the library.
+    let disk = FuseDisk::new(formatted(alloc, 4096)?, 5, FuseMode::Once);
     let (disk, end) = session(&rt, alloc, &mut reader, &mut written, disk, 2);
     assert!(rt; disk.is_some() && end == SessionEnd::Finished);
     let lines = b"fault 35 DiskFault\nfault 36 Closed\nfault 36 Closed\nok 1\n".as_slice();

@@ -7,6 +7,7 @@ use cc_session::{Bounds, Generation, GenerationEnd, Meter, Served, SessionEnd, S
 use cc_spool::MemorySpool;
 use std::alloc::{AllocError, Global};
 use std::io::Write;
+use std::rt::Clock;
 use std::sync::Wait;
 use std::test::Fail;
 use std::thread::Threads;
@@ -69,7 +70,7 @@ fn served_on<H, D: Disk + Send + Drop>(
     bounds: Bounds,
 ) -> Told<D>
 where
-    H: Threads + Wait + Copy + Send + Sync + 'static,
+    H: Threads + Wait + Clock + Copy + Send + Sync + 'static,
 {
     let mut keeper = Keeper {
         opened: 0,
@@ -106,7 +107,7 @@ fn served_in_memory<H>(
     bounds: Bounds,
 ) -> Result<Told<MemoryDisk>, Fail>
 where
-    H: Threads + Wait + Copy + Send + Sync + 'static,
+    H: Threads + Wait + Clock + Copy + Send + Sync + 'static,
 {
     let disk = formatted(alloc, area)?;
     Ok(served_on(rt, alloc, spools, disk, bounds))
@@ -121,7 +122,7 @@ fn served_until<H>(
     bounds: Bounds,
 ) -> Result<Told<FuseDisk<MemoryDisk>>, Fail>
 where
-    H: Threads + Wait + Copy + Send + Sync + 'static,
+    H: Threads + Wait + Clock + Copy + Send + Sync + 'static,
 {
     let disk = FuseDisk::new(formatted(alloc, 4096)?, passes, FuseMode::Before);
     Ok(served_on(rt, alloc, spools, disk, bounds))
@@ -266,6 +267,39 @@ fn a_meter_that_clients_share(rt: HostRuntime) -> Result<(), Fail> {
     Ok(())
 }
 
+// A script's own calls may hold 256 MiB. What one holds is known from the first generation; the last line of a script may pass the bound, and behind a
+// line that did no further one is begun.
+#[test]
+fn a_history_that_is_too_long(rt: HostRuntime) -> Result<(), Fail> {
+    let alloc = rt.alloc();
+    let line = b"replace a 29\nint a[65536];int main(void){}\n".as_slice();
+    let spools = one_spool(alloc, [line].as_slice())?;
+    let done = served_in_memory(&rt, alloc, spools, 4096, by_scripts(1))?;
+    let Some(first) = done.generations.as_slice().first() else {
+        return Err(Fail::from("no generation"));
+    };
+    // The table alone is 262,144 bytes.
+    assert!(rt; 262_144 < first.bytes && first.bytes < 264_000);
+    let count = (268_435_456 / first.bytes).saturating_add(1) as usize;
+    let refusals = b"fault 32 Absent\n".repeat(alloc, count)?;
+    for (more, fault) in [(0usize, None), (1, Some(52))] {
+        let script = line.repeat(alloc, count.saturating_add(more))?;
+        let spools = one_spool(alloc, [script.as_slice()].as_slice())?;
+        let done = served_in_memory(&rt, alloc, spools, 4096, by_scripts(1))?;
+        let mut lines = Vec::from_slice(alloc, refusals.as_slice())?;
+        if more > 0 {
+            lines.extend_from_slice(b"fault 52 ScriptTooLong\n")?;
+        }
+        let Some(spool) = done.left.spools.as_slice().first() else {
+            return Err(Fail::from("no spool"));
+        };
+        let answered = spool.answered();
+        assert!(rt; answered.len() == 1 && answered[0].fault == fault);
+        assert!(rt; answered[0].answer.bytes.as_slice() == lines.as_slice());
+    }
+    Ok(())
+}
+
 // Behind two scripts no further one is taken; where the bound is none, one is done in each generation all the same.
 #[test]
 fn generations_that_end_by_scripts(rt: HostRuntime) -> Result<(), Fail> {
@@ -337,7 +371,7 @@ fn a_disk_that_fails_in_a_later_generation(rt: HostRuntime) -> Result<(), Fail> 
         b"add c 16\nint main(void){}\n".as_slice(),
     ];
     let mut in_second = 0u32;
-    for passes in 6..20 {
+    for passes in 3..14 {
         let spools = one_spool(alloc, scripts.as_slice())?;
         let done = served_until(&rt, alloc, spools, passes, by_scripts(1))?;
         assert!(rt; done.left.end == SessionEnd::Fault(35));

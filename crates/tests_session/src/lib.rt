@@ -1,8 +1,9 @@
 //! Tests of sessions, from outside: scripts with their answers, scripts that are refused, streams and disks that fail.
 //!
 //! `helpers` runs a script on a formatted disk, `scripts` has the worked scripts, `audits` those that audit, `earlier` a library of before
-//! selection, `refusals` what is refused, `failing` readers and writers that fail, `files` a library in a file, `spools` scripts of
-//! several clients, `serving` many clients at once, `generations` one service behind the other, `showing` images and sources of units.
+//! selection, `refusals` what is refused, `failing` readers and writers that fail, `hints` sources that are handed in before their turn,
+//! `files` a library in a file, `spools` scripts of several clients, `serving` many clients at once, `generations` one service behind the
+//! other, `stopping` scripts that end while others wait, `showing` images and sources of units.
 #![tactic(auto)]
 
 #[cfg(test)]
@@ -18,6 +19,10 @@ mod generations;
 #[cfg(test)]
 mod helpers;
 #[cfg(test)]
+mod hints;
+#[cfg(test)]
+mod names;
+#[cfg(test)]
 mod refusals;
 #[cfg(test)]
 mod scripts;
@@ -27,3 +32,5 @@ mod serving;
 mod showing;
 #[cfg(test)]
 mod spools;
+#[cfg(test)]
+mod stopping;

@@ -1,13 +1,13 @@
 // A spool in a real folder: which things in `new` are scripts, what a start makes of what a kill left, and when an answer gives way to 54.
 
 use crate::helpers::{
-    End, Folder, Meanwhile, answer, answer_one, clears, counts, done, ends_so, is_answered, must,
-    put_as_written, recovered, renumber_one, second,
+    End, Folder, Meanwhile, answer, answer_one, begun, clears, counts, done, ends_so, is_answered,
+    is_soon_awaited, must, put_as_written, recovered, renumber_one, second,
 };
 use cc_spool::{FolderLayout, FolderSpool, Recovered, Spool};
 use std::io::{self, Read, Write};
 use std::thread;
-use std::time::Duration;
+use std::time::{Duration, Instant};
 
 // What is put into `new`.
 #[derive(Clone, Copy, Drop)]
@@ -205,12 +205,65 @@ fn what_a_kill_left(rt: HostRuntime) {
     for state in &STATES {
         must(&rt, leave(folder, state), state.name);
     }
-    let Recovered { begun, kept } = recovered(&layout).expect(&rt, "a start");
+    let Recovered { begun, kept, .. } = recovered(&layout).expect(&rt, "a start");
     must(&rt, begun == 5 && kept.is_empty(), "five were begun");
     for state in &STATES {
         must(&rt, is_recovered(folder, state), state.name);
     }
     must(&rt, folder.has("cur", 0), "nothing is left");
+    must(&rt, folder.end(layout, held), "its end");
+}
+
+#[test]
+fn an_empty_file_beside_an_answer(rt: HostRuntime) {
+    let path = "an_empty_file_beside_an_answer.spool";
+    let folder = Folder { rt, path };
+    let (layout, held) = folder.take().expect(&rt, "a folder");
+    // A second client of the server made it before the first one took the claim of the script away that it had answered.
+    must(&rt, leave(folder, &STATES[1]), "a claim");
+    let name = STATES[1].name;
+    must(&rt, folder.write("done", name, "ok 1\n"), "an answer");
+    let Recovered { begun, kept, stuck } = recovered(&layout).expect(&rt, "a start");
+    must(
+        &rt,
+        begun == 0 && kept.is_empty() && stuck == 0,
+        "none was begun",
+    );
+    must(&rt, folder.has_text("done", name, "ok 1\n"), "it stays");
+    must(&rt, folder.has("cur", 0), "nothing is left");
+    must(&rt, folder.end(layout, held), "its end");
+}
+
+#[test]
+fn directories_in_the_place_of_scripts(rt: HostRuntime) {
+    let path = "directories_in_the_place_of_scripts.spool";
+    let folder = Folder { rt, path };
+    let (layout, held) = folder.take().expect(&rt, "a folder");
+    must(&rt, folder.make("cur", "empty"), "an empty one");
+    must(&rt, folder.make("cur", "full/of"), "one that is not empty");
+    let Recovered { begun, kept, stuck } = recovered(&layout).expect(&rt, "a start");
+    must(&rt, begun == 0 && kept.is_empty(), "none is a script");
+    must(&rt, stuck == 1, "one can't be taken away");
+    must(&rt, !folder.is_there("cur", "empty"), "the other is gone");
+    must(&rt, folder.end(layout, held), "its end");
+}
+
+#[test]
+fn a_stop_of_before_the_start(rt: HostRuntime) {
+    let path = "a_stop_of_before_the_start.spool";
+    let folder = Folder { rt, path };
+    let (layout, held) = folder.take().expect(&rt, "a folder");
+    drop(layout);
+    drop(held);
+    must(&rt, folder.write(".", "stop", ""), "a stop");
+    thread::sleep(&rt, Duration::from_millis(20));
+    let (layout, held) = folder.take().expect(&rt, "the folder again");
+    must(&rt, !layout.is_stopped(), "it was for an earlier server");
+    must(&rt, folder.set_ahead(".", "stop"), "one of a later moment");
+    drop(layout);
+    drop(held);
+    let (layout, held) = folder.take().expect(&rt, "once more");
+    must(&rt, layout.is_stopped(), "it is for this one");
     must(&rt, folder.end(layout, held), "its end");
 }
 
@@ -234,7 +287,7 @@ fn what_a_start_could_not_hand_over(rt: HostRuntime) {
         let is_left = leave(folder, state) && folder.make("done", state.name);
         must(&rt, is_left, state.name);
     }
-    let Recovered { begun, kept } = recovered(&layout).expect(&rt, "a start");
+    let Recovered { begun, kept, .. } = recovered(&layout).expect(&rt, "a start");
     must(&rt, begun == 0 && kept.len() == 3, "three are kept");
     let mut spool = FolderSpool::new(layout, 100);
     spool.keep(kept);
@@ -485,14 +538,81 @@ fn names_that_hide_no_script(rt: HostRuntime) {
     must(&rt, fill_with_directories(folder), "directories");
     must(&rt, put_plain(folder), "a script");
     let mut spool = FolderSpool::new(layout, 100);
-    // As many as a client keeps, none of which can be claimed: the next look is behind them.
+    // As many as a client tries in one go, none of which can be claimed.
     must(&rt, done(folder, &mut spool) == 0, "none of the first");
-    must(&rt, done(folder, &mut spool) == 1, "the one behind them");
-    // Then it begins anew.
-    must(&rt, folder.write("new", "0", ""), "one before them");
-    must(&rt, done(folder, &mut spool) == 0, "none behind them");
-    must(&rt, done(folder, &mut spool) == 1, "the one before them");
+    must(&rt, done(folder, &mut spool) == 1, "the one after them");
+    // They are passed over then.
+    must(&rt, folder.write("new", "1", ""), "another one after them");
+    // A change within the clock's grain is seen by a later look.
+    thread::sleep(&rt, Duration::from_millis(200));
+    must(&rt, done(folder, &mut spool) == 1, "it is the first");
     must(&rt, folder.end_spool(spool, held), "its end");
+}
+
+// Whether a client waits for nobody, though another one is busy too: nothing is there that can be claimed.
+fn is_left_alone(folder: Folder, spool: &FolderSpool) -> bool {
+    let is_alone = !spool.is_awaited();
+    is_alone && folder.make("new", "a-directory") && !spool.is_awaited()
+}
+
+#[test]
+fn when_others_wait_for_a_script(rt: HostRuntime) {
+    let path = "when_others_wait_for_a_script.spool";
+    let folder = Folder { rt, path };
+    let (layout, held) = folder.take_to_serve(2, 0).expect(&rt, "a folder");
+    let mut one = second(&layout, 100).expect(&rt, "a client");
+    let mut other = second(&layout, 100).expect(&rt, "another one");
+    must(&rt, put_plain(folder), "a script");
+    let (script, answer) = begun(&mut one).expect(&rt, "the script");
+    must(&rt, folder.write("new", "second", ""), "one more");
+    must(&rt, one.is_long(), "it has no time");
+    must(&rt, !one.is_awaited(), "the other client is free");
+    let (next, its) = begun(&mut other).expect(&rt, "that one");
+    must(&rt, is_left_alone(folder, &one), "nothing waits");
+    must(&rt, folder.write("new", "third", ""), "a third one");
+    must(&rt, is_soon_awaited(folder, &one), "that waits for one");
+    must(&rt, one.is_awaited(), "which stays so");
+    must(&rt, !other.is_awaited(), "one is enough");
+    one.deliver(script, answer, Some(61));
+    must(&rt, !other.is_awaited(), "now one client is free");
+    let (third, last) = begun(&mut one).expect(&rt, "the third one");
+    must(&rt, !other.is_awaited(), "nothing waits");
+    must(&rt, folder.write(".", "stop", ""), "a stop");
+    must(&rt, other.is_awaited(), "the end of the server waits");
+    other.deliver(next, its, None);
+    one.deliver(third, last, None);
+    must(&rt, folder.has("done", 3), "all are answered");
+    drop(layout);
+    drop(other);
+    must(&rt, folder.end_spool(one, held), "its end");
+}
+
+#[test]
+fn a_script_that_has_its_time(rt: HostRuntime) {
+    let path = "a_script_that_has_its_time.spool";
+    let folder = Folder { rt, path };
+    let (layout, held) = folder.take_to_serve(1, 3600).expect(&rt, "a folder");
+    let mut spool = FolderSpool::new(layout, 100);
+    must(&rt, put_plain(folder), "a script");
+    must(&rt, !spool.is_long(), "there is none");
+    let (script, answer) = begun(&mut spool).expect(&rt, "the script");
+    must(&rt, !spool.is_long(), "it has an hour");
+    spool.deliver(script, answer, None);
+    must(&rt, folder.end_spool(spool, held), "its end");
+}
+
+#[test]
+fn a_folder_of_another_user(rt: HostRuntime) {
+    let path = "a_folder_of_another_user.spool";
+    let folder = Folder { rt, path };
+    must(&rt, folder.make("", ""), "a folder");
+    // Who is not root can't give it away.
+    if folder.give("", 1) {
+        must(&rt, folder.is_refused(), "it is another user's");
+        must(&rt, !folder.is_there(".", "lock"), "no lock is made");
+        must(&rt, folder.has("", 0), "nor anything else");
+    }
+    must(&rt, folder.remove_all(), "its end");
 }
 
 #[test]
@@ -503,6 +623,17 @@ fn a_folder_that_is_no_spool(rt: HostRuntime) {
     must(&rt, folder.write("tmp", "notes", "text"), "a file");
     must(&rt, folder.is_refused(), "it is no spool");
     must(&rt, folder.is_there("tmp", "notes"), "the file is there");
+    must(&rt, !folder.is_there(".", "lock"), "no lock is made");
+    must(&rt, folder.remove_all(), "its end");
+}
+
+#[test]
+fn a_folder_that_everybody_may_write_to(rt: HostRuntime) {
+    let path = "a_folder_that_everybody_may_write_to.spool";
+    let folder = Folder { rt, path };
+    must(&rt, folder.make("", ""), "a directory");
+    must(&rt, folder.set_rights("", 0o1777), "everybody's");
+    must(&rt, folder.is_refused(), "it is refused");
     must(&rt, !folder.is_there(".", "lock"), "no lock is made");
     must(&rt, folder.remove_all(), "its end");
 }
@@ -572,9 +703,15 @@ fn a_folder_that_was_moved(rt: HostRuntime) {
     must(&rt, folder.move_to(moved), "it is moved");
     let (other, also_held) = folder.take().expect(&rt, "another folder");
     must(&rt, put_plain(folder), "a script");
-    for _ in 0..100 {
+    let began = Instant::now(&rt).expect(&rt, "the time");
+    for _ in 0..1000 {
         must(&rt, goes_on(folder, &mut spool, &mut busy), "it goes on");
+        if spool.has_failed() {
+            break;
+        }
     }
+    let since = began.elapsed(&rt).expect(&rt, "the time");
+    must(&rt, 6 <= since.as_secs(), "six seconds long");
     must(&rt, spool.is_over() && spool.has_failed(), "it is lost");
     // It would be the only one to go on, and is over too.
     must(&rt, busy.is_over() && busy.has_failed(), "to both");
@@ -631,6 +768,8 @@ fn a_second_script_of_a_name(rt: HostRuntime) {
     must(&rt, put_plain(folder), "a second one");
     must(&rt, done(folder, &mut spool) == 0, "it waits");
     must(&rt, folder.remove("done", "plain"), "the way is free");
+    // Its name is passed over for a second.
+    thread::sleep(&rt, Duration::from_millis(1100));
     must(&rt, done(folder, &mut spool) == 1, "it is done too");
     must(&rt, folder.end_spool(spool, held), "its end");
 }

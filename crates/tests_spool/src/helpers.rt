@@ -4,12 +4,12 @@
 // in many places, would be proved for minutes, since each of its exits lets go of all that it has.
 
 use cc_spool::{
-    FolderLayout, FolderSpool, Held, Recovered, Spool, Submission, clear_old, count_entries,
-    recover, submit, take_folder,
+    AnswerFile, FolderLayout, FolderSpool, Held, Limits, Recovered, Spool, Submission, clear_old,
+    count_entries, recover, submit, take_folder,
 };
 use std::fs::{self, File, OpenOptions, Permissions};
 use std::io::{Read, Write};
-use std::os::unix::fs::{MetadataExt, PermissionsExt, symlink};
+use std::os::unix::fs::{MetadataExt, PermissionsExt, chown, symlink};
 use std::process::Abort;
 use std::thread;
 use std::time::{Duration, SystemTime};
@@ -116,10 +116,27 @@ impl Folder {
         }
     }
 
+    /// Makes an empty file that was written a minute from now.
+    pub fn set_ahead(self, part: &str, name: &str) -> bool {
+        let Ok(now) = SystemTime::now(&self.rt) else {
+            return false;
+        };
+        match now.checked_add(Duration::from_secs(60)) {
+            Some(time) => self.write(part, name, "") && self.set_time(part, name, time),
+            None => false,
+        }
+    }
+
     /// Makes the rights of a directory these.
     pub fn set_rights(self, part: &str, rights: u32) -> bool {
         let path = self.path_in(part, "");
         fs::set_permissions(&self.rt, path.as_str(), Permissions::from_mode(rights)).is_ok()
+    }
+
+    /// Gives a directory to another user; refused to who is not root.
+    pub fn give(self, part: &str, user: u32) -> bool {
+        let path = self.path_in(part, "");
+        chown(&self.rt, path.as_str(), Some(user), None).is_ok()
     }
 
     /// What is seen of a file, and no link is followed.
@@ -182,11 +199,19 @@ impl Folder {
 
     /// A new folder with its parts, and its lock; none where it is refused.
     pub fn take(self) -> Option<(FolderLayout, Held)> {
-        let mut layout = FolderLayout::new(self.rt, self.rt.alloc(), self.path).ok()?;
-        match take_folder(&mut layout, 1) {
-            Ok(Some(held)) => Some((layout, held)),
-            _ => None,
-        }
+        held(FolderLayout::new(self.rt, self.rt.alloc(), self.path).ok()?)
+    }
+
+    /// The same as a server has it with so many clients, each of which may do a script for so many seconds while others wait.
+    pub fn take_to_serve(self, clients: usize, patience: u32) -> Option<(FolderLayout, Held)> {
+        let limits = Limits {
+            days: 7,
+            bytes: u64::MAX,
+            is_quiet: true,
+            patience,
+            clients,
+        };
+        held(FolderLayout::for_server(self.rt, self.rt.alloc(), self.path, limits).ok()?)
     }
 
     /// Whether it is no folder that a server takes.
@@ -217,6 +242,36 @@ impl Folder {
         drop(held);
         self.remove_all()
     }
+}
+
+// A folder with its lock; none where it is refused.
+fn held(mut layout: FolderLayout) -> Option<(FolderLayout, Held)> {
+    match take_folder(&mut layout, 1) {
+        Ok(Some(held)) => Some((layout, held)),
+        _ => None,
+    }
+}
+
+/// The next script, which waits: a change is seen by a look that is made a moment later.
+pub fn begun(spool: &mut FolderSpool) -> Option<(File, AnswerFile)> {
+    for _ in 0..1000 {
+        let next = spool.next();
+        if next.is_some() {
+            return next;
+        }
+    }
+    None
+}
+
+/// Whether others wait for a script soon.
+pub fn is_soon_awaited(folder: Folder, spool: &FolderSpool) -> bool {
+    for _ in 0..200 {
+        if spool.is_awaited() {
+            return true;
+        }
+        thread::sleep(&folder.rt, Duration::from_millis(10));
+    }
+    false
 }
 
 /// What a start finds; none where it can't look.

@@ -2,27 +2,58 @@
 use Rattle.std.specs.Prelude.{◌≡◌, ◌≢◌, ◌⊎◌, ◌<◌, ℕ, Bool, true, false, List, [], ◌∷◌, ◌++◌, length, take, Option, Some, None, IfSome, Result, Ok, Err, Vec}
 use Rattle.std.specs.declared.alloc.Global.{Global}
 use Rattle.cc_script.specs.Fault.{fault_number}
+use Rattle.cc_script.specs.Line.{ScriptRequest}
 use Rattle.cc_script.specs.Reading.{Ahead, Between, HasMore, IsLine, IsNotRead}
 use Rattle.cc_script.specs.declared.script.NextLine.{NextLine}
 use Rattle.cc_script.specs.declared.script.NextLine.TheVariants.{Line, TooLong, End}
 use Rattle.cc_script.specs.declared.fault.ScriptFault.{ScriptFault}
-use Rattle.cc_script.specs.declared.fault.ScriptFault.TheVariants.{BadLine, EndOfScript, ScriptTooLong, ReadFault, WriteFault}
+use Rattle.cc_script.specs.declared.fault.ScriptFault.TheVariants.{BadLine, EndOfScript, ScriptTooLong, ReadFault, WriteFault, Stopped}
+use Rattle.cc_script.specs.declared.command.Dialect.{Dialect}
+use Rattle.cc_history.specs.Held.{at_most_told, receipts_bytes}
 use Rattle.cc_history.specs.History.{MemberView}
+use Rattle.cc_history.specs.declared.entry.Receipt.{Receipt}
+use Rattle.cc_session.specs.Playing.{CutsLine, HasUnended, IsBegun, IsBounded, IsCutShort, IsEnding, IsLight, IsPlayed, IsStoppedBy, Obeys, Talk, held_since, talk}
+use Rattle.cc_session.specs.declared.held.Held.{Held}
 use Rattle.cc_session.specs.declared.end.SessionEnd.{SessionEnd}
 use Rattle.cc_session.specs.declared.end.SessionEnd.TheVariants.{Finished, Fault}
 use Rattle.cc_session.specs.declared.reading.Sent.{Sent}
 use Rattle.cc_session.specs.declared.reading.Sent.TheVariants.{Source, NoRoom, Unended}
 
--- no line comes behind so many: it can't be read; or as many are done as may be, 52, and more of the script is left
-abbrev pub IsNoLine : (most : Option ℕ) (lines : ℕ) (before : Ahead) (left : ℕ) → ScriptFault → Type 0
-IsNoLine most lines before left fault =
-    IsNotRead before left fault ⊎ ((fault ≡ ScriptTooLong) × (most ≡ Some lines) × IfSome before.rest (λ bytes. bytes ≢ []))
+-- What ends a script behind so many lines if more of it is left: 52, if as many are done as may be, or the client's receipts since its beginning hold too
+-- much; 61, if there is a bound on its lines.
+abbrev pub EndsBehind : (most : Option ℕ) (first : MemberView) (lines : ℕ) (now : MemberView) → ScriptFault → Type 0
+EndsBehind most first lines now BadLine = ⊥
+EndsBehind most first lines now EndOfScript = ⊥
+EndsBehind most first lines now ScriptTooLong = (bound : ℕ) × (most ≡ Some bound) × ((lines ≡ bound) ⊎ (268435456 < held_since first now))
+EndsBehind most first lines now ReadFault = ⊥
+EndsBehind most first lines now WriteFault = ⊥
+EndsBehind most first lines now Stopped = IsBounded most
 
--- a line that comes behind so many may be done
-abbrev pub MayFollow : (most : Option ℕ) (lines : ℕ) → NextLine → Type 0
-MayFollow most lines (Line length) = most ≢ Some lines
-MayFollow most lines TooLong = most ≢ Some lines
-MayFollow most lines End = Unit {0}
+-- a further line may be done
+abbrev pub MayGoOn : (most : Option ℕ) (first : MemberView) (lines : ℕ) (now : MemberView) → Type 0
+MayGoOn most first lines now = (most ≢ Some lines) × IsLight most first now
+
+-- which fault it is; none if a further line may be done
+abbrev pub IsLimit : (most : Option ℕ) (first : MemberView) (lines : ℕ) (now : MemberView) → Option ScriptFault → Type 0
+IsLimit most first lines now None = MayGoOn most first lines now
+IsLimit most first lines now (Some fault) = EndsBehind most first lines now fault
+
+-- no line comes: it can't be read; or more of the script is left, which is to be ended so
+abbrev pub IsNoLine : (limit : Option ScriptFault) (before : Ahead) (left : ℕ) → ScriptFault → Type 0
+IsNoLine limit before left fault = IsNotRead before left fault ⊎ ((limit ≡ Some fault) × IfSome before.rest (λ bytes. bytes ≢ []))
+
+-- a line that comes may be done
+abbrev pub MayFollow : (limit : Option ScriptFault) → NextLine → Type 0
+MayFollow limit (Line length) = limit ≡ None
+MayFollow limit TooLong = limit ≡ None
+MayFollow limit End = Unit {0}
+
+-- The receipts of a client are counted that came after these.
+pub record CountsSince (first now : List Receipt) (held : Held) : Type 0 where
+  pub more : List Receipt
+  pub now_is : now ≡ first ++ more
+  pub seen : held.seen ≡ length now
+  pub bytes : held.bytes ≡ at_most_told (receipts_bytes more)
 
 -- this many bytes are taken from what is left, and the line's end behind them; or a byte more, which is no line's end
 abbrev pub HasSent : (before : List ℕ) (count : ℕ) → Sent → (after : List ℕ) → Type 0
@@ -41,19 +72,37 @@ IsSentAs source false sent = sent ≡ Unended
 abbrev pub IsShortOf : (count : ℕ) (rest : List ℕ) → Type 0
 IsShortOf count rest = length rest < count
 
--- Why a step was not done to its end. 51 where the bytes that its line needs are not there, 52 where more are left than the script may have, and
--- 53: then nothing was done of it. 54: nothing was, or the step whose answer could not be written.
-abbrev pub IsNotDone : (Does : List ℕ → List ℕ → MemberView → MemberView → Type 0) (IsShort : List ℕ → Type 0) (before : Ahead) (old new : MemberView) → ScriptFault → Type 0
-IsNotDone Does IsShort before old new BadLine = ⊥
-IsNotDone Does IsShort before old new EndOfScript = (new ≡ old) × IfSome before.rest IsShort
-IsNotDone Does IsShort before old new ScriptTooLong = (new ≡ old) × HasMore before
-IsNotDone Does IsShort before old new ReadFault = new ≡ old
-IsNotDone Does IsShort before old new WriteFault = IfSome before.rest (λ b. (new ≡ old) ⊎ ((a : List ℕ) × Does b a old new))
+-- Why a step was not done to its end. 51 if the bytes that its line needs are not there, 52 if more are left than the script may have, and 53: then
+-- nothing was done of it, but that 50 may be written of a line that was not read to its end. 54: nothing was done, or the step whose answer could not
+-- be written.
+abbrev pub IsNotDone : (Does : List ℕ → List ℕ → Talk → Talk → Type 0) (IsShort IsBad : List ℕ → Type 0) (before : Ahead) (old new : Talk) → ScriptFault → Type 0
+IsNotDone Does IsShort IsBad before old new BadLine = ⊥
+IsNotDone Does IsShort IsBad before old new EndOfScript = (new ≡ old) × IfSome before.rest IsShort
+IsNotDone Does IsShort IsBad before old new ScriptTooLong = IsBegun (IfSome before.rest IsBad) old new × HasMore before
+IsNotDone Does IsShort IsBad before old new ReadFault = IsBegun (IfSome before.rest IsBad) old new
+IsNotDone Does IsShort IsBad before old new Stopped = ⊥
+IsNotDone Does IsShort IsBad before old new WriteFault =
+    IfSome before.rest (λ b. (new.client ≡ old.client) ⊎ ((a : List ℕ) × (written : Option (List ℕ)) × Does b a old (talk new.client written)))
 
--- the step was done where it was answered
-abbrev pub IsDone : {T : Type 0} → (Does : List ℕ → List ℕ → MemberView → MemberView → Type 0) (IsShort : List ℕ → Type 0) (before after : Ahead) (old new : MemberView) → Result T ScriptFault → Type 0
-IsDone Does IsShort before after old new (Ok done) = Between before after (λ b a. Does b a old new)
-IsDone Does IsShort before after old new (Err fault) = IsNotDone Does IsShort before old new fault
+-- the step was done if it was answered
+abbrev pub IsDone : {T : Type 0} → (Does : List ℕ → List ℕ → Talk → Talk → Type 0) (IsShort IsBad : List ℕ → Type 0) (before after : Ahead) (old new : Talk) → Result T ScriptFault → Type 0
+IsDone Does IsShort IsBad before after old new (Ok done) = Between before after (λ b a. Does b a old new)
+IsDone Does IsShort IsBad before after old new (Err fault) = IsNotDone Does IsShort IsBad before old new fault
+
+-- a line that asks for this was not obeyed; or it is a `run` that was cut, 61
+abbrev pub IsObeyedNot : (most : Option ℕ) (asked : Option ScriptRequest) (before : Ahead) (old new : Talk) → ScriptFault → Type 0
+IsObeyedNot most asked before old new Stopped = IsBounded most × CutsLine asked old new
+IsObeyedNot most asked before old new fault = IsNotDone (λ b a o n. Obeys asked b a o n) (λ rest. IsCutShort asked rest) (λ rest. HasUnended asked rest) before old new fault
+
+-- it was, if it was answered
+abbrev pub IsObeyed : {T : Type 0} → (most : Option ℕ) (asked : Option ScriptRequest) (before after : Ahead) (old new : Talk) → Result T ScriptFault → Type 0
+IsObeyed most asked before after old new (Ok done) = Between before after (λ b a. Obeys asked b a old new)
+IsObeyed most asked before after old new (Err fault) = IsObeyedNot most asked before old new fault
+
+-- a script was done whole; or a fault ended it, whose line is not written yet, and it is done as far as that says
+abbrev pub IsHalted : {T : Type 0} → Dialect → (most : Option ℕ) (script : Option (List ℕ)) (old new : Talk) → Result T ScriptFault → Type 0
+IsHalted dialect most script old new (Ok done) = IfSome script (λ bytes. IsPlayed dialect most bytes old new)
+IsHalted dialect most script old new (Err fault) = IsEnding most fault × IfSome script (λ bytes. IsStoppedBy dialect most fault bytes old new)
 
 -- how a session ends whose script was answered so
 abbrev pub EndsFor : {T : Type 0} → Result T ScriptFault → SessionEnd → Type 0

@@ -23,14 +23,26 @@ pub struct Signs {
     calls: AtomicU64,
     // At how many of these, or of other signs, the first call is let go.
     wanted: u64,
-    signs: AtomicU64,
+    pub signs: AtomicU64,
     // 1 where the hold ended below its limit.
-    ended: AtomicU64,
+    pub ended: AtomicU64,
 }
 
-// Holds its first call until enough signs have come.
+impl Signs {
+    /// Waits until the gate has had a call, for so long at most.
+    pub fn wait_for_a_call(&self) {
+        for _ in 0..TURNS {
+            if self.calls.load(Ordering::SeqCst) > 0 {
+                break;
+            }
+            thread::yield_now();
+        }
+    }
+}
+
+/// Holds its first call until enough signs have come.
 #[derive(Drop)]
-struct Holds {
+pub struct Holds {
     signs: Arc<Signs>,
     // Whether each call is a sign.
     calls_count: bool,
@@ -66,8 +78,12 @@ impl Drop for Signs {
     }
 }
 
-// What a gate tells that holds until this many signs have come, of which each of its calls is one or is none; and the gate.
-fn held_until(alloc: Global, wanted: u64, calls_count: bool) -> Result<(Arc<Signs>, Holds), Fail> {
+/// What a gate tells that holds until this many signs have come, of which each of its calls is one or is none; and the gate.
+pub fn held_until(
+    alloc: Global,
+    wanted: u64,
+    calls_count: bool,
+) -> Result<(Arc<Signs>, Holds), Fail> {
     let signs = Arc::new(
         alloc,
         Signs {
@@ -112,7 +128,7 @@ fn another_client_is_answered(rt: HostRuntime) -> Result<(), Fail> {
 }
 
 /// Whether two adds are answered with Ok, of which one is held and the other one is begun and answered during the hold, and that ended below
-/// its limit.
+/// its limit; and the service was busy meanwhile, and no longer then.
 pub fn held_by_a_client<N, R>(
     rt: &R,
     alloc: Global,
@@ -133,11 +149,12 @@ where
     );
     let (one, first) = a;
     let (other, second) = b;
+    let is_idle = !service.is_busy();
     drop(ended(rt, alloc, service, both(alloc, one, other)?)?);
-    Ok(first == 0 && second == 0 && signs.ended.load(Ordering::SeqCst) == 1)
+    Ok(is_idle && first == 0 && second == 0 && signs.ended.load(Ordering::SeqCst) == 1)
 }
 
-// Adds once the gate holds, and then gives the sign.
+// Adds once the gate holds and the service is busy, and then gives the sign.
 fn adds_meanwhile<N, R>(
     rt: &R,
     alloc: Global,
@@ -149,13 +166,16 @@ where
     N: Named + Send + Sync + 'static,
     R: Wait,
 {
+    signs.wait_for_a_call();
+    let mut is_busy = false;
     for _ in 0..TURNS {
-        if signs.calls.load(Ordering::SeqCst) > 0 {
+        is_busy = service.is_busy();
+        if is_busy {
             break;
         }
         thread::yield_now();
     }
     let (client, answer) = adds(rt, alloc, service, client, b"b");
     signs.signs.fetch_add(1, Ordering::SeqCst);
-    (client, answer)
+    (client, if is_busy { answer } else { 1 })
 }

@@ -1,10 +1,12 @@
-// An `add` of which a growth is refused. `bench/memory.sh service` refuses each allocation of this test in turn, so one in all.
+// An `add` of which a growth is refused, its text handed in first or not. `bench/memory.sh service` refuses each allocation of these tests in
+// turn, so one in all.
 
+use super::ahead::put_number;
 use super::reading::number;
 use super::starting::{ALL, Fused, Own, ended};
 use super::trial::{Trial, succeeds};
 use cc_pool::NoGate;
-use cc_service::Client;
+use cc_service::{Client, Put};
 use std::alloc::Global;
 use std::sync::Wait;
 use std::test::Fail;
@@ -13,7 +15,30 @@ use tests_texts::worked::LONG;
 
 #[test]
 fn every_growth_of_an_add(rt: HostRuntime) -> Result<(), Fail> {
-    succeeds(&rt, rt.alloc(), ALL, 1, NoGate, Trial::IsAdded)
+    let trial = Trial::IsAdded { is_ahead: false };
+    succeeds(&rt, rt.alloc(), ALL, 1, NoGate, trial)
+}
+
+#[test]
+fn every_growth_of_a_put_ahead(rt: HostRuntime) -> Result<(), Fail> {
+    let trial = Trial::IsAdded { is_ahead: true };
+    succeeds(&rt, rt.alloc(), ALL, 1, NoGate, trial)
+}
+
+// The number of the answer to an add of the unit.
+fn add_number<N: Own, R: Wait>(
+    rt: &R,
+    alloc: Global,
+    service: &Fused<N>,
+    client: &mut Client<N>,
+    is_ahead: bool,
+) -> u32 {
+    let text = LONG.as_bytes();
+    if is_ahead {
+        put_number(rt, alloc, service, client, Put::Add, b"a", text)
+    } else {
+        number(service.add(rt, alloc, client, b"a", text))
+    }
 }
 
 // Whether memory ran out.
@@ -28,12 +53,13 @@ fn adds_twice<N: Own, R: Wait>(
     alloc: Global,
     service: &Fused<N>,
     client: &mut Client<N>,
+    is_ahead: bool,
 ) -> Option<usize> {
-    let first = number(service.add(rt, alloc, client, b"a", LONG.as_bytes()));
+    let first = add_number(rt, alloc, service, client, is_ahead);
     if first != 0 && (!is_out(first) || client.receipts().len() != 0) {
         return None;
     }
-    let second = number(service.add(rt, alloc, client, b"a", LONG.as_bytes()));
+    let second = add_number(rt, alloc, service, client, is_ahead);
     let entries = client.receipts().len();
     let right = if first != 0 {
         second == 0 && entries == 1
@@ -46,9 +72,14 @@ fn adds_twice<N: Own, R: Wait>(
 }
 
 /// Whether the unit is there at the end, and the calls that were answered are all that is in the history.
-pub fn is_added<N: Own, R: Wait>(rt: &R, alloc: Global, service: Fused<N>) -> Result<bool, Fail> {
+pub fn is_added<N: Own, R: Wait>(
+    rt: &R,
+    alloc: Global,
+    service: Fused<N>,
+    is_ahead: bool,
+) -> Result<bool, Fail> {
     let mut client = service.client(rt, alloc)?;
-    let Some(entries) = adds_twice(rt, alloc, &service, &mut client) else {
+    let Some(entries) = adds_twice(rt, alloc, &service, &mut client, is_ahead) else {
         return Ok(false);
     };
     let closed = match service.finish(rt, alloc, alone(alloc, client)?) {

@@ -3,6 +3,7 @@
 ghost use Rattle.std.specs.Prelude.{◌≤◌};
 ghost use Rattle.tests_service.specs.internal.Named.{IsNamed};
 
+use super::ahead::{before_their_turn, fails_ahead, held_ahead, not_put};
 use super::answers::each_call;
 use super::calls::{all_made, four_calls, gives_up};
 use super::crowds::are_replayed;
@@ -38,8 +39,16 @@ pub enum Trial<'a> {
     HeldByAPiece { signs: &'a Arc<Signs> },
     /// A client is held while another one is answered.
     HeldByAClient { signs: &'a Arc<Signs> },
-    /// An `add` is made twice, of which a growth may be refused.
-    IsAdded,
+    /// Texts are handed in before their turn, and put in another order.
+    BeforeTheirTurn,
+    /// Texts that were handed in are not put.
+    NotPut,
+    /// The device fails while texts are handed in.
+    FailsAhead,
+    /// A text that was handed in is held while another one is put.
+    HeldAhead { signs: &'a Arc<Signs> },
+    /// An `add` is made twice, its text handed in first or not, of which a growth may be refused.
+    IsAdded { is_ahead: bool },
 }
 
 // Whether what it looks at is as it should be, on this service.
@@ -58,7 +67,11 @@ where
         Trial::FiveCalls { failed } => five_calls(rt, alloc, service, failed),
         Trial::HeldByAPiece { signs } => held_by_a_piece(rt, alloc, service, signs),
         Trial::HeldByAClient { signs } => held_by_a_client(rt, alloc, service, signs),
-        Trial::IsAdded => is_added(rt, alloc, service),
+        Trial::BeforeTheirTurn => before_their_turn(rt, alloc, service),
+        Trial::NotPut => not_put(rt, alloc, service),
+        Trial::FailsAhead => fails_ahead(rt, alloc, service),
+        Trial::HeldAhead { signs } => held_ahead(rt, alloc, service, signs),
+        Trial::IsAdded { is_ahead } => is_added(rt, alloc, service, is_ahead),
     }
 }
 

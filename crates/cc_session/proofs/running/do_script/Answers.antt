@@ -1,14 +1,42 @@
--- Why no service was opened; an honest disk was read at most.
-use Rattle.std.proofs.Common.{inl, refl}
+-- Why no service was opened; an honest disk was read at most. Or it was opened, and the script's client is all that it had.
+use Rattle.std.proofs.Common.{ap, inl, inr}
+use Rattle.cc_service.specs.Client.{members}
 use Rattle.cc_library.specs.declared.fault.LibraryFault.TheVariants.{OutOfMemory}
 use Rattle.cc_service.specs.declared.fault.ServiceFault.TheVariants.{Opening}
-use Rattle.cc_session.proofs.Ends.{reads_none}
+use Rattle.cc_session.proofs.Ends.{not_over, reads_back, recovers_base}
 use Rattle.cc_session.proofs.running.do_script.Goals as goal
 
 pub returns-in_default : goal.returns-in_default
 returns-in_default g c =
     let D = g.D.Disk in
-    inl ((g.N.Based.base, Opening OutOfMemory, c.refused-number.ensures, refl), λ h. reads_none D c.args.begun.disk, tt)
+    inl (
+      (g.N.Based.base, Opening OutOfMemory, c.refused-number.ensures, ap D.failures c.into_disk.ensures),
+      λ h. reads_back D c.args.begun.library.disk c.into_disk.result c.into_disk.ensures,
+      tt,
+    )
 
 pub returns : goal.returns
-returns g c = inl ((g.N.Based.base, c.in-Err.fault, c.refused-number-in-Err.ensures, c.in-Err.ensures.refused), c.in-Err.ensures.reads, tt)
+returns g c =
+    let D = g.D.Disk in
+    inl (
+      (
+        g.N.Based.base,
+        c.in-Err.fault,
+        c.refused-number-in-Err.ensures,
+        not_over D g.N.Based.base c.args.begun.library c.in-Err.disk c.in-Err.fault
+            c.requires.recovered c.requires.named c.in-Err.ensures.refused c.in-Err.ensures.back,
+      ),
+      λ h. reads_back D c.args.begun.library.disk c.in-Err.disk c.in-Err.ensures.back,
+      tt,
+    )
+
+pub returns-in-Ok-over : goal.returns-in-Ok-over
+returns-in-Ok-over g c =
+    let D = g.D.Disk in
+    inr (
+      members c.play_alone-played.new.clients.items,
+      c.play_alone-played.result,
+      c.play_alone-played.ensures c.finish.result.1 (g.W.Write.contents c.finish.new.answers) c.finish.ensures.still,
+      c.finish.ensures.ended (D.seen c.args.begun.library.disk)
+          (recovers_base D g.N.Based.base c.args.begun.library c.requires.recovered c.requires.named),
+    )

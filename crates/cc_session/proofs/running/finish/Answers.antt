@@ -1,15 +1,14 @@
 -- What the end of a service says of its book is what is left; and so where it had to be given up.
-use Rattle.std.proofs.Common.{◌≡◌, ℕ, Vec, Global, sym, subst}
-use Rattle.std.specs.Prelude.{◌⊎◌}
+use Rattle.std.proofs.Common.{Vec, Global, sym, subst}
 use Rattle.cc_service.specs.Client.{ClientView, members}
 use Rattle.cc_service.specs.Promise.{IsGivenUp}
 use Rattle.cc_session.specs.Session.{IsEnded}
 use Rattle.cc_session.specs.declared.end.SessionEnd.{SessionEnd}
-use Rattle.cc_session.proofs.Ends.{given_up_by, kept_by, refusal_number}
+use Rattle.cc_session.proofs.Ends.{given_up_by, kept_by}
 use Rattle.cc_session.proofs.running.finish.Goals as goal
 
-pub returns-in-Ok : goal.returns-in-Ok
-returns-in-Ok g c = λ bytes recovers.
+pub returns-in-Ok-clause-ended : goal.returns-in-Ok-clause-ended
+returns-in-Ok-clause-ended g c = λ bytes recovers.
     let D = g.D.Disk in
     let N = g.N.Based in
     let r = c.in-Ok.closed in
@@ -17,13 +16,11 @@ returns-in-Ok g c = λ bytes recovers.
     kept_by D N.base N.from N.left bytes recovers (members c.args.clients.items) c.args.played
     (record { base = r.base; library = r.library; history = r.history.items; failed = r.failed.items }) c.disk_of.result c.disk_of.ensures e.sound e.closed e.own
 
-pub returns-in-Err : goal.returns-in-Err
-returns-in-Err g c = λ bytes recovers.
+pub returns-in-Err-clause-ended : goal.returns-in-Err-clause-ended
+returns-in-Err-clause-ended g c = λ bytes recovers.
     let D = g.D.Disk in
     let N = g.N.Based in
     let given = c.give_up-disk.result in
     let it = subst (λ (v : Vec ClientView Global). IsGivenUp D N.base N.from N.left (members v.items) given.1 given.0) c.in-Err.ensures.back c.give_up-disk.ensures in
-    let why = refusal_number D.honest N.base (members c.args.clients.items) c.in-Err.fault c.in-Err.ensures.refused in
-    subst (λ (end : SessionEnd). IsEnded D bytes N.from N.left (members c.args.clients.items) c.args.played end given.0) (sym c.told_after.ensures)
-    (given_up_by D N.base N.from N.left bytes recovers (members c.args.clients.items) c.args.played given.1 given.0 c.refused-number.result it
-    (subst (λ (n : ℕ). (n ≡ 39) ⊎ (n ≡ 40)) (sym c.refused-number.ensures) why))
+    subst (λ (end : SessionEnd). IsEnded D bytes N.from N.left (members c.args.clients.items) c.args.played end given.0) (sym c.given_up.ensures.end)
+    (given_up_by D N.base N.from N.left bytes recovers (members c.args.clients.items) c.args.played given.1 given.0 it)

@@ -13,10 +13,12 @@ returns-in-Ok g c =
     let e = c.in-Ok.ensures in
     let before = c.in-Ok.begun.before.value in
     let heard = ap (λ (a : Ahead). a.rest) c.new-script.ensures in
+    let W = g.W.Write.contents in
+    let called = λ (script : Option (List ℕ)). HaveCalled script (W c.args.writer.now) (W c.do_script-disk.new.answers) c.do_script-disk.result.1 in
     let ends = subst (λ (script : Option (List ℕ)). EndsSince D (D.moment before) (D.may_leave before) (Unit {0})
-    (HaveCalled script) c.in-Ok.begun.disk c.do_script-disk.result.0 c.do_script-disk.result.1) heard c.do_script-disk.ensures in
+    (called script) c.in-Ok.begun.library.disk c.do_script-disk.result.0 c.do_script-disk.result.1) heard c.do_script-disk.ensures in
     record {
-      answers = ends_on D (Unit {0}) (HaveCalled (g.R.Read.remaining c.args.reader.now)) before c.args.disk c.in-Ok.begun.disk
+      answers = ends_on D (Unit {0}) (called (g.R.Read.remaining c.args.reader.now)) before c.args.disk c.in-Ok.begun.library.disk
           c.do_script-disk.result.0 c.do_script-disk.result.1 e.before e.sound e.reads ends;
     }
 

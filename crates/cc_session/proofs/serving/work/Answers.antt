@@ -16,7 +16,7 @@ returns-in-Ok g c =
 
 pub returns-in-Err : goal.returns-in-Err
 returns-in-Err g c = (
-  c.refused-number.ensures ∙ ap fault_number c.in-Err.ensures.refused,
+  c.number-number.ensures ∙ ap fault_number c.in-Err.ensures.refused,
   refl,
   none_of (λ c. c.member) c.hire.new.clients.items c.hire.ensures.fresh,
 )

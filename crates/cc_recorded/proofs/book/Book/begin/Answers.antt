@@ -15,7 +15,7 @@ invariant_of-result g c =
     let first : BookView g.row.D.Denot = record { base = c.args.base; library = c.args.library; history = []; failed = [] } in
     record {
       tied = λ h. subst (λ (b : BookView g.row.D.Denot). IsTied compiling Keeps D b) (sym c.new-recorded.ensures)
-          (opening_tied compiling Keeps D first refl refl c.requires.usable c.requires.same c.requires.stand (c.requires.records h) (c.requires.settled h));
+          (opening_tied compiling Keeps D first refl refl c.requires.opened.usable c.requires.same c.requires.opened.stand (c.requires.opened.records h) (c.requires.opened.settled h));
       since = λ h. subst (λ (l : List (BookView g.row.D.Denot)). AreSince D book l) (sym c.and-since.ensures)
           (one_more D book c.new.result.items c.kept.ensures.replays c.kept.ensures.one (λ image left. g.met.D.Disk.only_now book.library.disk image h left) (c.kept.ensures.images h)
           (λ k old at. let none : None ≡ Some old = sym (ap (λ (l : List (BookView g.row.D.Denot)). slice_get l k) c.new.ensures) ∙ at in absurd (cc)));

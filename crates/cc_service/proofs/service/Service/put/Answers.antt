@@ -1,36 +1,37 @@
-use Rattle.std.proofs.Common.{ℕ, List, refl, sym, ap, subst}
+-- A text that is handed in is put as its text; one that is not is refused as one that is not compiled.
+use Rattle.std.proofs.Common.{ℕ, IsTrue, List, refl, sym, ap, subst}
+use Rattle.cc_library.specs.Name.{is_name}
 use Rattle.cc_pool.specs.declared.item.Item.{Item}
-use Rattle.cc_history.specs.History.{MemberView}
 use Rattle.cc_service.specs.Client.{ClientView}
 use Rattle.cc_service.specs.Compiling.{HasSentFor}
 use Rattle.cc_service.specs.Serving.{PutAnswers, Puts}
-use Rattle.cc_service.proofs.Answering.{not_put, put}
+use Rattle.cc_service.proofs.Answering.{not_prepared, not_put}
 use Rattle.cc_service.proofs.service.Service.put.Goals as goal
 
-pub returns-in-Ok-compiled-clause-answers : goal.returns-in-Ok-compiled-clause-answers
-returns-in-Ok-compiled-clause-answers g c =
-    let name = c.args.name.now in
-    let source = c.args.source.now in
-    let Asks = Puts c.args.put name source in
-    let command = c.change_of.result in
-    let asked = subst (λ (n : List ℕ). Puts c.args.put n source command) c.in-Ok.ensures.answer (c.change_of.ensures source (c.in-Ok-compiled.ensures.source, c.in-Ok-compiled.ensures.agrees)) in
-    let after_it = c.change.new.client.member in
-    subst (λ (h : MemberView). PutAnswers Asks name source h after_it c.change.result) (ap (λ (c : ClientView). c.member) c.client.view_is)
-    (put Asks command asked c.client.inside.member after_it
-    name source (c.in-Ok.ensures.answers.0 refl) c.in-Ok-compiled.ensures.program c.change.result c.change.ensures.answers)
+pub put_counted-requires-clause-named : goal.put_counted-requires-clause-named
+put_counted-requires-clause-named g c = λ _ _. subst (λ (n : List ℕ). IsTrue (is_name n)) (sym c.in-Ok.ensures.answer) (c.in-Ok.ensures.answers.0 refl)
 
-pub returns-in-Ok-compiled-clause-sent : goal.returns-in-Ok-compiled-clause-sent
-returns-in-Ok-compiled-clause-sent g c =
+pub returns-in-Ok-begun-clause-answers : goal.returns-in-Ok-begun-clause-answers
+returns-in-Ok-begun-clause-answers g c =
+    let new = c.put_counted.new.client.member in
+    let result = c.put_counted.result in
+    subst (λ (n : List ℕ). PutAnswers (Puts c.args.put n c.args.source.now) n c.args.source.now c.args.client.now.member new result) c.in-Ok.ensures.answer
+    (subst (λ (t : List ℕ). PutAnswers (Puts c.args.put c.in-Ok.name t) c.in-Ok.name t c.args.client.now.member new result) c.in-Ok-begun.ensures.text
+    (subst (λ (v : ClientView). PutAnswers (Puts c.args.put c.in-Ok.name c.in-Ok-begun.prepared) c.in-Ok.name c.in-Ok-begun.prepared v.member new result) c.client.view_is c.put_counted.ensures.answers))
+
+pub returns-in-Ok-begun-clause-sent : goal.returns-in-Ok-begun-clause-sent
+returns-in-Ok-begun-clause-sent g c =
     let source = c.args.source.now in
-    let grown = subst (λ (l : List Item). HasSentFor source c.client.inside.pass.sent l) (sym c.change.ensures.sent) c.in-Ok-compiled.ensures.sent in
-    subst (λ (v : ClientView). HasSentFor source v.sent c.change.new.client.sent) c.client.view_is grown
+    let grown = subst (λ (l : List Item). HasSentFor source c.client.inside.pass.sent l) (sym c.put_counted.ensures.sent) c.in-Ok-begun.ensures.sent in
+    subst (λ (v : ClientView). HasSentFor source v.sent c.put_counted.new.client.sent) c.client.view_is grown
 
 pub returns-in-Err-clause-sent : goal.returns-in-Err-clause-sent
 returns-in-Err-clause-sent g c =
-    subst (λ (v : ClientView). HasSentFor c.args.source.now v.sent c.compiled.new.pass.sent) c.client.view_is c.in-Err.ensures.sent
+    subst (λ (v : ClientView). HasSentFor c.args.source.now v.sent c.begun.new.pass.sent) c.client.view_is c.in-Err.ensures.sent
 
 pub returns-in-Err-clause-answers : goal.returns-in-Err-clause-answers
 returns-in-Err-clause-answers g c =
     let name = c.args.name.now in
     let source = c.args.source.now in
-    not_put (Puts c.args.put name source) name source c.args.client.now.member c.client.inside.member (c.in-Ok.ensures.answers.0 refl) (ap (λ (c : ClientView). c.member) c.client.view_is) c.in-Err.fault c.in-Err.ensures.refused
+    not_put (Puts c.args.put name source) name source c.args.client.now.member c.client.inside.member (c.in-Ok.ensures.answers.0 refl) (ap (λ (c : ClientView). c.member) c.client.view_is) c.in-Err.fault
+    (not_prepared source c.in-Err.fault c.in-Err.ensures.refused)

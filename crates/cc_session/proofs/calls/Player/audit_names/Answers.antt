@@ -1,17 +1,26 @@
--- Each name is fetched in its turn, and the last call is that of the first that was not audited.
-use Rattle.std.proofs.Common.{false, rules}
-use Rattle.cc_session.specs.Playing.{FetchesEach}
-use Rattle.cc_session.proofs.Fetching.{fetched_last}
+-- Each name is audited in its turn, and the last call is that of the first that was not.
+use Rattle.std.proofs.Common.{◌≡◌, Bool, false, Ok, rules, subst}
+use Rattle.cc_session.specs.Playing.{talk}
+use Rattle.cc_session.specs.internal.Calls.{AuditsName}
+use Rattle.cc_session.proofs.Audited.{audited_last, audited_unwritten}
 use Rattle.cc_session.proofs.calls.Player.audit_names.Goals as goal
 
-pub returns-in_err-audit_name-clause-part : goal.returns-in_err-audit_name-clause-part
-returns-in_err-audit_name-clause-part g c =
-    let part : FetchesEach c.args.names.now false c.args.client.now.member c.audit_name.new.client.member =
-    c.loop-name.invariant.onward false c.audit_name.new.client.member
-    (fetched_last c.args.names.now c.loop-name.name-index c.name-item.result c.bytes.result.now c.loop-name-test.true c.name-item.is c.bytes.ensures.bytes _ _ c.audit_name.ensures.called) in
-    search (rules, part)
+pub returns-in-Ok-false : goal.returns-in-Ok-false
+returns-in-Ok-false g c =
+    let W = g.W.Write.contents in
+    let old = talk c.loop-name.client.member (W c.loop-name.answers) in
+    let new = talk c.audit_name.new.client.member (W c.audit_name.new.answers) in
+    let none : c.in-Ok-false.field-0 ≡ false = search rules in
+    let it = subst (λ (b : Bool). AuditsName c.bytes.result.now old new (Ok b)) none c.in-Ok-false.ensures in
+    c.loop-name.invariant.onward false new
+    (audited_last c.args.names.now c.loop-name.name-index c.name-item.result c.bytes.result.now c.loop-name-test.true c.name-item.is c.bytes.ensures.bytes old new
+    (it.0, it.1, it.2.0, it.2.1, it.2.2))
 
-pub returns-then-not-branch-clause-whole : goal.returns-then-not-branch-clause-whole
-returns-then-not-branch-clause-whole g c =
-    c.loop-name.invariant.onward false c.audit_name.new.client.member
-    (fetched_last c.args.names.now c.loop-name.name-index c.name-item.result c.bytes.result.now c.loop-name-test.true c.name-item.is c.bytes.ensures.bytes _ _ c.audit_name.ensures.called)
+pub returns-in-Err : goal.returns-in-Err
+returns-in-Err g c =
+    let W = g.W.Write.contents in
+    let old = talk c.loop-name.client.member (W c.loop-name.answers) in
+    let new = talk c.audit_name.new.client.member (W c.audit_name.new.answers) in
+    let it = audited_unwritten c.args.names.now c.loop-name.name-index c.name-item.result c.bytes.result.now c.loop-name-test.true c.name-item.is c.bytes.ensures.bytes old new c.in-Err.fault
+    c.in-Err.ensures in
+    (it.0, it.1, c.loop-name.invariant.onward false (talk c.audit_name.new.client.member it.1) it.2)

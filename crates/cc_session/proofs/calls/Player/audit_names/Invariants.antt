@@ -1,10 +1,10 @@
--- Whatever is fetched of the names from here on, with what was fetched before, is fetched of all.
-use Rattle.std.proofs.Common.{◌≡◌, Bool, drop}
-use Rattle.cc_history.specs.History.{MemberView}
-use Rattle.cc_session.specs.Playing.{FetchesEach}
+-- Whatever is audited of the names from here on, with what was audited before, is an audit of all.
+use Rattle.std.proofs.Common.{Bool, drop}
+use Rattle.cc_session.specs.Playing.{AuditsEach, Talk, talk}
 use Rattle.cc_session.proofs.calls.Player.audit_names.Given as goal
 
 abbrev pub invariant-loop-name : goal.invariant-loop-name
 invariant-loop-name g l = record {
-  onward : (all : Bool) (new : MemberView) → FetchesEach (drop l.name-index l.names) all l.client.member new → FetchesEach l.names all l.initial.client.member new;
+  onward : (all : Bool) (new : Talk) → AuditsEach (drop l.name-index l.names) all (talk l.client.member (g.W.Write.contents l.answers)) new
+      → AuditsEach l.names all (talk l.initial.client.member (g.W.Write.contents l.initial.answers)) new;
 }

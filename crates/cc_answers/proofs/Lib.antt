@@ -1,0 +1,2 @@
+-- Writes that follow one another.
+pub mod Writing

@@ -1,0 +1,224 @@
+// What is written of an answer to a script, and what explains its faults. Each answer goes to `answers`, which is flushed after it; what helps a
+// person with a fault goes to `explanations`. If that cannot be written it is left out.
+
+ghost use Rattle.std.specs.Prelude.{◌≡◌, [], OnOk, codes};
+ghost use Rattle.std.specs.Io.KnownBytes.{Appends};
+ghost use Rattle.cc_answers.specs.Text.{fault_line, line, position_text, run_text};
+ghost use Rattle.cc_answers.specs.Telling.{Tells, audit_text, names_text, number_text, said_text, script_fault_text, unit_text, units_text};
+ghost use Rattle.cc_answers.specs.internal.Flushing.{Flushes};
+
+use crate::line::write_fault_line;
+use crate::run::{ImageRun, write_run};
+use crate::stands::{Stands, of_fault, write_told};
+use crate::words::{explain_words, words_of};
+use cc_library::Name;
+use cc_link::Audit;
+use cc_script::ScriptFault;
+use std::alloc::Global;
+use std::io::{self, Write};
+
+/// A refusal as it is written: its number, and its position in the source that was sent.
+#[derive(Clone, Copy, Drop)]
+pub struct Refusal<'a> {
+    pub number: u32,
+    pub stands: Stands<'a>,
+}
+
+// Flushes a writer after a write: 54 if one of the two failed.
+fn flushed<W: Write>(write: io::Result<()>, writer: &mut W) -> Result<(), ScriptFault>
+    ensures { Flushes write (W.contents writer.old) (W.contents writer.new) result }
+{
+    match write {
+        Ok(()) => match writer.flush() {
+            Ok(()) => Ok(()),
+            Err(_) => Err(ScriptFault::WriteFault),
+        },
+        Err(_) => Err(ScriptFault::WriteFault),
+    }
+}
+
+fn write_number<W: Write>(number: u64, writer: &mut W) -> io::Result<()>
+    ensures { OnOk result (Appends (W.contents writer.old) (W.contents writer.new) (number_text number)) }
+{
+    writeln!(writer, "ok {number}")
+}
+
+// Writes the name of a unit.
+#[tactic(auto, using(crate::proofs::Writing::written_third))]
+fn write_unit<W: Write>(name: &Name, writer: &mut W) -> io::Result<()>
+    ensures { OnOk result (Appends (W.contents writer.old) (W.contents writer.new) (unit_text name.now)) }
+{
+    writer.write_all(b"unit ")?;
+    writer.write_all(name.bytes())?;
+    writer.write_all(b"\n")
+}
+
+// Writes the names of units.
+fn write_units<W: Write>(names: &[Name], writer: &mut W) -> io::Result<()>
+    ensures { OnOk result (Appends (W.contents writer.old) (W.contents writer.new) (units_text names.now)) }
+{
+    for name in names {
+        write_unit(name, writer)?;
+    }
+    Ok(())
+}
+
+// Writes the names of a library's units and the receipt's number.
+#[tactic(auto, using(crate::proofs::Writing::written_on))]
+fn write_names<W: Write>(names: &[Name], number: u64, writer: &mut W) -> io::Result<()>
+    ensures { OnOk result (Appends (W.contents writer.old) (W.contents writer.new) (names_text names.now number)) }
+{
+    write_units(names, writer)?;
+    write_number(number, writer)
+}
+
+fn said_of(audit: Audit) -> &'static [u8]
+    ensures { result.now ≡ said_text audit }
+{
+    match audit {
+        Audit::Confirmed => b" confirmed\n",
+        Audit::NoCertificate => b" none\n",
+        Audit::Unconfirmed => b" unconfirmed\n",
+    }
+}
+
+// Writes what an audit says of a name's unit.
+#[tactic(auto, using(crate::proofs::Writing::written_third))]
+fn write_audit<W: Write>(name: &[u8], audit: Audit, writer: &mut W) -> io::Result<()>
+    ensures { OnOk result (Appends (W.contents writer.old) (W.contents writer.new) (audit_text name.now audit)) }
+{
+    writer.write_all(b"audit ")?;
+    writer.write_all(name)?;
+    writer.write_all(said_of(audit))
+}
+
+// Writes what is told of a refusal: words, or the place in the source that was sent.
+fn explain_refusal<W: Write>(
+    alloc: Global,
+    refusal: Refusal<'_>,
+    source: &[u8],
+    writer: &mut W,
+) -> io::Result<()> {
+    if words_of(refusal.number).is_some() {
+        return explain_words(refusal.number, writer);
+    }
+    write_told(of_fault(alloc, source, refusal.stands), source, writer)?;
+    writer.flush()
+}
+
+/// Writes the names of a library's units, and the number of the receipt that has them.
+#[tactic(auto, using(crate::proofs::Writing::told))]
+pub fn tell_names<W: Write>(names: &[Name], number: u64, answers: &mut W) -> Result<(), ScriptFault>
+    ensures { Tells (W.contents answers.old) (W.contents answers.new) (names_text names.now number) result }
+{
+    let write = write_names(names, number, answers);
+    flushed(write, answers)
+}
+
+/// Writes what a unit's image did.
+#[tactic(auto, using(crate::proofs::Writing::told))]
+pub fn tell_run<W: Write>(run: &ImageRun, answers: &mut W) -> Result<(), ScriptFault>
+    ensures { Tells (W.contents answers.old) (W.contents answers.new) (run_text run.now) result }
+{
+    let write = write_run(run, answers);
+    flushed(write, answers)
+}
+
+/// Writes what an audit says of a name's unit.
+#[tactic(auto, using(crate::proofs::Writing::told))]
+pub fn tell_audit<W: Write>(name: &[u8], audit: Audit, answers: &mut W) -> Result<(), ScriptFault>
+    ensures { Tells (W.contents answers.old) (W.contents answers.new) (audit_text name.now audit) result }
+{
+    let write = write_audit(name, audit, answers);
+    flushed(write, answers)
+}
+
+/// Writes lines that are there as a whole.
+#[tactic(auto, using(crate::proofs::Writing::told))]
+pub fn tell_text<W: Write>(text: &[u8], answers: &mut W) -> Result<(), ScriptFault>
+    ensures { Tells (W.contents answers.old) (W.contents answers.new) text.now result }
+{
+    let write = answers.write_all(text);
+    flushed(write, answers)
+}
+
+/// Writes that a change was made, and the number of its receipt.
+#[tactic(auto, using(crate::proofs::Writing::told))]
+pub fn tell_number<W: Write>(number: u64, answers: &mut W) -> Result<(), ScriptFault>
+    ensures { Tells (W.contents answers.old) (W.contents answers.new) (number_text number) result }
+{
+    let write = write_number(number, answers);
+    flushed(write, answers)
+}
+
+/// Writes that what was asked for is done.
+pub fn tell_ok<W: Write>(answers: &mut W) -> Result<(), ScriptFault>
+    ensures { Tells (W.contents answers.old) (W.contents answers.new) (line (codes "ok")) result }
+{
+    tell_text(b"ok\n", answers)
+}
+
+// Writes the line of a fault with this number.
+#[tactic(auto, using(crate::proofs::Writing::told))]
+fn tell_line<W: Write>(
+    number: u32,
+    stands: Stands<'_>,
+    source: &[u8],
+    answers: &mut W,
+) -> Result<(), ScriptFault>
+    ensures { Tells (W.contents answers.old) (W.contents answers.new) (fault_line number (position_text source.now stands.entry)) result }
+{
+    let write = write_fault_line(number, stands, source, answers);
+    flushed(write, answers)
+}
+
+// Writes the line of a fault of the script, if it has one.
+fn tell_script_fault<W: Write>(fault: ScriptFault, answers: &mut W) -> Result<(), ScriptFault>
+    ensures { Tells (W.contents answers.old) (W.contents answers.new) (script_fault_text fault) result }
+{
+    let number = fault.number();
+    if number == 54 {
+        return Ok(());
+    }
+    tell_line(number, Stands::Nowhere, &[], answers)
+}
+
+/// Writes the line of a fault of the script, and explains it. 54, a fault of the answers, has no line.
+pub fn tell_fault<W: Write, E: Write>(
+    fault: ScriptFault,
+    answers: &mut W,
+    explanations: &mut E,
+) -> Result<(), ScriptFault>
+    ensures { Tells (W.contents answers.old) (W.contents answers.new) (script_fault_text fault) result }
+{
+    let answer = tell_script_fault(fault, answers);
+    let _ = explain_words(fault.number(), explanations);
+    answer
+}
+
+/// Writes that memory ran out, 40, and explains it.
+pub fn tell_no_memory<W: Write, E: Write>(
+    answers: &mut W,
+    explanations: &mut E,
+) -> Result<(), ScriptFault>
+    ensures { Tells (W.contents answers.old) (W.contents answers.new) (fault_line 40 []) result }
+{
+    let answer = tell_line(40, Stands::Nowhere, &[], answers);
+    let _ = explain_words(40, explanations);
+    answer
+}
+
+/// Writes the line of a refusal for the source that was sent, and explains it: by words, or by its place in the source.
+pub fn tell_refusal<W: Write, E: Write>(
+    alloc: Global,
+    refusal: Refusal<'_>,
+    source: &[u8],
+    answers: &mut W,
+    explanations: &mut E,
+) -> Result<(), ScriptFault>
+    ensures { Tells (W.contents answers.old) (W.contents answers.new) (fault_line refusal.entry.number (position_text source.now refusal.entry.stands)) result }
+{
+    let answer = tell_line(refusal.number, refusal.stands, source, answers);
+    let _ = explain_refusal(alloc, refusal, source, explanations);
+    answer
+}

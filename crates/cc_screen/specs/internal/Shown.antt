@@ -1,0 +1,21 @@
+-- What a terminal is shown of the bytes that are printed: of each control byte a question mark.
+use Rattle.std.specs.Prelude.{ℕ, Bool, ◌&&◌, ◌||◌, ◌==◌, not, nat_le, nat_lt, if◌then◌else◌, List, [], ◌∷◌}
+
+-- 0 to 31 but tab and newline, 127, and 128 to 159 after a byte with which it is no part of another character
+abbrev pub is_control : (before byte : ℕ) → Bool
+is_control before byte =
+    ((nat_lt byte 32 && not ((byte == 9) || (byte == 10))) || (byte == 127))
+    || ((nat_le 128 byte && nat_lt byte 160) && (nat_lt before 128 || (before == 194)))
+
+abbrev pub shown_byte : (before byte : ℕ) → ℕ
+shown_byte before byte = if is_control before byte then 63 else byte
+
+-- the bytes as they are shown after this one
+abbrev pub shown : (before : ℕ) → List ℕ → List ℕ
+shown before [] = []
+shown before (byte ∷ bytes) = shown_byte before byte ∷ shown byte bytes
+
+-- the last of these bytes, or the one before them
+abbrev pub last_of : (before : ℕ) → List ℕ → ℕ
+last_of before [] = before
+last_of before (byte ∷ bytes) = last_of byte bytes

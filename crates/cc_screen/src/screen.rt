@@ -1,0 +1,86 @@
+// A writer before a terminal.
+
+ghost use Rattle.std.specs.Prelude.{◌≡◌, true, false, None, IfOk, if◌then◌else◌, take};
+ghost use Rattle.std.specs.Io.{WritesAtMost};
+ghost use Rattle.std.specs.Io.KnownBytes.{Appends, WriteAppends};
+ghost use Rattle.cc_screen.specs.internal.Shown.{is_control, last_of, shown, shown_byte};
+
+use std::io::{self, Write};
+
+/// A writer that may be a terminal. One that is gets `?` for each control byte but newline and tab. What it holds is said of one that is none.
+#[derive(Drop)]
+pub struct Screen<W: Drop> {
+    writer: W,
+    is_terminal: bool,
+    // The last byte that was taken: 0 at first.
+    last: u8,
+}
+
+// Whether a terminal takes a byte for a control character. From 128 to 159 it does, unless the byte goes on with another character in UTF-8: one
+// that 194 begins with it is a control character too.
+fn is_control(before: u8, byte: u8) -> bool
+    ensures { result ≡ is_control before byte }
+{
+    (byte < 32 && !(byte == b'\t' || byte == b'\n'))
+        || byte == 127
+        || ((128 <= byte && byte < 160) && (before < 128 || before == 194))
+}
+
+// What a terminal is shown of a byte.
+fn shown_byte(before: u8, byte: u8) -> u8
+    ensures { result ≡ shown_byte before byte }
+{
+    if is_control(before, byte) { b'?' } else { byte }
+}
+
+impl<W: Write + Drop> Screen<W> {
+    /// Before this writer, which is a terminal or not.
+    pub fn new(writer: W, is_terminal: bool) -> Screen<W>
+        ensures writer { result.writer ≡ writer }
+        ensures terminal { result.is_terminal ≡ is_terminal }
+        ensures last { result.last ≡ 0 }
+    {
+        Screen {
+            writer,
+            is_terminal,
+            last: 0,
+        }
+    }
+
+    // Shows the first of these bytes, if there is one; how many that were.
+    fn show(&mut self, bytes: &[u8]) -> io::Result<usize>
+        ensures bound { WritesAtMost result bytes.now }
+        ensures shown { IfOk result (λ count. Appends (W.contents self.old.writer) (W.contents self.new.writer) (shown self.old.last (take count bytes.now))) }
+        ensures last { IfOk result (λ count. self.new.last ≡ last_of self.old.last (take count bytes.now)) }
+        ensures terminal { self.new.is_terminal ≡ self.old.is_terminal }
+    {
+        let Some(byte) = bytes.first() else {
+            return self.writer.write(&[]);
+        };
+        let one = [shown_byte(self.last, *byte)];
+        match self.writer.write(&one) {
+            Ok(0) => Ok(0),
+            Ok(count) => {
+                self.last = *byte;
+                Ok(count)
+            }
+            Err(error) => Err(error),
+        }
+    }
+}
+
+impl<W: Write + Drop> Write for Screen<W> {
+    ghost contents = { λ s. if s.is_terminal then None else W.contents s.writer };
+
+    fn write(&mut self, bytes: &[u8]) -> io::Result<usize> {
+        if self.is_terminal {
+            self.show(bytes)
+        } else {
+            self.writer.write(bytes)
+        }
+    }
+
+    fn flush(&mut self) -> io::Result<()> {
+        self.writer.flush()
+    }
+}

@@ -1,0 +1,133 @@
+-- A client that has called keeps its number and its receipts.
+use Rattle.std.proofs.Common.{◌≡◌, ◌∙◌, List, [], ◌∷◌, ◌++◌, ℕ, Bool, true, false, Result, Ok, Err, refl, sym, ap, subst, append_assoc, inl, inr}
+use Rattle.std.proofs.lemmas.List.{append-nil}
+use Rattle.cc_script.specs.declared.fault.ScriptFault.{ScriptFault}
+use Rattle.cc_history.specs.declared.command.Asked.{Asked}
+use Rattle.cc_history.specs.declared.command.Asked.TheVariants.{Change, Fetch, Names}
+use Rattle.cc_history.specs.declared.command.Command.{Command}
+use Rattle.cc_history.specs.declared.entry.Receipt.{Receipt}
+use Rattle.cc_history.specs.declared.reply.Reply.{Reply}
+use Rattle.cc_history.specs.declared.reply.Reply.TheVariants as reply
+use Rattle.cc_history.specs.History.{IsAnswered, MemberView}
+use Rattle.cc_service.specs.Serving.{GetAnswers, IsNotFound, IsTurnedAway, IsTurnedDown, ListAnswers, PutAnswers, WithdrawAnswers, Withdraws}
+use Rattle.cc_service.specs.book_fault.BookFault.{BookFault}
+use Rattle.cc_service.specs.book_fault.BookFault.TheVariants as book
+use Rattle.cc_service.specs.declared.fault.ServiceFault.{ServiceFault}
+use Rattle.cc_service.specs.declared.fault.ServiceFault.TheVariants as service
+use Rattle.cc_session.specs.Playing.{Audits, AuditsEach, EndsAudit, Grows, Talk, talk}
+use Rattle.cc_session.specs.internal.Calls.{DoesAndTells}
+
+pub grows_same : (old new : MemberView) → new ≡ old → Grows old new
+grows_same old new same = subst (λ (m : MemberView). Grows old m) (sym same) (refl, ([], sym (append-nil old.receipts)))
+
+pub grows_on : (a b c : MemberView) → Grows a b → Grows b c → Grows a c
+grows_on a b c one two = (
+  two.0 ∙ one.0,
+  (
+    one.1.0 ++ two.1.0,
+    two.1.1 ∙ (ap (λ (l : List Receipt). l ++ two.1.0) one.1.1 ∙ append_assoc a.receipts one.1.0 two.1.0),
+  ),
+)
+
+grows_answered : (old : MemberView) (asked : Asked) (answer : Reply) (new : MemberView) (receipt : Receipt) → IsAnswered old asked answer new receipt → Grows old new
+grows_answered old asked answer new receipt it = subst (λ (m : MemberView). Grows old m) (sym it.receipts) (refl, (receipt ∷ [], refl))
+
+-- ---- each call
+
+turned_down : (Asks : Command → Type 0) (old new : MemberView) (fault : BookFault) → IsTurnedDown Asks old new fault → Grows old new
+turned_down Asks old new (book.Exists receipt) it = grows_answered old (Change it.command) reply.Exists new receipt it.answered
+turned_down Asks old new (book.Absent receipt) it = grows_answered old (Change it.command) reply.Absent new receipt it.answered
+turned_down Asks old new (book.Estranged number found) it = grows_same old new it.1
+turned_down Asks old new book.Full it = grows_same old new it
+turned_down Asks old new book.DiskFault it = grows_same old new it
+turned_down Asks old new book.Closed it = grows_same old new it
+turned_down Asks old new book.OutOfMemory it = grows_same old new it
+
+pub put_grows : (Asks : Command → Type 0) (name source : List ℕ) (old new : MemberView) (answer : Result Receipt ServiceFault) → PutAnswers Asks name source old new answer → Grows old new
+put_grows Asks name source old new (Ok receipt) it = grows_answered old (Change it.2.command) reply.Done new receipt it.2.answered
+put_grows Asks name source old new (Err service.BadName) it = grows_same old new it.1
+put_grows Asks name source old new (Err (service.Text f)) it = grows_same old new it.2
+put_grows Asks name source old new (Err (service.Piece function f)) it = grows_same old new it.2
+put_grows Asks name source old new (Err service.WorkersGone) it = grows_same old new it.2
+put_grows Asks name source old new (Err service.ImageTooLarge) it = grows_same old new it.2
+put_grows Asks name source old new (Err service.OutOfMemory) it = grows_same old new it.1
+put_grows Asks name source old new (Err (service.Book f)) it = turned_down Asks old new f it.2
+put_grows Asks name source old new (Err (service.Opening f)) it = absurd it
+put_grows Asks name source old new (Err service.TooManyClients) it = absurd it
+
+pub withdraw_grows : (name : List ℕ) (old new : MemberView) (answer : Result Receipt ServiceFault) → WithdrawAnswers name old new answer → Grows old new
+withdraw_grows name old new (Ok receipt) it = grows_answered old (Change it.1.command) reply.Done new receipt it.1.answered
+withdraw_grows name old new (Err service.BadName) it = grows_same old new it.1
+withdraw_grows name old new (Err (service.Book f)) it = turned_down (Withdraws name) old new f it.1
+withdraw_grows name old new (Err (service.Text f)) it = absurd it
+withdraw_grows name old new (Err (service.Piece function f)) it = absurd it
+withdraw_grows name old new (Err service.WorkersGone) it = absurd it
+withdraw_grows name old new (Err service.ImageTooLarge) it = absurd it
+withdraw_grows name old new (Err service.OutOfMemory) it = absurd it
+withdraw_grows name old new (Err (service.Opening f)) it = absurd it
+withdraw_grows name old new (Err service.TooManyClients) it = absurd it
+
+turned_away : (old new : MemberView) (fault : BookFault) → IsTurnedAway old new fault → Grows old new
+turned_away old new (book.Estranged number found) it = grows_same old new it.1
+turned_away old new book.OutOfMemory it = grows_same old new it
+turned_away old new (book.Exists receipt) it = absurd it
+turned_away old new (book.Absent receipt) it = absurd it
+turned_away old new book.Full it = absurd it
+turned_away old new book.DiskFault it = absurd it
+turned_away old new book.Closed it = absurd it
+
+not_found : (name : List ℕ) (old new : MemberView) (fault : BookFault) → IsNotFound name old new fault → Grows old new
+not_found name old new (book.Absent receipt) it = grows_answered old (Fetch name) reply.Absent new receipt it
+not_found name old new (book.Estranged number found) it = grows_same old new it.1
+not_found name old new book.OutOfMemory it = grows_same old new it
+not_found name old new (book.Exists receipt) it = absurd it
+not_found name old new book.Full it = absurd it
+not_found name old new book.DiskFault it = absurd it
+not_found name old new book.Closed it = absurd it
+
+pub get_grows : (name : List ℕ) (old new : MemberView) (answer : Result Receipt ServiceFault) → GetAnswers name old new answer → Grows old new
+get_grows name old new (Ok receipt) it = grows_answered old (Fetch name) receipt.entry.reply new receipt it.2
+get_grows name old new (Err service.BadName) it = grows_same old new it.1
+get_grows name old new (Err (service.Book f)) it = not_found name old new f it.1
+get_grows name old new (Err (service.Text f)) it = absurd it
+get_grows name old new (Err (service.Piece function f)) it = absurd it
+get_grows name old new (Err service.WorkersGone) it = absurd it
+get_grows name old new (Err service.ImageTooLarge) it = absurd it
+get_grows name old new (Err service.OutOfMemory) it = absurd it
+get_grows name old new (Err (service.Opening f)) it = absurd it
+get_grows name old new (Err service.TooManyClients) it = absurd it
+
+pub list_grows : (old new : MemberView) (answer : Result Receipt ServiceFault) → ListAnswers old new answer → Grows old new
+list_grows old new (Ok receipt) it = grows_answered old Names receipt.entry.reply new receipt it.1
+list_grows old new (Err (service.Book f)) it = turned_away old new f it
+list_grows old new (Err service.BadName) it = absurd it
+list_grows old new (Err (service.Text f)) it = absurd it
+list_grows old new (Err (service.Piece function f)) it = absurd it
+list_grows old new (Err service.WorkersGone) it = absurd it
+list_grows old new (Err service.ImageTooLarge) it = absurd it
+list_grows old new (Err service.OutOfMemory) it = absurd it
+list_grows old new (Err (service.Opening f)) it = absurd it
+list_grows old new (Err service.TooManyClients) it = absurd it
+
+-- ---- an audit
+
+audited_grows : (names : List (List ℕ)) (all : Bool) (old new : Talk) → AuditsEach names all old new → Grows old.client new.client
+audited_grows [] true old new it = grows_same old.client new.client (ap (λ (t : Talk). t.client) it)
+audited_grows [] false old new it = absurd it
+audited_grows (name ∷ names) all old new (inl last) = get_grows name old.client new.client last.1.0 last.1.1
+audited_grows (name ∷ names) all old new (inr on) =
+    grows_on old.client on.0.client new.client (get_grows name old.client on.0.client on.1.0 on.1.1) (audited_grows names all on.0 new on.2)
+
+ended_grows : (all : Bool) (old new : Talk) → EndsAudit all old new → Grows old.client new.client
+ended_grows true old new it = grows_same old.client new.client it.0
+ended_grows false old new it = grows_same old.client new.client (ap (λ (t : Talk). t.client) it)
+
+audits_grow : (old new : Talk) → Audits old new → Grows old.client new.client
+audits_grow old new (inl refused) = list_grows old.client new.client refused.0 refused.1
+audits_grow old new (inr it) =
+    grows_on old.client it.heard new.client (list_grows old.client it.heard (Ok it.receipt) it.listed)
+    (grows_on it.heard it.last.client new.client (audited_grows it.names it.all (talk it.heard old.written) it.last it.audited) (ended_grows it.all it.last new it.ended))
+
+pub audit_grows : {T : Type 0} (answer : Result T ScriptFault) (old new : Talk) → DoesAndTells Audits old new answer → Grows old.client new.client
+audit_grows (Ok done) old new it = audits_grow old new it
+audit_grows (Err fault) old new it = audits_grow old (talk new.client it.1) it.2

@@ -1,0 +1,62 @@
+// How far a script may go: by its lines, and by what the receipts hold that its client got for them, which is counted along.
+
+ghost use Rattle.cc_history.specs.History.{MemberView};
+ghost use Rattle.cc_session.specs.Playing.{Grows};
+ghost use Rattle.cc_session.specs.internal.Steps.{CountsSince, IsLimit};
+
+use crate::patience::Patience;
+use cc_script::ScriptFault;
+use cc_service::{Client, Named};
+
+// The most bytes that these receipts may hold where a further line of a script is begun that has a bound.
+const MOST_HELD: u64 = 268_435_456;
+
+// What a client's receipts hold that it got since a script was begun: how many receipts it had when they were last counted, and the bytes of
+// the new ones.
+#[derive(Drop)]
+pub(crate) struct Held {
+    seen: usize,
+    bytes: u64,
+}
+
+impl Held {
+    // Of a script of which nothing has been done.
+    #[tactic(auto, using(crate::proofs::Weighing::counts_none))]
+    pub(crate) fn new<N: Named>(client: &Client<N>) -> Held
+        ensures { CountsSince client.now.member.receipts client.now.member.receipts result }
+    {
+        Held {
+            seen: client.receipts().len(),
+            bytes: 0,
+        }
+    }
+
+    // Counts the receipts that the client has got since they were last counted.
+    #[tactic(auto, using(crate::proofs::Weighing::counts_on))]
+    pub(crate) fn count<N: Named>(&mut self, client: &Client<N>)
+        ensures { (first old : MemberView) → CountsSince first.receipts old.receipts self.old → Grows old client.now.member
+            → CountsSince first.receipts client.now.member.receipts self.new }
+    {
+        self.bytes = self.bytes.saturating_add(client.held_since(self.seen));
+        self.seen = client.receipts().len();
+    }
+
+    // The fault that ends a script behind so many lines where more of it is left; none where a further line may be done.
+    #[tactic(auto, using(crate::proofs::Weighing::much, crate::proofs::Weighing::light))]
+    pub(crate) fn limit<P: Patience>(
+        &self,
+        most: Option<usize>,
+        lines: usize,
+        patience: &P,
+    ) -> Option<ScriptFault>
+        ensures { (first now : MemberView) → CountsSince first.receipts now.receipts self.now → IsLimit most first lines now result }
+    {
+        match most {
+            Some(most) if most == lines || MOST_HELD < self.bytes => {
+                Some(ScriptFault::ScriptTooLong)
+            }
+            Some(_) if 0 < lines && patience.is_out() => Some(ScriptFault::Stopped),
+            Some(_) | None => None,
+        }
+    }
+}

@@ -1,0 +1,157 @@
+// The sources of a script's next commands, handed to the workers before their turn.
+//
+// What a script's reader has given already is looked through for them. Nothing is read for that, so a script that somebody types line by line is
+// answered line by line. What was handed in is a hint: at its turn the source of a command is compared with it, and a hint that was refused, or
+// whose memory or worker is gone, is as if there were none. So answers and their order are those of a script whose sources are compiled one by one.
+
+ghost use Rattle.std.specs.Prelude.{◌≡◌, IfSome};
+
+use cc_disk::Disk;
+use cc_script::{Dialect, LINE_BYTES, ScriptCommand, command_of};
+use cc_service::{Client, Named, Prepared, Service};
+use std::alloc::Global;
+use std::collections::VecDeque;
+use std::sync::Wait;
+
+/// The most sources that are handed in before their turn.
+const MOST_SOURCES: usize = 4;
+
+/// How many functions of such sources are enough: no further source is handed in.
+const ENOUGH_FUNCTIONS: usize = 16;
+
+// A source that was handed in, and how many bytes of the script will have been read when it and its newline have.
+#[derive(Drop)]
+struct Hint<N: Named> {
+    at: usize,
+    prepared: Prepared<N>,
+}
+
+// The sources that were handed in, in the order of their commands.
+#[derive(Drop)]
+pub(crate) struct Hints<N: Named> {
+    hints: VecDeque<Hint<N>>,
+    // Up to which byte the script was looked through.
+    looked: usize,
+}
+
+// The line that begins at a byte, without its newline; none if it is not there as a whole, or is too long.
+fn line_at(held: &[u8], begin: usize) -> Option<&[u8]> {
+    let rest = held.get(begin..).unwrap_or(b"");
+    let few = rest.get(..=LINE_BYTES).unwrap_or(rest);
+    match few.iter().position(|byte| *byte == b'\n') {
+        Some(end) => few.get(..end),
+        None => None,
+    }
+}
+
+// Where the next source stands that is there as a whole, with the newline after it: where it begins, and where it ends.
+fn next_source(held: &[u8], from: usize) -> Option<(usize, usize)> {
+    let mut begin = from;
+    for _ in 0..held.len() {
+        let Some(line) = line_at(held, begin) else {
+            return None;
+        };
+        let next = begin.saturating_add(line.len()).saturating_add(1);
+        match command_of(Dialect::Served, line) {
+            Some(ScriptCommand::Add { name: _, length })
+            | Some(ScriptCommand::Replace { name: _, length }) => {
+                let end = next.saturating_add(length);
+                return match held.get(end) {
+                    Some(byte) if *byte == b'\n' => Some((next, end)),
+                    _ => None,
+                };
+            }
+            _ => begin = next,
+        }
+    }
+    None
+}
+
+impl<N: Named + Send + Sync + 'static> Hints<N> {
+    pub(crate) fn new(alloc: Global) -> Hints<N> {
+        Hints {
+            hints: VecDeque::new(alloc),
+            looked: 0,
+        }
+    }
+
+    // Lets all go.
+    pub(crate) fn forget(&mut self) {
+        self.hints.clear();
+    }
+
+    // Whether no more are to be handed in.
+    fn is_full(&self) -> bool {
+        let mut functions = 0usize;
+        for hint in self.hints.iter() {
+            functions = functions.saturating_add(hint.prepared.functions());
+        }
+        MOST_SOURCES <= self.hints.len() || ENOUGH_FUNCTIONS <= functions
+    }
+
+    // What was handed in of a source, which was read up to here, if it is this one. Those of commands before it are let go.
+    pub(crate) fn take(&mut self, at: usize, source: &[u8]) -> Option<Prepared<N>>
+        ensures { IfSome result (λ prepared. prepared ≡ source.now) }
+    {
+        for _ in 0..self.hints.len() {
+            match self.hints.front() {
+                Some(hint) if hint.at <= at => {}
+                _ => return None,
+            }
+            let Some(Hint { at: its, prepared }) = self.hints.pop_front() else {
+                return None;
+            };
+            if its == at && prepared.text() == source {
+                return Some(prepared);
+            }
+            drop(prepared);
+        }
+        None
+    }
+
+    // Hands the sources of the next commands to the workers, of a script that was read up to here and of which these bytes are there.
+    pub(crate) fn look_ahead<H: Wait, D: Disk>(
+        &mut self,
+        rt: &H,
+        alloc: Global,
+        service: &Service<N, D>,
+        client: &mut Client<N>,
+        at: usize,
+        held: &[u8],
+    )
+        ensures { client.new.member ≡ client.old.member }
+    {
+        self.looked = self.looked.max(at);
+        for _ in 0..MOST_SOURCES {
+            if self.is_full() {
+                return;
+            }
+            let Some((begin, end)) = next_source(held, self.looked.saturating_sub(at)) else {
+                return;
+            };
+            self.looked = at.saturating_add(end).saturating_add(1);
+            let source = held.get(begin..end).unwrap_or(b"");
+            self.hand_in(rt, alloc, service, client, source);
+        }
+    }
+
+    // Hands a source to the workers, up to whose newline the script was looked through.
+    fn hand_in<H: Wait, D: Disk>(
+        &mut self,
+        rt: &H,
+        alloc: Global,
+        service: &Service<N, D>,
+        client: &mut Client<N>,
+        source: &[u8],
+    )
+        ensures { client.new.member ≡ client.old.member }
+    {
+        match service.prepare(rt, alloc, client, source) {
+            Ok(prepared) => {
+                let at = self.looked;
+                let _ = self.hints.push_back(Hint { at, prepared });
+            }
+            Err(fault) => drop(fault),
+        }
+    }
+}

@@ -1,0 +1,90 @@
+// Whether a script is to end though more of it is left, and the run of an image, at which that is asked from time to time.
+
+ghost use Rattle.std.specs.Prelude.{◌+◌, ℕ, [], IfOk};
+ghost use Rattle.cc_rv32.specs.Simulation.{IsAfter};
+ghost use Rattle.cc_answers.specs.Run.{IsRunOf};
+ghost use Rattle.cc_session.specs.internal.Calls.{IsRunOrCut};
+
+use crate::bounds::Meter;
+use cc_answers::ImageRun;
+use cc_rv32::image::Image;
+use cc_rv32::machine::Machine;
+use cc_rv32::outcome::MachineOutcome;
+use cc_spool::Spool;
+use std::alloc::{AllocError, Global};
+
+// How many instructions of a run are done between two looks at whether others wait.
+const SLICE: u64 = 10_000_000;
+
+// Who says whether a script is to end.
+pub(crate) trait Patience {
+    // Whether it is to end now. It is asked after each line, and behind each slice of a run.
+    fn is_out(&self) -> bool;
+}
+
+// Nobody waits.
+#[derive(Drop)]
+pub(crate) struct Unhurried;
+
+impl Patience for Unhurried {
+    fn is_out(&self) -> bool {
+        false
+    }
+}
+
+// Others wait for a script of a spool's.
+#[derive(Drop)]
+pub(crate) struct Others<'a, S> {
+    pub(crate) spool: &'a S,
+    pub(crate) meter: &'a Meter,
+}
+
+impl<'a, S: Spool> Patience for Others<'a, S> {
+    // It has been at work for long, and a script waits, or the server or the generation is to end.
+    fn is_out(&self) -> bool {
+        self.spool.is_long() && (self.spool.is_awaited() || self.meter.is_full())
+    }
+}
+
+// What a machine has written and come to behind so many instructions more.
+fn run_to_end(alloc: Global, machine: &mut Machine, steps: u64) -> Result<ImageRun, AllocError>
+    ensures { IfOk result (λ run. (image : Image) (done : ℕ) → IsAfter image [] done machine.old → IsRunOf image (done + steps) [] run) }
+{
+    let Ok(outcome) = machine.run(steps) else {
+        return Err(AllocError);
+    };
+    match Vec::from_slice(alloc, machine.output()) {
+        Ok(output) => Ok(ImageRun { output, outcome }),
+        Err(_) => Err(AllocError),
+    }
+}
+
+// What an image does on no input within this many instructions, as `run_image` says. None if it may stop and is to, behind a slice: then it is
+// not at its end.
+pub(crate) fn run_in_slices<P: Patience>(
+    alloc: Global,
+    image: &Image,
+    steps: u64,
+    may_stop: bool,
+    patience: &P,
+) -> Result<Option<ImageRun>, AllocError>
+    ensures { IfOk result (IsRunOrCut may_stop image.now steps) }
+{
+    let Ok(mut machine) = Machine::new(alloc, image, &[]) else {
+        return Err(AllocError);
+    };
+    let mut left = steps;
+    while SLICE < left {
+        let Ok(outcome) = machine.run(SLICE) else {
+            return Err(AllocError);
+        };
+        left -= SLICE;
+        if may_stop && outcome == MachineOutcome::Going && patience.is_out() {
+            return Ok(None);
+        }
+    }
+    match run_to_end(alloc, &mut machine, left) {
+        Ok(run) => Ok(Some(run)),
+        Err(_) => Err(AllocError),
+    }
+}

@@ -1,0 +1,18 @@
+-- What a spool gave, and what it was handed.
+use Rattle.std.specs.Prelude.{ℕ, List, Option}
+
+-- a script that was taken: its bytes, and what the writer of its answer held then, if these are known
+pub record Taken : Type 0 where
+  pub script : Option (List ℕ)
+  pub begun : Option (List ℕ)
+
+abbrev pub taken_as : (script begun : Option (List ℕ)) → Taken
+taken_as script begun = record { script = script; begun = begun }
+
+-- an answer that was handed over: what its writer holds, if that is known; and the number of the fault that ended its script, 51 to 54 or 61, if one did
+pub record Delivered : Type 0 where
+  pub answer : Option (List ℕ)
+  pub end : Option ℕ
+
+abbrev pub delivered_as : (answer : Option (List ℕ)) (end : Option ℕ) → Delivered
+delivered_as answer end = record { answer = answer; end = end }

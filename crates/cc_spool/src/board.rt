@@ -1,0 +1,403 @@
+// What waits in `new`, as all clients of one server know it.
+//
+// One client at a time looks through `new`, and all clients take the names that it found, the least first, each once. A look costs as much as
+// `new` has entries, and anybody may put entries there that can't be claimed. So no look is made while `new` is what it was, and a name that
+// could not be claimed is passed over for a while, which doubles each time. Then it is tried again without a look, after the names that were
+// never tried, and with so many others a second at most: so names that can't be claimed take no more of a processor the more they are, and a
+// script waits for few of them. If there are more names than are kept, and none of these could be claimed, the next look is for the names
+// after them: so names that can't be claimed hide no script.
+
+use crate::claims::may_be_claimed;
+use crate::entries::Entry;
+use crate::layout::FolderLayout;
+use crate::names::{is_plain, since_1970};
+use crate::refusal::Refusal;
+use std::alloc::Global;
+use std::cmp::Ordering;
+use std::mem;
+use std::time::{Duration, Instant};
+
+/// The most entries of `new` that are looked at in one go, whatever they are.
+pub const MOST_ENTRIES: usize = 1_048_576;
+
+/// The most names that are kept of a look, the least ones, and the most that are passed over.
+const MOST_NAMES: usize = 131_072;
+
+/// For how long a name is passed over that could not be claimed, in seconds: at first, and at most.
+const LEAST_PASS: u64 = 1;
+
+const MOST_PASS: u64 = 30;
+
+/// A look is made after so many seconds even if `new` is what it was.
+const LOOK_AGAIN: u64 = 10;
+
+/// The most names that were passed over and are tried again in one go, and the pause between two of these, in seconds. All that are kept are
+/// tried in less than the longest pass.
+const MOST_AGAIN: usize = 5_000;
+
+const AGAIN: u64 = 1;
+
+/// The most names that are looked at when it is asked whether a script waits.
+const MOST_LOOKED: usize = 64;
+
+/// How many seconds after the last change of `new` a look has to begin so that it saw all: a change within the clock's grain has the same time.
+const GRAIN: u64 = 1;
+
+/// How many times as long as it took a look that may not have seen all is not made again, while `new` is what it was.
+const REST: u32 = 16;
+
+/// A name that may be a script's.
+#[derive(Drop)]
+pub(crate) struct Candidate {
+    pub(crate) name: String,
+    // For how long it was passed over the last time, in seconds: 0 if it was not.
+    passed: u64,
+}
+
+// A name that could not be claimed.
+#[derive(Drop)]
+struct Passed {
+    // By which it is found: each name of a look is looked for among all of these, and numbers are compared sooner than names.
+    key: u64,
+    name: String,
+    // For how long it is passed over, in seconds, and until when.
+    pass: u64,
+    until: Instant,
+    // Whether the look that is being made saw it.
+    is_seen: bool,
+}
+
+// A look that was made.
+#[derive(Clone, Copy, Drop)]
+struct Look {
+    began: Instant,
+    // When `new` had been changed last: the seconds since 1970, and the nanoseconds after these.
+    changed: (i64, i64),
+    // Whether it kept all that it saw.
+    is_all: bool,
+    // Whether it began long enough after that change to have seen all; if not, when it is to be made again.
+    is_settled: bool,
+    again: Instant,
+}
+
+/// The names that wait, and those that are passed over.
+#[derive(Drop)]
+pub(crate) struct Board {
+    // The names that are to be tried, the least last.
+    waiting: Vec<Candidate>,
+    // Those that were passed over and are to be tried after these.
+    again: Vec<Candidate>,
+    // Those that are passed over, in the order of their keys, and of one key in that of the names.
+    passed: Vec<Passed>,
+    // Those that came to be passed over since the last look.
+    fresh: Vec<Passed>,
+    // The first moment at which one of these is to be tried again, and the last one at which some were.
+    next_try: Option<Instant>,
+    tried: Option<Instant>,
+    // After which name to look, if there were more than are kept, and none of those could be claimed.
+    from: Option<String>,
+    last: Option<Look>,
+}
+
+// The key of a name. Names that have one key are told apart all the same.
+fn key_of(name: &str) -> u64 {
+    let mut key = 0xcbf2_9ce4_8422_2325u64;
+    for byte in name.as_bytes() {
+        key = (key ^ u64::from(*byte)).wrapping_mul(0x0100_0000_01b3);
+    }
+    key
+}
+
+impl Passed {
+    // Whether it comes before a name that has this key, or after it.
+    fn order(&self, key: u64, name: &str) -> Ordering {
+        match self.key.cmp(&key) {
+            Ordering::Equal => self.name.as_str().cmp(name),
+            other => other,
+        }
+    }
+}
+
+// The earlier of two moments, of which the first may not be.
+fn earlier(first: Option<Instant>, other: Instant) -> Option<Instant> {
+    match first {
+        Some(first) if first <= other => Some(first),
+        _ => Some(other),
+    }
+}
+
+// The first moment at which one of these is to be tried again.
+fn first_try(passed: &[Passed]) -> Option<Instant> {
+    let mut first = None;
+    for it in passed {
+        first = earlier(first, it.until);
+    }
+    first
+}
+
+// Brings names back that are to be tried again now, as long as there are fewer than so many.
+fn bring_back(passed: &mut Vec<Passed>, again: &mut Vec<Candidate>, alloc: Global, now: Instant) {
+    for it in passed.iter_mut() {
+        if again.len() < MOST_AGAIN && it.until <= now {
+            let name = mem::replace(&mut it.name, String::new(alloc));
+            // If there is no memory it is found by the next look.
+            let _ = again.push(Candidate {
+                name,
+                passed: it.pass,
+            });
+        }
+    }
+    passed.retain(|it| !it.name.is_empty());
+}
+
+impl Board {
+    pub(crate) fn new(alloc: Global) -> Board {
+        Board {
+            waiting: Vec::new(alloc),
+            again: Vec::new(alloc),
+            passed: Vec::new(alloc),
+            fresh: Vec::new(alloc),
+            next_try: None,
+            tried: None,
+            from: None,
+            last: None,
+        }
+    }
+
+    /// The next name that is to be tried, after a look if one is due; none if nothing is known to wait.
+    pub(crate) fn take(
+        &mut self,
+        layout: &FolderLayout,
+        now: Instant,
+    ) -> Result<Option<Candidate>, Refusal> {
+        if self.waiting.is_empty() && self.again.is_empty() {
+            self.look_if_due(layout, now)?;
+            self.bring_back_if_due(layout.alloc, now);
+        }
+        match self.waiting.pop() {
+            Some(candidate) => Ok(Some(candidate)),
+            None => Ok(self.again.pop()),
+        }
+    }
+
+    /// Whether a script waits that can be claimed. Only so many names are looked at, and the next call goes on after them.
+    pub(crate) fn has_claimable(&mut self, layout: &FolderLayout) -> Result<bool, Refusal> {
+        let now = Instant::now(&layout.rt)?;
+        for _ in 0..MOST_LOOKED {
+            let Some(candidate) = self.take(layout, now)? else {
+                return Ok(false);
+            };
+            match may_be_claimed(layout, candidate.name.as_str()) {
+                Some(true) => {
+                    // There is room, since it was taken from there.
+                    let _ = self.waiting.push(candidate);
+                    return Ok(true);
+                }
+                Some(false) => self.pass_over(candidate, now),
+                None => {}
+            }
+        }
+        Ok(false)
+    }
+
+    /// Passes over a name that could not be claimed.
+    pub(crate) fn pass_over(&mut self, candidate: Candidate, now: Instant) {
+        let Candidate { name, passed } = candidate;
+        if MOST_NAMES <= self.passed.len().saturating_add(self.fresh.len()) {
+            drop(name);
+            return;
+        }
+        let pass = if passed == 0 {
+            LEAST_PASS
+        } else {
+            passed.saturating_mul(2).min(MOST_PASS)
+        };
+        let until = now.checked_add(Duration::from_secs(pass)).unwrap_or(now);
+        self.next_try = earlier(self.next_try, until);
+        // If there is no memory it is tried at the next look.
+        let _ = self.fresh.push(Passed {
+            key: key_of(name.as_str()),
+            name,
+            pass,
+            until,
+            is_seen: false,
+        });
+    }
+
+    // Whether names that were passed over are to be tried again.
+    fn is_time_again(&self, now: Instant) -> bool {
+        let has_rested = match self.tried {
+            Some(tried) => AGAIN <= now.duration_since(tried).as_secs(),
+            None => true,
+        };
+        match self.next_try {
+            Some(next) => has_rested && next <= now,
+            None => false,
+        }
+    }
+
+    // Brings names back that were passed over for long enough.
+    fn bring_back_if_due(&mut self, alloc: Global, now: Instant) {
+        if !self.is_time_again(now) {
+            return;
+        }
+        self.tried = Some(now);
+        bring_back(&mut self.passed, &mut self.again, alloc, now);
+        bring_back(&mut self.fresh, &mut self.again, alloc, now);
+        self.next_try = self.first_try();
+    }
+
+    fn first_try(&self) -> Option<Instant> {
+        let first = first_try(self.passed.as_slice());
+        match first_try(self.fresh.as_slice()) {
+            Some(fresh) => earlier(first, fresh),
+            None => first,
+        }
+    }
+
+    // Whether a look may find what the last one did not.
+    fn is_due(&self, changed: (i64, i64), now: Instant) -> bool {
+        let Some(last) = self.last else {
+            return true;
+        };
+        let has_rested = !last.is_settled && last.again <= now;
+        let is_old = LOOK_AGAIN <= now.duration_since(last.began).as_secs();
+        last.changed != changed || !last.is_all || has_rested || is_old
+    }
+
+    // Looks through `new` if that may find something.
+    fn look_if_due(&mut self, layout: &FolderLayout, began: Instant) -> Result<(), Refusal> {
+        let Some(found) = layout.look_at("new")? else {
+            return Err(Refusal::NoFolder);
+        };
+        let changed = (found.seconds, found.nanoseconds);
+        if !self.is_due(changed, began) {
+            return Ok(());
+        }
+        let now = since_1970(&layout.rt)?.as_secs();
+        let is_settled = match u64::try_from(changed.0) {
+            Ok(seconds) => seconds.saturating_add(GRAIN) < now,
+            Err(_) => true,
+        };
+        // A look that is refused is made again.
+        self.last = None;
+        self.look(layout)?;
+        let ended = Instant::now(&layout.rt)?;
+        let rest = ended.duration_since(began).saturating_mul(REST);
+        self.last = Some(Look {
+            began,
+            changed,
+            is_all: self.from.is_none(),
+            is_settled,
+            again: ended.checked_add(rest).unwrap_or(ended),
+        });
+        Ok(())
+    }
+
+    // Looks through `new`.
+    fn look(&mut self, layout: &FolderLayout) -> Result<(), Refusal> {
+        self.merge()?;
+        let is_all = self.from.is_none();
+        let read = self.read(layout);
+        if read.is_err() {
+            self.waiting.clear();
+        }
+        let is_read_whole = read?;
+        self.keep_least();
+        if is_all && is_read_whole {
+            self.forget();
+        }
+        self.from = self.last_name(layout.alloc)?;
+        self.waiting.reverse();
+        Ok(())
+    }
+
+    // Puts those that came to be passed over among the others.
+    fn merge(&mut self) -> Result<(), Refusal> {
+        if !self.fresh.is_empty() {
+            self.passed.append(&mut self.fresh)?;
+            self.passed
+                .sort_unstable_by(|a, b| a.order(b.key, b.name.as_str()));
+        }
+        for it in self.passed.iter_mut() {
+            it.is_seen = false;
+        }
+        Ok(())
+    }
+
+    // Reads the entries of `new`; whether there are no more.
+    fn read(&mut self, layout: &FolderLayout) -> Result<bool, Refusal> {
+        let mut entries = layout.entries("new")?;
+        for _ in 0..MOST_ENTRIES {
+            match entries.next() {
+                Entry::Named(name) => self.note(name)?,
+                // A name that is no UTF-8 is none that is taken.
+                Entry::Odd => {}
+                Entry::Refused(refusal) => return Err(refusal),
+                Entry::End => return Ok(true),
+            }
+        }
+        Ok(false)
+    }
+
+    // Whether a name is one of those that are looked for now.
+    fn is_next(&self, name: &str) -> bool {
+        let is_behind = match &self.from {
+            Some(from) => from.as_str() < name,
+            None => true,
+        };
+        is_behind && is_plain(name)
+    }
+
+    // Whether a name that was seen is passed over.
+    fn is_passed(&mut self, name: &str) -> bool {
+        let key = key_of(name);
+        let Ok(place) = self.passed.binary_search_by(|it| it.order(key, name)) else {
+            return false;
+        };
+        match self.passed.get_mut(place) {
+            Some(it) => {
+                it.is_seen = true;
+                true
+            }
+            None => false,
+        }
+    }
+
+    // Notes a name that was seen.
+    fn note(&mut self, name: String) -> Result<(), Refusal> {
+        if !self.is_next(name.as_str()) || self.is_passed(name.as_str()) {
+            return Ok(());
+        }
+        if self.waiting.push(Candidate { name, passed: 0 }).is_err() {
+            return Err(Refusal::NoMemory);
+        }
+        if self.waiting.len() >= 2 * MOST_NAMES {
+            self.keep_least();
+        }
+        Ok(())
+    }
+
+    // Keeps the least of the names.
+    fn keep_least(&mut self) {
+        self.waiting
+            .sort_unstable_by(|a, b| a.name.as_str().cmp(b.name.as_str()));
+        self.waiting.truncate(MOST_NAMES);
+    }
+
+    // Forgets those that are passed over and are gone, when all names were read.
+    fn forget(&mut self) {
+        self.passed.retain(|it| it.is_seen);
+        self.next_try = self.first_try();
+    }
+
+    // After which name to look if none of those that wait can be claimed: none if these are all.
+    fn last_name(&self, alloc: Global) -> Result<Option<String>, Refusal> {
+        match self.waiting.last() {
+            Some(last) if self.waiting.len() == MOST_NAMES => {
+                Ok(Some(String::from_str(alloc, last.name.as_str())?))
+            }
+            _ => Ok(None),
+        }
+    }
+}

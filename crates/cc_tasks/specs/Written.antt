@@ -1,0 +1,101 @@
+-- What the program writes of a text, byte for byte, and what it has then done.
+use Rattle.std.specs.Prelude.{◌≡◌, ◌⊎◌, ℕ, List, [], ◌++◌, take, Option, IfSome, Result, Ok, Err, Vec, codes}
+use Rattle.std.specs.declared.alloc.Global.{Global}
+use Rattle.std.specs.Io.KnownBytes.{Appends}
+use Rattle.cc_c_laws.specs.declared.cause.Cause.{Cause}
+use Rattle.cc_c_laws.specs.declared.cause.Cause.TheVariants.{Division, Shift, Index, Depth}
+use Rattle.cc_meaning.specs.declared.outcome.Stop.{Stop}
+use Rattle.cc_meaning.specs.declared.outcome.Stop.TheVariants.{Going, Ended, Wrong}
+use Rattle.cc_meaning.specs.declared.outcome.Outcome.{Outcome}
+use Rattle.cc_rv32.specs.Listing.{signed_text}
+use Rattle.cc_link.specs.Text.{text_fault_place}
+use Rattle.cc_answers.specs.Text.{line, words_text, run_text, fault_line, place_text, function_text}
+use Rattle.cc_task.specs.declared.task.Task.{Task}
+use Rattle.cc_tasks.specs.Answer.{Answers, IsRefused}
+use Rattle.cc_tasks.specs.Fault.{fault_number}
+use Rattle.cc_tasks.specs.Part.{part_fault_number}
+use Rattle.cc_tasks.specs.declared.answer.Answer.{Answer}
+use Rattle.cc_tasks.specs.declared.answer.Answer.TheVariants.{Accepted, Ran, Executed, Listed, Image}
+use Rattle.cc_tasks.specs.declared.fault.Fault.{Fault}
+use Rattle.cc_tasks.specs.declared.part.PartFault.{PartFault}
+use Rattle.cc_tasks.specs.declared.fault.Fault.TheVariants.{Text, Meaning, Piece, Link, UnknownFunction, OutOfMemory, Read, Write}
+
+-- ---- the text of an answer
+
+-- why a program goes wrong
+abbrev pub cause_name : Cause → List ℕ
+cause_name Division = codes "Division"
+cause_name Shift = codes "Shift"
+cause_name Index = codes "Index"
+cause_name Depth = codes "Depth"
+
+-- how a program stops
+abbrev pub stop_text : Stop → List ℕ
+stop_text Going = line (codes "going")
+stop_text (Ended w) = line (codes "ended " ++ signed_text w)
+stop_text (Wrong c) = line (codes "wrong " ++ cause_name c)
+
+-- the words that a program writes, and how it stops
+abbrev pub outcome_text : Outcome → List ℕ
+outcome_text o = words_text o.output ++ stop_text o.stop
+
+abbrev pub answer_text : Answer → List ℕ
+answer_text Accepted = line (codes "ok")
+answer_text (Ran outcome) = outcome_text outcome
+answer_text (Executed run) = run_text run
+answer_text (Listed lines) = lines.items
+answer_text (Image lines) = lines.items
+
+-- ---- the line of a fault
+
+-- the place of a fault in the text, or its function
+abbrev pub where_text : (text : List ℕ) → Fault → List ℕ
+where_text text (Text f) = place_text (text_fault_place f)
+where_text text (Piece f) = function_text text f
+where_text text fault = []
+
+abbrev pub fault_text : (text : List ℕ) → Fault → List ℕ
+fault_text text fault = fault_line (fault_number fault) (where_text text fault)
+
+-- ---- what was taken out of a library
+
+-- the bytes of the part, or the line of why there is none
+abbrev pub found_text : Result (Vec ℕ Global) PartFault → List ℕ
+found_text (Ok bytes) = bytes.items
+found_text (Err fault) = fault_line (part_fault_number fault) []
+
+-- ---- from what is read to what is written
+
+-- this text was appended to what was written before, and nothing else; or it could not be written: 54, and nothing is known of what was
+abbrev pub Writes : {T : Type 0} → (old new : Option (List ℕ)) (text : List ℕ) → Result T Fault → Type 0
+Writes old new text (Ok done) = Appends old new text
+Writes old new text (Err fault) = fault ≡ Write
+
+-- a reader's text: its bytes, or the first 65,537 of them if it has more
+abbrev pub IsTextOf : Option (List ℕ) → (text : List ℕ) → Type 0
+IsTextOf bytes text = IfSome bytes (λ all. text ≡ take 65537 all)
+
+-- the text of an answer to the task for the reader's text was written
+pub record IsAnswered (task : Task) (input old new : Option (List ℕ)) : Type 0 where
+  pub text : List ℕ
+  pub read : IsTextOf input text
+  pub answer : Answer
+  pub answers : Answers task text answer
+  pub written : Appends old new (answer_text answer)
+
+-- the reader's text has this fault, and the fault's line was written
+pub record IsTurnedDown (input old new : Option (List ℕ)) (fault : Fault) : Type 0 where
+  pub text : List ℕ
+  pub read : IsTextOf input text
+  pub refused : IsRefused text fault
+  pub written : Appends old new (fault_text text fault)
+
+-- Why there is no answer: something could not be written, 54, and nothing is known of what was; or the text could not be read, 53, and its line was
+-- written; or the text has this fault.
+abbrev pub HasNoAnswer : (input old new : Option (List ℕ)) → Fault → Type 0
+HasNoAnswer input old new fault = (fault ≡ Write) ⊎ (((fault ≡ Read) × Appends old new (fault_text [] Read)) ⊎ IsTurnedDown input old new fault)
+
+-- a task was done with this status: 0 for an answer, 1 for a fault
+abbrev pub IsPerformed : Task → (input old new : Option (List ℕ)) → (status : ℕ) → Type 0
+IsPerformed task input old new status =
+    ((status ≡ 0) × IsAnswered task input old new) ⊎ ((status ≡ 1) × ((fault : Fault) × HasNoAnswer input old new fault))
