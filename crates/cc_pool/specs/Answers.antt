@@ -1,9 +1,0 @@
--- What contracts see of a worker's refusal.
-use Rattle.std.specs.Prelude.{ℕ, List}
-use Rattle.cc_link.specs.declared.piece_fault.PieceFault.{PieceFault}
-
--- a function of a text, and why a worker refused it
-pub record FunctionRefusal : Type 0 where
-  pub text : List ℕ
-  pub function : ℕ
-  pub fault : PieceFault

@@ -1,2 +1,0 @@
--- Which fault an answer tells last.
-pub mod Telling
