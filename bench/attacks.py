@@ -515,7 +515,7 @@ def claimed_and_killed(place):
     must("forged" not in units, "the stranger's script was done in the place of the victim's")
 
 
-@attack("40 `submit --wait 1 add` while the server stands still for a second; a stranger takes each place in `new` that is free again")
+@attack("40 `submit --wait 1 add` while the server is paused for a second; a stranger takes each place in `new` that is free again")
 def taken_back(place):
     """Whoever is told 58 has nothing stored, then or later, and whoever is told `ok` has its unit: also where the server comes to the script
     in the moment in which it is taken back, and though the stranger puts a script under its name as soon as that is free."""
@@ -695,7 +695,7 @@ def made_before(place, kind):
     return wrong
 
 
-@attack("the stranger has made DISK.new before `serve --format` does, as a file, a link, a FIFO, where DISK's folder is like /tmp")
+@attack("the stranger has made DISK.new before `serve --format` does, as a file, a link, a FIFO, in a folder like /tmp")
 def disk_new(place):
     """DISK.new is a name that is known before it is taken. The library that comes of it belongs to the server's user, and nothing else is
     overwritten; a refusal (35) is as good."""
@@ -706,7 +706,7 @@ def disk_new(place):
     all_must(wrong)
 
 
-@attack("FOLDER was made by a stranger before the server starts, where what it lies in is like /tmp")
+@attack("FOLDER was made by a stranger before the server starts, in a folder like /tmp")
 def folder_before(place):
     """A folder that is not the server's own is refused (56): nothing is written along a link that the stranger put at a part's name."""
     os.chmod(place.work, 0o1777)
@@ -1211,7 +1211,7 @@ def history(place):
 # ---- 6: what `done` keeps
 
 
-@attack("eight answers of 16 MiB that nobody fetches, where `done` may have 64 MiB", 400)
+@attack("eight answers of 16 MiB that nobody fetches, if `done` may have 64 MiB", 400)
 def done_full(place):
     """With `--done` nothing more is claimed while answers younger than 600 s alone pass it, and that is reported once; when they are older the
     oldest go, and the scripts that wait are done."""
@@ -1458,7 +1458,7 @@ def limit(process, most=None):
 def passing_refusal(place):
     """A 40 or 41 between two generations that passes is no end: the server tries again, and goes on when there is memory.
 
-    Its standard error is a pipe that is full, so that it waits where it reports the end of a generation: then its memory is limited."""
+    Its standard error is a pipe that is full, so that it waits as it reports the end of a generation: then its memory is limited."""
     reader, writer = os.pipe()
     fcntl.fcntl(writer, fcntl.F_SETPIPE_SZ, 4096)
     words = [place.program, "serve", place.disk, place.spool, "--format", AREA]
@@ -1537,7 +1537,7 @@ def submit_memory(place):
 
 @attack("`stages` under each limit of its memory from none to enough: the whole text, or 40", 400)
 def stages_memory(place):
-    """What `stages` prints where memory is refused is no statement on the program: 40, and not "the program has no image"."""
+    """What `stages` prints if memory is refused is no statement on the program: 40, and not "the program has no image"."""
     text = "".join(f"int f{it}(int x){{int y=x*{it};while(y>3)y=y-x;return y;}}" for it in range(60)) + "int main(void){return f3(7);}"
     line = [place.program, "stages", "--quiet", "main"]
     whole = subprocess.run(line, input=text.encode(), capture_output=True, timeout=60)
@@ -1925,7 +1925,7 @@ def documents(place):
     must(not wrong, "; ".join(wrong))
 
 
-# ---- 10: install, ./cclib, ./prove-below, examples/team/team.sh, over a program that stands in for the proved one
+# ---- 10: install, ./cclib, ./prove-below, examples/team/team.sh, over a program that takes the place of the proved one
 
 STAND_IN = "#!/bin/sh\n[ \"$1\" = check ] && cat >/dev/null\necho ok {0}\n"
 # A `mv` that sends a signal to who called it, at its COUNT-th call, when it has moved.
@@ -1975,33 +1975,33 @@ class Tree:
     def install(self, *words, **more):
         return self.run(f"{self.top}/install", *words, self.prefix, **more)
 
-    def stands(self):
+    def files(self):
         return tree(self.prefix) if os.path.exists(self.prefix) else {}
 
 
 @attack("install is interrupted by INT, TERM and HUP at the first, third and last `mv` of it")
 def install_cut(place):
     """PREFIX is as it was, to the byte, or the new version whole; no file is left over, and the status says which of the two."""
-    wrong, stands = [], {}
+    wrong, seen = [], {}
     here = Tree(place)
     for version in ("one", "two", "one"):
         here.build(version)
         must(here.install().returncode == 0, "install does not install")
-        stands[version] = here.stands()
+        seen[version] = here.files()
     here.build("two")
     for name, count in [(name, count) for name in ("INT", "TERM", "HUP") for count in (1, 3, 5)]:
-        if here.stands() != stands["one"]:
+        if here.files() != seen["one"]:
             shutil.rmtree(here.prefix)
             here.build("one")
             here.install()
             here.build("two")
-        before = here.stands()
+        before = here.files()
         write(f"{here.tools}/mv", MOVER.replace("COUNT", str(count)).replace("SIGNAL", name), 0o755)
         done = here.install()
         shutil.rmtree(here.tools)
         os.makedirs(here.tools)
-        after = here.stands()
-        if not (after == before and done.returncode != 0 or after == stands["two"] and done.returncode == 0):
+        after = here.files()
+        if not (after == before and done.returncode != 0 or after == seen["two"] and done.returncode == 0):
             other = sorted(it for it in {**before, **after} if before.get(it) != after.get(it))
             wrong.append(f"{name} at `mv` {count}: status {done.returncode}, and {len(other)} files are other ones, as {' '.join(other[:2])}")
     all_must(wrong)
@@ -2015,10 +2015,10 @@ def remove_unreadable(place):
     os.chown(here.prefix, VICTIM, VICTIM)
     must(here.install(user=VICTIM).returncode == 0, "install does not install")
     os.chmod(f"{here.prefix}/share/cclib/FILES", 0)
-    before = here.stands()
+    before = here.files()
     done = here.install("--remove", user=VICTIM)
     wrong = [f"status {done.returncode}, {(done.stdout + done.stderr)!r}"] * (done.returncode != 1)
-    wrong += [f"{it} is gone" for it in before if it not in here.stands()]
+    wrong += [f"{it} is gone" for it in before if it not in here.files()]
     all_must(wrong)
 
 
@@ -2046,7 +2046,7 @@ def install_foreign(place):
     done = here.install()
     wrong += [f"a newer version over our own: status {done.returncode}, {done.stderr!r}"] * (done.returncode != 0)
     done = here.install("--remove")
-    wrong += [f"--remove of that one: status {done.returncode}, left {sorted(here.stands())}"] * (done.returncode != 0 or bool(here.stands()))
+    wrong += [f"--remove of that one: status {done.returncode}, left {sorted(here.files())}"] * (done.returncode != 0 or bool(here.files()))
     all_must(wrong)
 
 
