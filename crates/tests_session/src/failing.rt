@@ -49,9 +49,9 @@ fn a_write_that_fails(rt: HostRuntime) -> Result<(), Fail> {
 
 /// Takes a number of answers, and refuses every write from then on.
 #[derive(Drop)]
-struct Takes {
-    left: u8,
-    taken: Vec<u8>,
+pub struct Takes {
+    pub left: u8,
+    pub taken: Vec<u8>,
 }
 
 impl Write for Takes {

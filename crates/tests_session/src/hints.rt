@@ -1,9 +1,10 @@
 // Sources that are handed in before their turn: what is answered is what it would be without.
 
+use crate::failing::Takes;
 use crate::helpers::{formatted, played, written_on};
 use cc_session::{SessionEnd, session};
 use std::alloc::{AllocError, Global};
-use std::io::{self, ErrorKind, Read, Write};
+use std::io::{self, Read};
 use std::test::Fail;
 
 // A command, the line that answers it if it is no `ok`, and whether its call has a receipt.
@@ -145,27 +146,6 @@ fn a_script_that_is_typed(rt: HostRuntime) -> Result<(), Fail> {
     let (_, end) = session(&rt, alloc, &mut reader, &mut written, disk, 2);
     assert!(rt; end == SessionEnd::Finished && written.as_slice() == lines.as_bytes());
     Ok(())
-}
-
-/// Takes some answers, and refuses every write from then on.
-#[derive(Drop)]
-struct Takes {
-    left: u8,
-    taken: Vec<u8>,
-}
-
-impl Write for Takes {
-    fn write(&mut self, buf: &[u8]) -> io::Result<usize> {
-        if self.left == 0 {
-            return Err(io::Error::from(ErrorKind::BrokenPipe));
-        }
-        self.taken.write(buf)
-    }
-
-    fn flush(&mut self) -> io::Result<()> {
-        self.left = self.left.saturating_sub(1);
-        Ok(())
-    }
 }
 
 // The third answer can't be written: its unit is there, and none of those that were handed in after it.
