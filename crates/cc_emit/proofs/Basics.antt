@@ -3,7 +3,8 @@ use Rattle.std.proofs.Common.{◌≡◌, ℕ, zero, suc, ◌+◌, ◌-◌, ◌*�
 use Rattle.std.specs.Prelude.{◌==◌, if◌then◌else◌, ◌&&◌, not, slice_get}
 use Rattle.std.proofs.lemmas.Bool.Decides.{eqb_tells, nat_tests}
 use Rattle.cc_rv32.specs.Machine as machine
-use Rattle.cc_rv32.specs.Machine.{is_accessible, stack_from, stack_to, with_register, with_word}
+use Rattle.cc_rv32.specs.Machine.{stack_to, with_register, with_word}
+use Rattle.cc_emit.specs.Board.{is_accessible_above}
 use Rattle.cc_simulation.specs.Behavior.{AreWords}
 use Rattle.cc_simulation.specs.World.{first_or_zero, rest_of}
 use Rattle.cc_simulation.specs.Unknown.{survives}
@@ -81,8 +82,8 @@ put_slot l d w i v f g = elim (eqb_tells d i) [ inl h ↦ ap (λ b. if b then w 
 
 -- ---- addresses
 
-pub in_stack : (a : ℕ) → a % 4 ≡ 0 → stack_from ≤ a → a < stack_to → is_accessible 4 a ≡ true
-in_stack a z from to = grind (arith, nat_tests)
+pub in_stack : (floor a : ℕ) → a % 4 ≡ 0 → floor ≤ a → a < stack_to → is_accessible_above floor 4 a ≡ true
+in_stack floor a z from to = grind (arith, nat_tests)
 
 -- ---- the parts of a word
 

@@ -27,7 +27,8 @@ use Rattle.cc_rv32.specs.declared.instr.RegisterOperation.TheVariants as operati
 use Rattle.cc_rv32.specs.Machine as machine
 use Rattle.cc_rv32.specs.declared.instr.LoadOperation.TheVariants.{Lw}
 use Rattle.cc_rv32.specs.declared.instr.StoreOperation.TheVariants.{Sw}
-use Rattle.cc_rv32.specs.Machine.{Continues, State, Traps, branches, computed, execute, globals_to, is_accessible, is_taken, loaded, puts, stored, with_register, with_word}
+use Rattle.cc_emit.specs.Board.{execute_above, is_accessible_above}
+use Rattle.cc_rv32.specs.Machine.{Continues, State, Traps, branches, computed, globals_to, is_taken, loaded, puts, stored, with_register, with_word}
 use Rattle.cc_words.specs.declared.operators.Width.{Width}
 use Rattle.cc_words.specs.declared.operators.Width.TheVariants.{Byte, Word}
 use Rattle.cc_words.specs.Widths.{bytes, kept}
@@ -54,7 +55,7 @@ use Rattle.cc_emit.proofs.Recipes.{IsRight, recipe_right, binary_word, unary_rig
 use Rattle.cc_emit.proofs.Standing.{Site, Standing, Stands, addressed_at, all_addressed, near, labels, machine_step, first_items, standing_tail, standing_from, step_at, jump_step}
 use Rattle.cc_emit.proofs.Saving.{load_step, store_step}
 use Rattle.cc_emit.proofs.Holding.{IsKnown, IsKnownAt, is_known, element_address, parts_of, upper_stays, address_stays_6}
-use Rattle.cc_emit.proofs.Within.{Within, within_set, within_scratch, within_5, within_as, within_nothing, within_pc, within_slot, within_store, within_read, within_write, low_stack}
+use Rattle.cc_emit.proofs.Within.{Within, within_set, within_scratch, within_5, within_as, within_nothing, within_pc, within_slot, within_store, within_read, within_write, above_floor}
 
 -- the machine comes to where these items stand
 pub record Reaches (x : Site) (next : List Step) (l : Locations) (h : World) (s : State) : Type 0 where
@@ -103,7 +104,7 @@ pub walk_by : (x : Site) {held : Scratch} (l : Locations) (h : World) (s t : Sta
 walk_by x l h s t b e at w = record { more = 0; to = t; path = (t, e, refl); at = at; within = w }
 
 -- the last instruction sets a register
-walk_set : (x : Site) {held : Scratch} (l : Locations) (h : World) (s : State) (p b d v : ℕ) (i : Instr) → s.pc ≡ p → x.code p ≡ Some i → p + 4 ≡ x.place + 4 * b → execute i s ≡ puts d v s → IsTarget x.frame d → v < 2 ^ 32 → Within x held l h s → Walked x (without d held) (put (Register d) v l) h s b
+walk_set : (x : Site) {held : Scratch} (l : Locations) (h : World) (s : State) (p b d v : ℕ) (i : Instr) → s.pc ≡ p → x.code.at p ≡ Some i → p + 4 ≡ x.place + 4 * b → execute_above x.code.floor i s ≡ puts d v s → IsTarget x.frame d → v < 2 ^ 32 → Within x held l h s → Walked x (without d held) (put (Register d) v l) h s b
 walk_set x l h s p b d v i e f g k u lt w =
     walk_by x (put (Register d) v l) h s (record s { pc = s.pc + 4; registers = with_register s.registers d v }) b (step_at x.code s p i e f ∙ k) (ap (λ n. n + 4) e ∙ g) (within_set x l h s (s.pc + 4) d v u lt w)
 
@@ -111,7 +112,7 @@ walk_set x l h s p b d v i e f g k u lt w =
 pub reach_by : (x : Site) {held : Scratch} (next : List Step) (l : Locations) (h : World) (s t : State) (v b : ℕ) → machine_step x.code s ≡ Continues t → t.pc ≡ x.place + 4 * b → Standing x held v b next → Within x held l h t → Reaches x next l h s
 reach_by x {held} next l h s t v b e at st w = record { more = 0; to = t; path = (t, e, refl); long = v; offset = b; held = held; at = at; standing = st; within = w }
 
-pub reach_set : (x : Site) {held : Scratch} (next : List Step) (l : Locations) (h : World) (s : State) (p q b d v : ℕ) (i : Instr) → s.pc ≡ p → x.code p ≡ Some i → p + 4 ≡ x.place + 4 * b → execute i s ≡ puts d v s → IsTarget x.frame d → v < 2 ^ 32 → Standing x (without d held) q b next → Within x held l h s → Reaches x next (put (Register d) v l) h s
+pub reach_set : (x : Site) {held : Scratch} (next : List Step) (l : Locations) (h : World) (s : State) (p q b d v : ℕ) (i : Instr) → s.pc ≡ p → x.code.at p ≡ Some i → p + 4 ≡ x.place + 4 * b → execute_above x.code.floor i s ≡ puts d v s → IsTarget x.frame d → v < 2 ^ 32 → Standing x (without d held) q b next → Within x held l h s → Reaches x next (put (Register d) v l) h s
 reach_set x next l h s p q b d v i e f g k u lt st w =
     reach_by x next (put (Register d) v l) h s (record s { pc = s.pc + 4; registers = with_register s.registers d v }) q b (step_at x.code s p i e f ∙ k) (ap (λ n. n + 4) e ∙ g) st (within_set x l h s (s.pc + 4) d v u lt w)
 
@@ -132,7 +133,7 @@ abbrev pub StandsWhole : Site → Type 0
 StandsWhole x = Standing x nothing 0 (prologue_size x.frame) x.steps
 
 -- to a label
-reach_jump : (x : Site) {held : Scratch} (p n : ℕ) (l : Locations) (h : World) (s : State) → s.pc ≡ p → IsPlace p → x.code p ≡ Some (instr.Jal 0 ((x.place + 4 * labels x n + (2 ^ 32 - p)) % 2 ^ 32)) → StandsWhole x → Within x held l h s → Reaches x (place x.steps n) l h s
+reach_jump : (x : Site) {held : Scratch} (p n : ℕ) (l : Locations) (h : World) (s : State) → s.pc ≡ p → IsPlace p → x.code.at p ≡ Some (instr.Jal 0 ((x.place + 4 * labels x n + (2 ^ 32 - p)) % 2 ^ 32)) → StandsWhole x → Within x held l h s → Reaches x (place x.steps n) l h s
 reach_jump x p n l h s e from f all w =
     let b = labels x n in
     let target = standing_from x n 0 (prologue_size x.frame) x.steps all in
@@ -143,14 +144,14 @@ jump_case x w a n rest l h s (e, st, inside) all =
     stepped x (One (Jump n) ∷ rest) (place x.steps n) l l h h s (λ ws. refl) (reach_jump x (x.place + 4 * a) n l h s e st.from (first_items x w a (One (Jump n)) rest st).0 all inside)
 
 -- a branch goes on at one of two places
-branch_step : (code : Code) (s : State) (p q : ℕ) (i : Instr) (t : Bool) → s.pc ≡ p → q % 4 ≡ 0 → code p ≡ Some i → (to : ℕ) → execute i s ≡ branches t to s → (t ≡ true → to ≡ q) → machine_step code s ≡ Continues (record s { pc = if t then q else p + 4 })
+branch_step : (code : Code) (s : State) (p q : ℕ) (i : Instr) (t : Bool) → s.pc ≡ p → q % 4 ≡ 0 → code.at p ≡ Some i → (to : ℕ) → execute_above code.floor i s ≡ branches t to s → (t ≡ true → to ≡ q) → machine_step code s ≡ Continues (record s { pc = if t then q else p + 4 })
 branch_step code s p q i true e z f to k there =
     step_at code s p i e f ∙ k ∙ ap (λ n. if n % 4 == 0 then Continues (record s { pc = n }) else Traps) (there refl) ∙ ap (λ b. if b then Continues (record s { pc = q }) else Traps) (eqb_yes (q % 4) 0 z)
 branch_step code s p q i false e z f to k there = step_at code s p i e f ∙ k ∙ ap (λ n. Continues (record s { pc = n + 4 })) e
 
 -- the long form: the branch over the jump, then the jump or not
 over_reaches : (x : Site) {held : Scratch} (v a n : ℕ) (next rest : List Step) (l : Locations) (h : World) (s : State) (i : Instr) (t : Bool) → s.pc ≡ x.place + 4 * a → Within x held l h s → IsPlace (x.place + 4 * a) → Standing x held v (a + 2) rest → StandsWhole x
-    → Stands x (x.place + 4 * a) (Plain i ∷ Go (labels x n) ∷ []) → execute i s ≡ branches t (add s.pc 8) s → (if t then rest else place x.steps n) ≡ next → Reaches x next l h s
+    → Stands x (x.place + 4 * a) (Plain i ∷ Go (labels x n) ∷ []) → execute_above x.code.floor i s ≡ branches t (add s.pc 8) s → (if t then rest else place x.steps n) ≡ next → Reaches x next l h s
 over_reaches x v a n next rest l h s i true e inside p st all f k same =
     let q = p.to in
     let z = p.aligned in
@@ -172,7 +173,7 @@ offset_arrives place a b y pc p q n (inr d) e = let x = p.to in let z = q.to in 
 
 -- the short form
 short_reaches : (x : Site) {held : Scratch} (v a n : ℕ) (next rest : List Step) (l : Locations) (h : World) (s : State) (i : Instr) (t : Bool) → s.pc ≡ x.place + 4 * a → Within x held l h s → IsPlace (x.place + 4 * a) → Standing x held v (a + 1) rest → StandsWhole x
-    → Nears a (labels x n) → Stands x (x.place + 4 * a) (Plain i ∷ []) → execute i s ≡ branches t (add s.pc (distance a (labels x n))) s → (if t then place x.steps n else rest) ≡ next → Reaches x next l h s
+    → Nears a (labels x n) → Stands x (x.place + 4 * a) (Plain i ∷ []) → execute_above x.code.floor i s ≡ branches t (add s.pc (distance a (labels x n))) s → (if t then place x.steps n else rest) ≡ next → Reaches x next l h s
 short_reaches x v a n next rest l h s i true e inside p st all nears f k same =
     let b = labels x n in
     let target = standing_from x n 0 (prologue_size x.frame) x.steps all in
@@ -265,13 +266,13 @@ unary_case x w a to b o rest l h s (e, st, inside) =
     let fine = st.fine.0 in
     let v = apply_unary o (l (Register b)) in
     let r = unary_right o (s.registers b) (inside.sound.registers b) in
-    let same : execute (unary_instr o to b) s ≡ puts to v s = unary_executes o to b s inside.sound.zero ∙ ap (λ n. puts to n s) (r.0 ∙ ap (apply_unary o) (sym (inside.same b fine.1))) in
+    let same : execute_above x.code.floor (unary_instr o to b) s ≡ puts to v s = unary_executes x.code.floor o to b s inside.sound.zero ∙ ap (λ n. puts to n s) (r.0 ∙ ap (apply_unary o) (sym (inside.same b fine.1))) in
     stepped x (One (Unary o to b) ∷ rest) rest l (put (Register to) v l) h h s (λ ws. refl)
     (reach_set x rest l h s (x.place + 4 * a) _ (a + 1) to v (unary_instr o to b) e (first_items x w a (One (Unary o to b)) rest st).0 (behind_1 x.place a) same fine.0 (subst (λ n. apply_unary o n < 2 ^ 32) (sym (inside.same b fine.1)) r.1) (standing_tail x w a (One (Unary o to b)) rest st) inside)
 
 -- x5, then a question about it
-pub asked : (x : Site) {held : Scratch} (w a to v t : ℕ) (i j : Instr) (rest : List Step) (l : Locations) (h : World) (s : State) → s.pc ≡ x.place + 4 * a → Standing x (without to (without_address held)) w (a + 2) rest → Within x held l h s → Stands x (x.place + 4 * a) (Plain i ∷ Plain j ∷ []) → execute i s ≡ puts 5 t s → t < 2 ^ 32
-    → ((u : State) → u.registers 5 ≡ t → u.registers 0 ≡ 0 → execute j u ≡ puts to v u) → IsTarget x.frame to → v < 2 ^ 32 → Reaches x rest (put (Register to) v l) h s
+pub asked : (x : Site) {held : Scratch} (w a to v t : ℕ) (i j : Instr) (rest : List Step) (l : Locations) (h : World) (s : State) → s.pc ≡ x.place + 4 * a → Standing x (without to (without_address held)) w (a + 2) rest → Within x held l h s → Stands x (x.place + 4 * a) (Plain i ∷ Plain j ∷ []) → execute_above x.code.floor i s ≡ puts 5 t s → t < 2 ^ 32
+    → ((u : State) → u.registers 5 ≡ t → u.registers 0 ≡ 0 → execute_above x.code.floor j u ≡ puts to v u) → IsTarget x.frame to → v < 2 ^ 32 → Reaches x rest (put (Register to) v l) h s
 asked x w a to v t i j rest l h s e st inside items value b5 question u lt =
     let s5 : State = record s { pc = s.pc + 4; registers = with_register s.registers 5 t } in
     let w5 = within_5 x l h s (s.pc + 4) t b5 inside in
@@ -305,13 +306,13 @@ binary_case x w a to b c o rest l h s given = binary_at x w a to b c o rest l h 
 
 -- ---- moves
 
-slot_address : (x : Site) {held : Scratch} (l : Locations) (h : World) (s : State) (i : ℕ) → i < x.frame.slots → Within x held l h s → (is_accessible 4 (s.registers 2 + 4 * i) ≡ true) × ((s.registers 2 + 4 * i) % 2 ^ 32 ≡ s.registers 2 + 4 * i)
+slot_address : (x : Site) {held : Scratch} (l : Locations) (h : World) (s : State) (i : ℕ) → i < x.frame.slots → Within x held l h s → (is_accessible_above x.code.floor 4 (s.registers 2 + 4 * i) ≡ true) × ((s.registers 2 + 4 * i) % 2 ^ 32 ≡ s.registers 2 + 4 * i)
 slot_address x l h s i lt w =
     let stack = w.stack in
-    let from = low_stack x l h s w in
+    let from = above_floor x l h s w in
     let top = x.top in
     let z = x.aligned in
-    (in_stack (s.registers 2 + 4 * i) (omega arith) (omega arith) (omega arith), omega arith)
+    (in_stack x.code.floor (s.registers 2 + 4 * i) (omega arith) (omega arith) (omega arith), omega arith)
 
 pub copy_case : (x : Site) {held : Scratch} (w a : ℕ) (m : Move) (rest : List Step) (l : Locations) (h : World) (s : State) → Given x held w a (One (Copy m) ∷ rest) l h s → Stepped x (One (Copy m) ∷ rest) l h s
 copy_case x w a (Between to b) rest l h s (e, st, inside) =
@@ -466,7 +467,7 @@ uppered_reaches x next k g ElementByPointer s p b items e f go = (let none : p �
 
 -- the item behind those before an access, and the machine there
 abbrev Arrives : (x : Site) (next : List Step) (k : Locations) (g : World) (p n : ℕ) (item : PieceItem) (t : State) → Type 0
-Arrives x next k g p n item t = x.code (p + 4 * n) ≡ Some (filled x.places x.place (p + 4 * n) item) → t.pc ≡ p + 4 * n → Reaches x next k g t
+Arrives x next k g p n item t = x.code.at (p + 4 * n) ≡ Some (filled x.places x.place (p + 4 * n) item) → t.pc ≡ p + 4 * n → Reaches x next k g t
 
 based_reaches : (x : Site) (next : List Step) (k : Locations) (g : World) (known : Remembered) (s : State) (p r b : ℕ) (item : PieceItem) → s.pc ≡ p → Stands x p (based known b r (item ∷ [])) → Arrives x next k g p (upper_before known + 1) item (added (uppered known s b) (base_register known) r)
     → Reaches x next k g s
@@ -476,7 +477,7 @@ based_reaches x next k g known s p r b item e f go =
     let u = uppered known s b in
     let q = p + 4 * upper_before known in
     let four : q + 4 ≡ p + 4 * (upper_before known + 1) = omega arith in
-    reach_more x next k g u (added u (base_register known) r) (step_at x.code u q (Op operations.Add 5 r (base_register known)) at stands.0) (go (subst (λ n. x.code n ≡ Some (filled x.places x.place n item)) four stands.1.0) (ap (λ n. n + 4) at ∙ four)))
+    reach_more x next k g u (added u (base_register known) r) (step_at x.code u q (Op operations.Add 5 r (base_register known)) at stands.0) (go (subst (λ n. x.code.at n ≡ Some (filled x.places x.place n item)) four stands.1.0) (ap (λ n. n + 4) at ∙ four)))
 
 shifted_reaches : (x : Site) (next : List Step) (k : Locations) (g : World) (known : Remembered) (s : State) (p i b : ℕ) (item : PieceItem) → s.pc ≡ p → Stands x p (Plain (Shift Slli 5 i 2) ∷ based known b 5 (item ∷ []))
     → Arrives x next k g p (upper_before known + 2) item (added (uppered known (shifted s i) b) (base_register known) 5) → Reaches x next k g s
@@ -486,7 +487,7 @@ shifted_reaches x next k g known s p i b item e f go =
     (based_reaches x next k g known t (p + 4) 5 b item (ap (λ n. n + 4) e) f.1
     (λ stands at.
     let long : p + 4 + 4 * (upper_before known + 1) ≡ p + 4 * (upper_before known + 2) = omega arith in
-    go (subst (λ n. x.code n ≡ Some (filled x.places x.place n item)) long stands) (at ∙ long)))
+    go (subst (λ n. x.code.at n ≡ Some (filled x.places x.place n item)) long stands) (at ∙ long)))
 
 -- before a load or a store
 pub element_reaches : (x : Site) (next : List Step) (k : Locations) (g : World) (known : Remembered) (w : Width) (s : State) (p i b : ℕ) (item : PieceItem) → s.pc ≡ p → Stands x p (indexed known w b i (item ∷ [])) → Arrives x next k g p (before known w) item (at_element known w s i b)
@@ -498,9 +499,9 @@ element_reaches x next k g Upper Word s p i b item e f go = shifted_reaches x ne
 element_reaches x next k g ByPointer Byte s p i b item e f go = based_reaches x next k g ByPointer s p i b item e f go
 element_reaches x next k g ByPointer Word s p i b item e f go = shifted_reaches x next k g ByPointer s p i b item e f go
 element_reaches x next k g Element w s p i b item e f go =
-    (let none : p ≡ p + 4 * 0 = omega arith in go (subst (λ n. x.code n ≡ Some (filled x.places x.place n item)) none f.0) (e ∙ none))
+    (let none : p ≡ p + 4 * 0 = omega arith in go (subst (λ n. x.code.at n ≡ Some (filled x.places x.place n item)) none f.0) (e ∙ none))
 element_reaches x next k g ElementByPointer w s p i b item e f go =
-    (let none : p ≡ p + 4 * 0 = omega arith in go (subst (λ n. x.code n ≡ Some (filled x.places x.place n item)) none f.0) (e ∙ none))
+    (let none : p ≡ p + 4 * 0 = omega arith in go (subst (λ n. x.code.at n ≡ Some (filled x.places x.place n item)) none f.0) (e ∙ none))
 
 behind_access : (known : Remembered) (w : Width) (place a : ℕ) → place + 4 * a + 4 * before known w + 4 ≡ place + 4 * (a + access_size known w)
 behind_access Nothing Byte place a = omega arith
@@ -550,7 +551,7 @@ load_at x {held} w a width g to i rest l h s (e, st, inside) (Some v) is =
     (element_reaches x rest (put (Register to) v l) h known width s p i b (load_element width to 5 (part_of known b)) e items
     (λ stands pc.
     reach_by x rest (put (Register to) v l) h u t _ (a + access_size known width)
-    (load_step x.code u (load_of width) (p + 4 * before known width) to 5 (part_of known b) at pc stands address (load_accessible width at lies.aligned (omega arith) lies.below) ∙ ap (λ n. puts to n u) value)
+    (load_step x.code u (load_of width) (p + 4 * before known width) to 5 (part_of known b) at pc stands address (load_accessible x.code.floor width at lies.aligned (omega arith) lies.below) ∙ ap (λ n. puts to n u) value)
     (ap (λ n. n + 4) pc ∙ behind_access known width x.place a) (standing_tail x w a (One (Load width g to i)) rest st) (within_set x l h u (u.pc + 4) to v fine.0 lv wu))))
 
 pub load_case : (x : Site) {held : Scratch} (w a : ℕ) (width : Width) (g to i : ℕ) (rest : List Step) (l : Locations) (h : World) (s : State) → Given x held w a (One (Load width g to i) ∷ rest) l h s → Case x (One (Load width g to i) ∷ rest) l h s
@@ -583,7 +584,7 @@ store_at x {held} w a width g i r rest l h s (e, st, inside) (Some v) is =
     (element_reaches x rest l k known width s p i b (store_element width 5 r (part_of known b)) e items
     (λ stands pc.
     reach_by x rest l k u t _ (a + access_size known width)
-    (store_step x.code u (store_of width) (p + 4 * before known width) 5 r (part_of known b) at pc stands address (store_accessible width at lies.aligned (omega arith) lies.below)
+    (store_step x.code u (store_of width) (p + 4 * before known width) 5 r (part_of known b) at pc stands address (store_accessible x.code.floor width at lies.aligned (omega arith) lies.below)
     ∙ ap (λ n. Continues (record u { pc = u.pc + 4; memory = stored (store_of width) u.memory at n })) (sym (wu.same r fine.1)))
     (ap (λ n. n + 4) pc ∙ behind_access known width x.place a) (standing_tail x w a (One (Store width g i r)) rest st)
     (within_store x l h u (u.pc + 4) width g n (l (Register r)) v there (word_of_register x l h s r fine.1 inside) wu))))
@@ -600,7 +601,7 @@ not_kept f r lo hi = ((omega arith, omega arith), λ k. elim k [ inl q ↦ absur
 numbered : State → ℕ → State
 numbered s n = record s { pc = s.pc + 4; registers = with_register s.registers 17 n }
 
-number_step : (x : Site) {held : Scratch} (l : Locations) (h : World) (s : State) (p n : ℕ) → s.pc ≡ p → n < 2 ^ 32 → x.code p ≡ Some (OpImm Addi 17 0 n) → Within x held l h s → machine_step x.code s ≡ Continues (numbered s n)
+number_step : (x : Site) {held : Scratch} (l : Locations) (h : World) (s : State) (p n : ℕ) → s.pc ≡ p → n < 2 ^ 32 → x.code.at p ≡ Some (OpImm Addi 17 0 n) → Within x held l h s → machine_step x.code s ≡ Continues (numbered s n)
 unfolding numbered
 number_step x l h s p n e lt f w =
     let value : add (s.registers 0) n ≡ n = (let z = w.sound.zero in omega arith) in

@@ -121,7 +121,7 @@ load_at_by x {held} w a width g to n rest l h s (e, st, inside) (Some v) is =
     (uppered_reaches x rest (put (Register to) v l) h known s p b (load_element width to (base_register known) (part_of known b) ∷ []) e (first_items x w a (LoadAt width g to n) rest st)
     (λ stands pc.
     reach_by x rest (put (Register to) v l) h u t _ (a + known_access_size known)
-    (load_step x.code u (load_of width) (p + 4 * upper_before known) to (base_register known) (part_of known b) at pc stands.0 (known_address known width s (x.layout.base g) n lies.below told) (load_accessible width at lies.aligned (omega arith) lies.below) ∙ ap (λ i. puts to i u) value)
+    (load_step x.code u (load_of width) (p + 4 * upper_before known) to (base_register known) (part_of known b) at pc stands.0 (known_address known width s (x.layout.base g) n lies.below told) (load_accessible x.code.floor width at lies.aligned (omega arith) lies.below) ∙ ap (λ i. puts to i u) value)
     (ap (λ i. i + 4) pc ∙ behind_known known x.place a) (standing_tail x w a (LoadAt width g to n) rest st) (within_set x l h u (u.pc + 4) to v st.fine.0 lv wu))))
 
 pub load_at_case : (x : Site) {held : Scratch} (w a : ℕ) (width : Width) (g to n : ℕ) (rest : List Step) (l : Locations) (h : World) (s : State) → Given x held w a (LoadAt width g to n ∷ rest) l h s → Case x (LoadAt width g to n ∷ rest) l h s
@@ -147,7 +147,7 @@ store_at_by x {held} w a width g n r rest l h s (e, st, inside) (Some v) is =
     (uppered_reaches x rest l k known s p b (store_element width (base_register known) r (part_of known b) ∷ []) e (first_items x w a (StoreAt width g n r) rest st)
     (λ stands pc.
     reach_by x rest l k u t _ (a + known_access_size known)
-    (store_step x.code u (store_of width) (p + 4 * upper_before known) (base_register known) r (part_of known b) at pc stands.0 (known_address known width s (x.layout.base g) n lies.below told) (store_accessible width at lies.aligned (omega arith) lies.below)
+    (store_step x.code u (store_of width) (p + 4 * upper_before known) (base_register known) r (part_of known b) at pc stands.0 (known_address known width s (x.layout.base g) n lies.below told) (store_accessible x.code.floor width at lies.aligned (omega arith) lies.below)
     ∙ ap (λ i. Continues (record u { pc = u.pc + 4; memory = stored (store_of width) u.memory at i })) (sym (wu.same r st.fine.0)))
     (ap (λ i. i + 4) pc ∙ behind_known known x.place a) (standing_tail x w a (StoreAt width g n r) rest st)
     (within_store x l h u (u.pc + 4) width g n (l (Register r)) v there (word_of_register x l h s r st.fine.0 inside) wu))))
@@ -183,7 +183,7 @@ word_branch_reaches x {held} v a b n k word None nonzero is rest l h s alone e i
     let next : IsPlace (x.place + 4 * (a + 1)) = record { aligned = omega arith; from = omega arith; to = omega arith } in
     let there : x.place + 4 * a + 4 ≡ x.place + 4 * (a + 1) = behind_1 x.place a in
     let long : a + (1 + branch_size is) ≡ a + 1 + branch_size is = omega arith in
-    let one : machine_step x.code s ≡ Continues t = step_at x.code s (x.place + 4 * a) (first_instr k 5 b) e f.0 ∙ first_executes k 5 b s inside.sound.zero in
+    let one : machine_step x.code s ≡ Continues t = step_at x.code s (x.place + 4 * a) (first_instr k 5 b) e f.0 ∙ first_executes x.code.floor k 5 b s inside.sound.zero in
     let tells : Tells (compares (asked_of k) 5 0) t.registers word = ap (λ q. is_taken (asked_of k) u q) wt.sound.zero ∙ first.1 in
     reach_more x (led nonzero word rest (place x.steps n)) l h s t one
     (told_reaches x v (a + 1) n rest l h t (compares (asked_of k) 5 0) word nonzero is (ap (λ q. q + 4) e ∙ there) wt next (subst (λ q. Standing x (without_address held) v q rest) long st) all (λ q. next_nears a (labels x n) (close q))

@@ -6,12 +6,13 @@ use Rattle.std.specs.Cmp.Lexicographic.{other_text}
 use Rattle.cc_ast.specs.Tree.{Source}
 use Rattle.cc_ast.specs.Source.{source}
 use Rattle.cc_c_laws.specs.Meaning.{functions}
+use Rattle.cc_c_laws.specs.declared.mode.Mode.TheVariants.{Plain}
 use Rattle.cc_unit.specs.declared.unit.StoredUnit.{StoredUnit}
 use Rattle.cc_emit.specs.Piece.{Piece}
 use Rattle.cc_link.specs.declared.fault.LinkFault.{LinkFault}
 use Rattle.cc_link.specs.declared.fault.LinkFault.TheVariants.{ImageTooLarge, Missing, Doubled, Stranger}
 use Rattle.cc_link.specs.Link.{code_words, most_code}
-use Rattle.cc_link.specs.Linked.{same_bytes, stranger, is_among, doubled, piece_of, missing, bodies, too_large, link_refusal, unit_of, unless_refused, linked}
+use Rattle.cc_link.specs.Linked.{same_bytes, same_mode, stranger, is_among, doubled, piece_of, missing, bodies, too_large, link_refusal, unit_of, unless_refused, linked}
 use Rattle.cc_link.specs.Pieces.{AreFrom}
 
 pub same_itself : (x : List ℕ) → same_bytes x x ≡ true
@@ -21,10 +22,11 @@ same_itself x = by (same_bytes x x) refl
     by true e = refl
     by false e = absurd (other_text x x (sym e) refl)
 
-pub no_stranger : (text : List ℕ) (at from : ℕ) (ps : List Piece) → AreFrom text from ps → stranger text at ps ≡ None
+pub no_stranger : (text : List ℕ) (at from : ℕ) (ps : List Piece) → AreFrom text from ps → stranger Plain text at ps ≡ None
 no_stranger text at from [] h = refl
 no_stranger text at from (p ∷ ps) h =
-    ap (λ b. if b then stranger text (suc at) ps else Some (Stranger p.function at)) (ap (λ t. same_bytes t text) h.0 ∙ same_itself text) ∙ no_stranger text (suc at) (suc from) ps h.2
+    ap (λ b. if b then stranger Plain text (suc at) ps else Some (Stranger p.function at))
+    (ap (λ m. if same_mode m Plain then same_bytes (source p.unit).text text else false) h.0.0 ∙ ap (λ t. same_bytes t text) h.0.1 ∙ same_itself text) ∙ no_stranger text (suc at) (suc from) ps h.2
 
 among_more : (gs : List ℕ) (x g : ℕ) → is_among (gs ++ x ∷ []) g ≡ true → (is_among gs g ≡ true) ⊎ (x ≡ g)
 among_more [] x g e = by (x == g) refl e
@@ -76,12 +78,12 @@ only_large s ps f h count e =
     let a = no_stranger s.text 0 0 ps h in
     let b = none_doubled s.text [] 0 0 ps (λ g i. absurd (let d : false ≡ true = i in cc)) h in
     let c = none_left ps 0 n (λ g low high. there s.text 0 g ps h low (omega arith)) in
-    let is : link_refusal s ps ≡ too_large (bodies s.externals ps) =
+    let is : link_refusal Plain s ps ≡ too_large (bodies s.externals ps) =
     ap (λ o. option_or o (option_or (doubled [] 0 ps) (option_or (missing ps 0 n) (too_large (bodies s.externals ps))))) a
     ∙ ap (λ o. option_or o (option_or (missing ps 0 n) (too_large (bodies s.externals ps)))) b ∙ ap (λ o. option_or o (too_large (bodies s.externals ps))) c in
     only_fault s ps f (nat_lt most_code (code_words (bodies s.externals ps))) (sym (ap (λ o. unless_refused o (unit_of s ps)) is) ∙ e)
 
 -- one piece more
-pub one_from : (text : List ℕ) (from : ℕ) (ps : List Piece) (p : Piece) → AreFrom text from ps → (source p.unit).text ≡ text → p.function ≡ from + length ps → AreFrom text from (ps ++ p ∷ [])
-one_from text from [] p h e f = (e, omega arith, tt)
-one_from text from (q ∷ ps) p h e f = (h.0, h.1, one_from text (suc from) ps p h.2 e (omega arith))
+pub one_from : (text : List ℕ) (from : ℕ) (ps : List Piece) (p : Piece) → AreFrom text from ps → p.mode ≡ Plain → (source p.unit).text ≡ text → p.function ≡ from + length ps → AreFrom text from (ps ++ p ∷ [])
+one_from text from [] p h m e f = ((m, e), omega arith, tt)
+one_from text from (q ∷ ps) p h m e f = (h.0, h.1, one_from text (suc from) ps p h.2 m e (omega arith))

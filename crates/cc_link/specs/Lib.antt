@@ -10,6 +10,8 @@ pub mod Packed
 pub mod Certificate
 -- why pieces are refused, and else the unit that they make
 pub mod Linked
+-- how much stack an image takes, and that it agrees on a board that backs so much
+pub mod Stack
 -- that this unit agrees
 pub mod Laws
 -- whose pieces some pieces are

@@ -6,6 +6,7 @@ ghost use Rattle.cc_ast.specs.Source.{source};
 ghost use Rattle.cc_types.specs.Typed.{defined_names};
 ghost use Rattle.cc_cminor.specs.Pair.{code_of};
 ghost use Rattle.cc_cminor.specs.Size.{AtMostTwelveAToken};
+ghost use Rattle.cc_c_laws.specs.declared.mode.Mode.TheVariants.{Plain};
 ghost use Rattle.cc_rtl.specs.declared.fault.RtlFault.TheVariants.{FunctionTooLarge};
 ghost use Rattle.cc_link.specs.Compile.{IsLong, IsNameAt, IsPieceRefusal};
 
@@ -62,6 +63,7 @@ fn with_live_sets(
     function: usize,
 ) -> Result<Colourable, RtlFault>
     requires { function < length (defined_names (source (arc_value unit.now))) }
+    ensures mode { IfOk result (λ made. made.rtl.mode ≡ Plain) }
     ensures unit { IfOk result (λ made. made.rtl.unit ≡ arc_value unit.now) }
     ensures function { IfOk result (λ made. made.rtl.function ≡ function) }
     ensures large { IfErr result (λ fault. fault ≡ FunctionTooLarge → IsLong (source (arc_value unit.now)).externals function) }
@@ -75,6 +77,7 @@ fn with_live_sets(
 // The same of a function in Cminor.
 fn pruned(alloc: Global, pair: CminorPair) -> Result<Colourable, RtlFault>
     requires { AtMostTwelveAToken (source pair.unit).externals pair.function (code_of pair) }
+    ensures mode { IfOk result (λ made. made.rtl.mode ≡ pair.mode) }
     ensures unit { IfOk result (λ made. made.rtl.unit ≡ pair.unit) }
     ensures function { IfOk result (λ made. made.rtl.function ≡ pair.function) }
     ensures large { IfErr result (λ fault. fault ≡ FunctionTooLarge → IsLong (source pair.unit).externals pair.function) }
@@ -96,6 +99,7 @@ fn coloured(alloc: Global, rtl: &Rtl, live: Liveness) -> Result<Ltl, AllocError>
 
 // Validated LTL in which each pseudo-register has a slot of its own.
 fn spilled(alloc: Global, pair: RtlPair) -> Result<LtlPair, ValidateFault>
+    ensures mode { IfOk result (λ made. made.mode ≡ pair.mode) }
     ensures unit { IfOk result (λ made. made.unit ≡ pair.unit) }
     ensures function { IfOk result (λ made. made.function ≡ pair.function) }
 {
@@ -110,6 +114,7 @@ fn spilled(alloc: Global, pair: RtlPair) -> Result<LtlPair, ValidateFault>
 
 // LTL that the validator accepts: by registers, and with a slot for each value only where it refuses that.
 fn allocated(alloc: Global, colourable: Colourable) -> Result<LtlPair, ValidateFault>
+    ensures mode { IfOk result (λ made. made.mode ≡ colourable.rtl.mode) }
     ensures unit { IfOk result (λ made. made.unit ≡ colourable.rtl.unit) }
     ensures function { IfOk result (λ made. made.function ≡ colourable.rtl.function) }
 {
@@ -131,6 +136,7 @@ fn allocated(alloc: Global, colourable: Colourable) -> Result<LtlPair, ValidateF
 
 /// The piece of validated LTL.
 pub(crate) fn emitted(alloc: Global, pair: LtlPair) -> Result<Piece, AllocError>
+    ensures mode { IfOk result (λ piece. piece.mode ≡ pair.mode) }
     ensures unit { IfOk result (λ piece. piece.unit ≡ pair.unit) }
     ensures function { IfOk result (λ piece. piece.function ≡ pair.function) }
 {
@@ -148,6 +154,7 @@ fn finished(
     length: usize,
 ) -> Result<Piece, PieceFault>
     requires { IsNameAt (source colourable.rtl.unit).externals colourable.rtl.function at length }
+    ensures mode { IfOk result (λ piece. piece.mode ≡ colourable.rtl.mode) }
     ensures unit { IfOk result (λ piece. piece.unit ≡ colourable.rtl.unit) }
     ensures function { IfOk result (λ piece. piece.function ≡ colourable.rtl.function) }
     ensures refused { IfErr result (λ fault. IsPieceRefusal (source colourable.rtl.unit).externals colourable.rtl.function fault) }
@@ -176,6 +183,7 @@ pub fn compile_function(
     function: usize,
 ) -> Result<Piece, PieceFault>
     requires { function < length (defined_names (source (arc_value unit.now))) }
+    ensures mode { IfOk result (λ piece. piece.mode ≡ Plain) }
     ensures unit { IfOk result (λ piece. piece.unit ≡ arc_value unit.now) }
     ensures function { IfOk result (λ piece. piece.function ≡ function) }
     ensures refused { IfErr result (λ fault. IsPieceRefusal (source (arc_value unit.now)).externals function fault) }

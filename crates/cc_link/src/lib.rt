@@ -26,7 +26,9 @@ pub use compiled::CompiledUnit;
 pub use compiling::compile;
 pub use fault::LinkFault;
 pub use function::compile_function;
-pub use laws::{linked_units_agree, made_units_are_certified};
-pub use linking::{link, link_lent};
+pub use laws::{
+    linked_units_agree, linked_units_are_backed, linked_units_follow, made_units_are_certified,
+};
+pub use linking::{link, link_in, link_lent};
 pub use piece_fault::PieceFault;
 pub use text::{TextFault, typed_unit, verdicts_are_determined};

@@ -169,7 +169,7 @@ ltl_send : IsSend Ltl.the_row
 ltl_send = view_send _ _ _ _ _ (recorded_send ltl.the_field.row _ _ ltl.the_type.to_one (struct_send (shape ltl.the_type) (search sendable, (search sendable, (Vec-send _ block_send, tt)))))
 
 piece_send : IsSend Piece.the_row
-piece_send = view_send _ _ _ _ _ (recorded_send piece.the_field.row _ _ piece.the_type.to_one (struct_send (shape piece.the_type) (Arc-send _ typed_send typed_sync, (search sendable, (ltl_send, (Vec-send _ word_send, tt))))))
+piece_send = view_send _ _ _ _ _ (recorded_send piece.the_field.row _ _ piece.the_type.to_one (struct_send (shape piece.the_type) (search sendable depth 20, (Arc-send _ typed_send typed_sync, (search sendable, (ltl_send, (search sendable, (Vec-send _ word_send, tt))))))))
 
 refusal_send : IsSend Refusal.the_row
 refusal_send = view_send _ _ _ _ _ (recorded_send refusal.the_field.row _ _ refusal.the_type.to_one (struct_send (shape refusal.the_type) (Arc-send _ typed_send typed_sync, (search sendable, (search sendable depth 20, tt)))))

@@ -4,6 +4,7 @@ use Rattle.std.specs.Prelude.{All}
 use Rattle.std.proofs.lemmas.Bool.{cases_lt}
 use Rattle.std.proofs.lemmas.List.Elements.{All-head, All-tail}
 use Rattle.cc_ast.specs.Source.{source}
+use Rattle.cc_c_laws.specs.declared.mode.Mode.TheVariants.{Plain}
 use Rattle.cc_emit.specs.Piece.{Piece}
 use Rattle.cc_link.specs.Pieces.{AreFrom}
 use Rattle.cc_link.specs.Compile.{HasPiece}
@@ -14,7 +15,7 @@ use Rattle.cc_pool.specs.declared.fault.PoolFault.{PoolFault}
 use Rattle.cc_pool.specs.declared.fault.PoolFault.TheVariants as fault
 
 -- one piece more
-pub one_from : (text : List ℕ) (from : ℕ) (ps : List Piece) (p : Piece) → AreFrom text from ps → (source p.unit).text ≡ text → p.function ≡ from + length ps → AreFrom text from (ps ++ p ∷ [])
+pub one_from : (text : List ℕ) (from : ℕ) (ps : List Piece) (p : Piece) → AreFrom text from ps → (p.mode ≡ Plain) × ((source p.unit).text ≡ text) → p.function ≡ from + length ps → AreFrom text from (ps ++ p ∷ [])
 one_from text from [] p own whose which = (whose, omega (arith, which), tt)
 one_from text from (q ∷ ps) p own whose which = (own.0, own.1, one_from text (suc from) ps p own.2 whose (omega (arith, which)))
 
@@ -24,7 +25,7 @@ has_piece text from g [] own all low high = absurd (omega arith)
 has_piece text from g (p ∷ ps) own all low high =
     elim (cases_lt from g) [
       | inl lt ↦ has_piece text (suc from) g ps own.2 (All-tail IsCompiled p ps all) lt (omega (arith, high))
-      | inr le ↦ record { piece = p; compiled = All-head IsCompiled p ps all; text_is = own.0; function_is = own.1 ∙ omega (arith, low, le) }
+      | inr le ↦ record { piece = p; compiled = All-head IsCompiled p ps all; text_is = own.0.1; function_is = own.1 ∙ omega (arith, low, le) }
     ]
 
 -- the reason of the function behind them is that of the first function that has none

@@ -11,6 +11,7 @@ ghost use Rattle.cc_pool.specs.internal.Reason.{IsOf, IsReason};
 
 use crate::answer::{Answer, Refusal};
 use crate::fault::PoolFault;
+use cc_c_laws::Mode;
 use cc_emit::Piece;
 use cc_types::TypedUnit;
 use crossbeam_channel::Receiver;
@@ -64,7 +65,10 @@ fn place_of(pieces: &[Piece], text: &[u8], function: usize) -> Option<usize>
     ensures some { IfSome result (λ at. HoldsAt (IsOf text.now function) pieces.now at) }
 {
     for at in 0..pieces.len() {
-        if pieces[at].function() == function && pieces[at].unit().text() == text {
+        if pieces[at].function() == function
+            && matches!(pieces[at].mode(), Mode::Plain)
+            && pieces[at].unit().text() == text
+        {
             return Some(at);
         }
     }

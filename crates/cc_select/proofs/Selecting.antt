@@ -4,6 +4,7 @@ use Rattle.std.proofs.Common.{ℕ, ◌≤◌, List, length}
 use Rattle.cc_ast.specs.Tree.{External}
 use Rattle.cc_types.specs.Typed.{IsWithinLimits}
 use Rattle.cc_linear_language.specs.Meaning.{functions}
+use Rattle.cc_c_laws.specs.declared.mode.Mode.{Mode}
 use Rattle.cc_simulation.specs.Meaning.{Meaning}
 use Rattle.cc_simulation.specs.Tracks.{TracksForAll}
 use Rattle.cc_simulation.proofs.Simulating.{coarser}
@@ -46,14 +47,14 @@ pub selected_tracks : (meaning : Meaning) (f rate slots : ℕ) (items : List Lin
 selected_tracks meaning f rate slots items distinct few keeps =
     trimmed_tracks meaning f (coarser rate 1) slots (chosen unknown (threaded items)) few (chosen_tracks meaning f (coarser rate 1) slots (threaded items) (threaded_tracks meaning f rate slots items distinct keeps))
 
-pub keeps_up_selected : (unit : List External) (f slots : ℕ) (items : List LinearItem) → IsWithinLimits unit → Distinct (labels items) → above.KeepsUp unit f slots items → KeepsUp unit f slots (selected items)
-keeps_up_selected unit f slots items limits distinct (rate, keeps) = (
+pub keeps_up_selected : (mode : Mode) (unit : List External) (f slots : ℕ) (items : List LinearItem) → IsWithinLimits unit → Distinct (labels items) → above.KeepsUp mode unit f slots items → KeepsUp mode unit f slots (selected items)
+keeps_up_selected mode unit f slots items limits distinct (rate, keeps) = (
   selected_rate rate items,
   λ meaning is. selected_tracks meaning f rate slots items distinct (few_of_meaning unit meaning limits is) (keeps meaning is),
 )
 
 -- with what `TypedUnit::externals` says of the unit's limits
-pub pair_selected : (p : above.Pair) → above.IsPair p → IsWithinLimits (above.tree_of p) → IsPair (record { unit = p.unit; function = p.function; ltl = p.ltl; code = selected p.code })
+pub pair_selected : (p : above.Pair) → above.IsPair p → IsWithinLimits (above.tree_of p) → IsPair (record { mode = p.mode; unit = p.unit; function = p.function; ltl = p.ltl; code = selected p.code })
 pair_selected p is limits =
     let unit = above.tree_of p in
     record {
@@ -63,5 +64,5 @@ pair_selected p is limits =
       few = is.few;
       ltl_keeps_up = is.ltl_keeps_up;
       selected = is_selected p.ltl.slots (length (functions unit)) p.code is.linear;
-      keeps_up = keeps_up_selected unit p.function p.ltl.slots p.code limits is.linear.distinct is.keeps_up;
+      keeps_up = keeps_up_selected p.mode unit p.function p.ltl.slots p.code limits is.linear.distinct is.keeps_up;
     }

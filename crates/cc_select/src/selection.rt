@@ -49,6 +49,7 @@ fn is_within_limits(unit: &TypedUnit)
 ///
 /// It fails only for lack of memory (40); the pair is gone then.
 pub fn select(alloc: Global, pair: LinearPair) -> Result<SelectedPair, AllocError>
+    ensures mode { IfOk result (λ made. made.mode ≡ pair.mode) }
     ensures unit { IfOk result (λ made. made.unit ≡ pair.unit) }
     ensures function { IfOk result (λ made. made.function ≡ pair.function) }
     ensures ltl { IfOk result (λ made. made.ltl ≡ pair.ltl) }
@@ -56,7 +57,8 @@ pub fn select(alloc: Global, pair: LinearPair) -> Result<SelectedPair, AllocErro
 {
     let steps = selected(alloc, pair.code())?;
     is_within_limits(pair.unit());
+    let mode = pair.mode();
     let function = pair.function();
     let (unit, ltl) = pair.into_parts();
-    Ok(SelectedPair::new(unit, function, ltl, steps))
+    Ok(SelectedPair::new(mode, unit, function, ltl, steps))
 }

@@ -281,7 +281,7 @@ fn ends_large(alloc: Global, function: Option<&[u8]>, end: &str) -> Result<bool,
 
 #[test]
 fn a_function_with_too_many_nodes(rt: HostRuntime) -> Result<(), Fail> {
-    let refused = "  skip\n== main: RTL\nrefused: more than 4096 nodes\n";
+    let refused = "  v0 = 0\n== main: RTL\nrefused: more than 4096 nodes\n";
     let other = "  return\n== f: code\nnone: the program has no image\n";
     let all = ends_large(rt.alloc(), None, refused)?;
     let alone = ends_large(rt.alloc(), Some(b"main"), refused)?;

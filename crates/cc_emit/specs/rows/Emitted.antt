@@ -1,6 +1,6 @@
 -- Worked emission, by computation: the code of a function item for item, its run on the machine, operators and comparisons with a word,
 -- elements whose numbers are known, branches on comparisons, and where a branch is near.
-use Rattle.std.specs.Prelude.{ℕ, zero, suc, ◌+◌, ◌-◌, ◌*◌, ◌/◌, ◌≡◌, refl, true, false, if◌then◌else◌, ◌==◌, nat_le, List, [], ◌∷◌, map, None, slice_get}
+use Rattle.std.specs.Prelude.{ℕ, zero, suc, ◌+◌, ◌-◌, ◌*◌, ◌/◌, ◌≡◌, refl, true, false, if◌then◌else◌, ◌==◌, nat_le, List, [], ◌∷◌, map, Option, None, slice_get}
 use Rattle.cc_words.specs.declared.operators.Width.TheVariants.{Byte, Word}
 use Rattle.cc_words.specs.declared.operators.Binary.TheVariants.{Add, Sub, LtS, LeS, LeU, Ne}
 use Rattle.cc_ltl.specs.declared.operation.Move.TheVariants.{Reload, Spill}
@@ -21,7 +21,7 @@ use Rattle.cc_rv32.specs.Machine.{State, Turn, Continues, Exits, Traps, executed
 use Rattle.cc_emit.specs.declared.item.PieceItem.{PieceItem}
 use Rattle.cc_emit.specs.declared.item.PieceItem.TheVariants as item
 use Rattle.cc_emit.specs.declared.item.PieceItem.TheVariants.{Plain}
-use Rattle.cc_emit.specs.Contract.{Code, filled}
+use Rattle.cc_emit.specs.Contract.{filled}
 use Rattle.cc_emit.specs.Objects.{object_address}
 use Rattle.cc_emit.specs.Branches.{comparison, turned}
 use Rattle.cc_emit.specs.Emission.{addi, branch_items, load_element, load_word, store_element, store_word, const_size, is_close}
@@ -57,7 +57,7 @@ abbrev instructions : (a : ℕ) → List PieceItem → List Instr
 instructions a [] = []
 instructions a (i ∷ is) = filled (λ g. 0) 0x10000 a i ∷ instructions (a + 4) is
 
-abbrev code : Code
+abbrev code : ℕ → Option Instr
 code a = if nat_le 0x10000 a then slice_get (instructions 0x10000 items) ((a - 0x10000) / 4) else None
 
 abbrev after : Turn → State → State
@@ -111,7 +111,7 @@ abbrev byte_instructions : List Instr
 byte_instructions =
     instructions 0x10000 (function_items (object_address (record { width = Byte; elements = 5 } ∷ record { width = Byte; elements = 3 } ∷ [])) 0 (map One (Const 7 1 ∷ Const 10 300 ∷ Store Byte 1 7 10 ∷ Load Byte 1 10 7 ∷ Write ∷ Return ∷ [])))
 
-abbrev byte_code : Code
+abbrev byte_code : ℕ → Option Instr
 byte_code a = if nat_le 0x10000 a then slice_get byte_instructions ((a - 0x10000) / 4) else None
 
 abbrev byte_steps : ℕ → State → State

@@ -1,0 +1,303 @@
+-- What the pass makes: the same code, in which a test comes before an operation that may have no answer. If a test fails the run leaves all
+-- blocks, to a loop at the end of the function that goes on for ever and does nothing.
+use Rattle.std.specs.Prelude.{ℕ, suc, ◌-◌, ◌^◌, ◌==◌, nat_lt, min, max, Bool, true, false, not, ◌&&◌, ◌||◌, List, [], ◌∷◌, ◌++◌, Option, Some, None, if◌then◌else◌}
+use Rattle.std.specs.Option.{option_or}
+use Rattle.cc_words.specs.declared.operators.Unary as one
+use Rattle.cc_words.specs.declared.operators.Unary.TheVariants.{IsZero}
+use Rattle.cc_words.specs.declared.operators.Binary as two
+use Rattle.cc_words.specs.declared.operators.Binary.TheVariants.{Add, Sub, Mul, DivS, DivU, RemS, RemU, Shl, ShrS, ShrU, And, Or, Xor, Eq, Ne, LtS, LtU, LeS, LeU}
+use Rattle.cc_words.specs.declared.operators.Width.{Width}
+use Rattle.cc_words.specs.Widths.{same_width}
+use Rattle.cc_simulation.specs.World.{Size, size_in}
+use Rattle.cc_cminor.specs.Cminor.{Expression, Constant, Local, Unary, Binary, Load, Statement, Skip, Set, Store, Call, Read, Write, Sequence, If, Loop, Block, Exit, Return, Continuation, Ends, Then, Again, Leaving}
+use Rattle.cc_guard.specs.declared.known.Limit.{Limit}
+
+-- ---- guards
+
+-- What comes before a statement: a word is put into a variable; the run stops if a word is not 0; it stops if neither of two words is 0.
+pub data Guard : Type 0 where
+  Put : (variable : ℕ) → Expression → Guard
+  Stop : Expression → Guard
+  StopBoth : (first second : Expression) → Guard
+
+-- the loop that never ends, and does nothing
+abbrev pub forever : Statement
+forever = Loop Skip
+
+-- in so many blocks of the function's own
+abbrev pub guard_code : (blocks : ℕ) → Guard → Statement
+guard_code b (Put t e) = Set t e
+guard_code b (Stop e) = If e (Exit b) Skip
+guard_code b (StopBoth d e) = If d (If e (Exit b) Skip) Skip
+
+-- guards, then a statement
+abbrev pub guards_then : (blocks : ℕ) → List Guard → Statement → Statement
+guards_then b [] s = s
+guards_then b (g ∷ gs) s = Sequence (guard_code b g) (guards_then b gs s)
+
+-- An expression that has a value after these guards, which set no variable below a given one and none from `next` on; and what is known of
+-- variables then.
+pub record Guarded : Type 0 where
+  pub before : List Guard
+  pub value : Expression
+  pub next : ℕ
+  pub known : List Limit
+
+-- ---- when an operation has an answer
+
+-- the less of two words, if there are two
+abbrev pub least : Option ℕ → Option ℕ → Option ℕ
+least None b = b
+least (Some m) None = Some m
+least (Some m) (Some k) = Some (min m k)
+
+-- a remainder by a constant
+abbrev pub below_divisor : Expression → Option ℕ
+below_divisor (Constant (suc w)) = Some w
+below_divisor e = None
+
+-- the greatest word that a variable can have, by what was known last
+abbrev pub most_if : Bool → (most : ℕ) → Option ℕ
+most_if b m = if b then Some m else None
+
+abbrev pub most_in : List Limit → (variable : ℕ) → Option ℕ
+most_in [] x = None
+most_in (k ∷ ks) x = option_or (most_in ks x) (most_if (k.variable == x) k.most)
+
+-- the greatest word that an expression can have, if its form shows one
+abbrev pub most : List Limit → Expression → Option ℕ
+most ks (Constant w) = Some w
+most ks (Local x) = most_in ks x
+most ks (Unary op e) = None
+most ks (Binary And a b) = least (most ks a) (most ks b)
+most ks (Binary RemU a b) = below_divisor b
+most ks (Binary Eq a b) = Some 1
+most ks (Binary Ne a b) = Some 1
+most ks (Binary LtS a b) = Some 1
+most ks (Binary LtU a b) = Some 1
+most ks (Binary LeS a b) = Some 1
+most ks (Binary LeU a b) = Some 1
+most ks (Binary op a b) = None
+most ks (Load w o i) = None
+
+-- it is evidently below a number
+abbrev pub is_below : Option ℕ → ℕ → Bool
+is_below None n = false
+is_below (Some m) n = nat_lt m n
+
+-- it is a word but 0, and but -1
+abbrev pub is_divisor : Expression → Bool
+is_divisor (Constant w) = not (w == 0)
+is_divisor e = false
+
+abbrev pub is_signed_divisor : Expression → Bool
+is_signed_divisor (Constant w) = not (w == 0) && not (w == 2 ^ 32 - 1)
+is_signed_divisor e = false
+
+-- an operator evidently has an answer with this right operand, whatever the left one is
+-- ORDER Binary
+abbrev pub always : List Limit → two.Binary → (right : Expression) → Bool
+always ks Add b = true
+always ks Sub b = true
+always ks Mul b = true
+always ks DivS b = is_signed_divisor b
+always ks DivU b = is_divisor b
+always ks RemS b = is_signed_divisor b
+always ks RemU b = is_divisor b
+always ks Shl b = is_below (most ks b) 32
+always ks ShrS b = is_below (most ks b) 32
+always ks ShrU b = is_below (most ks b) 32
+always ks And b = true
+always ks Or b = true
+always ks Xor b = true
+always ks Eq b = true
+always ks Ne b = true
+always ks LtS b = true
+always ks LtU b = true
+always ks LeS b = true
+always ks LeU b = true
+
+-- ---- what is asked before an operator: the run stops exactly if there is no answer
+
+-- a quotient with signs: not by 0, and not -2147483648 by -1
+abbrev pub asked_signed : (a b : Expression) → List Guard
+asked_signed a b = Stop (Unary IsZero b) ∷ StopBoth (Binary Eq b (Constant (2 ^ 32 - 1))) (Binary Eq a (Constant (2 ^ 31))) ∷ []
+
+abbrev pub asked_divisor : (b : Expression) → List Guard
+asked_divisor b = Stop (Unary IsZero b) ∷ []
+
+abbrev pub asked_shift : (b : Expression) → List Guard
+asked_shift b = Stop (Binary LeU (Constant 32) b) ∷ []
+
+-- ORDER Binary
+abbrev pub asked : two.Binary → (a b : Expression) → List Guard
+asked Add a b = []
+asked Sub a b = []
+asked Mul a b = []
+asked DivS a b = asked_signed a b
+asked DivU a b = asked_divisor b
+asked RemS a b = asked_signed a b
+asked RemU a b = asked_divisor b
+asked Shl a b = asked_shift b
+asked ShrS a b = asked_shift b
+asked ShrU a b = asked_shift b
+asked And a b = []
+asked Or a b = []
+asked Xor a b = []
+asked Eq a b = []
+asked Ne a b = []
+asked LtS a b = []
+asked LtU a b = []
+asked LeS a b = []
+asked LeU a b = []
+
+-- whether the left operand is asked for too
+abbrev pub reads_left : two.Binary → Bool
+reads_left DivS = true
+reads_left RemS = true
+reads_left op = false
+
+-- how many elements of a width an object of a size has
+abbrev pub elements_of : Size → Width → ℕ
+elements_of z w = if same_width z.width w then z.elements else 0
+
+abbrev pub elements_in : List Size → Width → (object : ℕ) → ℕ
+elements_in objects w o = elements_of (size_in objects o) w
+
+-- ---- an expression
+
+-- as it is
+abbrev pub plain : List Limit → ℕ → Expression → Guarded
+plain ks n e = record { before = []; value = e; next = n; known = ks }
+
+-- a value that is read twice waits in a variable, if it is not a word or a variable already
+abbrev pub waits_as : Expression → Guarded → Guarded
+waits_as (Constant w) g = g
+waits_as (Local x) g = g
+waits_as e g = record { before = g.before ++ Put g.next g.value ∷ []; value = Local g.next; next = suc g.next; known = g.known }
+
+abbrev pub waiting : Guarded → Guarded
+waiting g = waits_as g.value g
+
+abbrev pub waiting_if : Bool → Guarded → Guarded
+waiting_if b g = if b then waiting g else g
+
+abbrev pub with_unary : one.Unary → Guarded → Guarded
+with_unary op g = record { before = g.before; value = Unary op g.value; next = g.next; known = g.known }
+
+-- an operator on two operands, after the guards of both
+abbrev pub with_binary : two.Binary → Guarded → Guarded → Guarded
+with_binary op a b = record { before = a.before ++ b.before; value = Binary op a.value b.value; next = b.next; known = b.known }
+
+-- and after it was asked whether there is an answer
+abbrev pub with_test : two.Binary → Guarded → Guarded → Guarded
+with_test op a b = record { before = a.before ++ (b.before ++ asked op a.value b.value); value = Binary op a.value b.value; next = b.next; known = b.known }
+
+abbrev pub with_load : Width → (object : ℕ) → Guarded → Guarded
+with_load w o i = record { before = i.before; value = Load w o i.value; next = i.next; known = i.known }
+
+-- a value is below a number: if it is that of a variable, that is known from then on
+abbrev pub learned : Expression → ℕ → List Limit → List Limit
+learned (Local x) n ks = ks ++ record { variable = x; most = n - 1 } ∷ []
+learned e n ks = ks
+
+abbrev pub bounded : ℕ → Guarded → Guarded
+bounded n g = record { before = g.before ++ Stop (Binary LeU (Constant n) g.value) ∷ []; value = g.value; next = g.next; known = learned g.value n g.known }
+
+-- an index of an object, after its own guards: it is asked whether it is in the object, if it is not evidently
+abbrev pub indexed : List Size → List Limit → Width → (object : ℕ) → Expression → Guarded → Guarded
+indexed objects ks w o i g = if is_below (most ks i) (elements_in objects w o) then g else bounded (elements_in objects w o) (waiting g)
+
+-- inner parts first, left to right; the guards set variables from n on
+abbrev pub guarded : List Size → List Limit → (n : ℕ) → Expression → Guarded
+guarded objects ks n (Constant w) = plain ks n (Constant w)
+guarded objects ks n (Local x) = plain ks n (Local x)
+guarded objects ks n (Unary op e) = with_unary op (guarded objects ks n e)
+guarded objects ks n (Binary op a b) =
+    if always (guarded objects ks n a).known op b then with_binary op (guarded objects ks n a) (guarded objects (guarded objects ks n a).known (guarded objects ks n a).next b)
+    else with_test op (waiting_if (reads_left op) (guarded objects ks n a)) (waiting (guarded objects (waiting_if (reads_left op) (guarded objects ks n a)).known (waiting_if (reads_left op) (guarded objects ks n a)).next b))
+guarded objects ks n (Load w o i) = with_load w o (indexed objects ks w o i (guarded objects ks n i))
+
+-- some expressions
+pub record GuardedAll : Type 0 where
+  pub before : List Guard
+  pub values : List Expression
+  pub next : ℕ
+
+abbrev pub with_first : Guarded → GuardedAll → GuardedAll
+with_first a rest = record { before = a.before ++ rest.before; values = a.value ∷ rest.values; next = rest.next }
+
+abbrev pub guarded_all : List Size → List Limit → (n : ℕ) → List Expression → GuardedAll
+guarded_all objects ks n [] = record { before = []; values = []; next = n }
+guarded_all objects ks n (e ∷ es) = with_first (guarded objects ks n e) (guarded_all objects (guarded objects ks n e).known (guarded objects ks n e).next es)
+
+-- ---- a statement
+
+-- the index of a store
+abbrev pub first_index : List Size → (n : ℕ) → Width → (object : ℕ) → Expression → Guarded
+first_index objects n w o i = indexed objects [] w o i (guarded objects [] n i)
+
+-- the word of a store, after the guards of its index
+abbrev pub stored_word : List Size → Guarded → Expression → Guarded
+stored_word objects i e = guarded objects i.known i.next e
+
+abbrev pub with_store : (blocks : ℕ) → Width → (object : ℕ) → Guarded → Guarded → Statement
+with_store b w o i e = guards_then b (i.before ++ e.before) (Store w o i.value e.value)
+
+-- a statement in so many blocks; the guards of each set variables from n on, and know nothing yet
+abbrev pub guarded_code : List Size → (n blocks : ℕ) → Statement → Statement
+guarded_code objects n b Skip = Skip
+guarded_code objects n b (Set x e) = guards_then b (guarded objects [] n e).before (Set x (guarded objects [] n e).value)
+guarded_code objects n b (Store w o i e) = with_store b w o (first_index objects n w o i) (stored_word objects (first_index objects n w o i) e)
+guarded_code objects n b (Call to f es) = guards_then b (guarded_all objects [] n es).before (Call to f (guarded_all objects [] n es).values)
+guarded_code objects n b (Read to) = Read to
+guarded_code objects n b (Write e) = guards_then b (guarded objects [] n e).before (Write (guarded objects [] n e).value)
+guarded_code objects n b (Sequence s t) = Sequence (guarded_code objects n b s) (guarded_code objects n b t)
+guarded_code objects n b (If e s t) =
+    guards_then b (guarded objects [] n e).before (If (guarded objects [] n e).value (guarded_code objects n b s) (guarded_code objects n b t))
+guarded_code objects n b (Loop s) = Loop (guarded_code objects n b s)
+guarded_code objects n b (Block s) = Block (guarded_code objects n (suc b) s)
+guarded_code objects n b (Exit k) = Exit k
+guarded_code objects n b (Return e) = guards_then b (guarded objects [] n e).before (Return (guarded objects [] n e).value)
+
+-- whether there is a guard
+abbrev pub some_guard : List Guard → Bool
+some_guard [] = false
+some_guard (g ∷ gs) = true
+
+abbrev pub has_guards : List Size → (n : ℕ) → Statement → Bool
+has_guards objects n Skip = false
+has_guards objects n (Set x e) = some_guard (guarded objects [] n e).before
+has_guards objects n (Store w o i e) = some_guard ((first_index objects n w o i).before ++ (stored_word objects (first_index objects n w o i) e).before)
+has_guards objects n (Call to f es) = some_guard (guarded_all objects [] n es).before
+has_guards objects n (Read to) = false
+has_guards objects n (Write e) = some_guard (guarded objects [] n e).before
+has_guards objects n (Sequence s t) = has_guards objects n s || has_guards objects n t
+has_guards objects n (If e s t) = some_guard (guarded objects [] n e).before || (has_guards objects n s || has_guards objects n t)
+has_guards objects n (Loop s) = has_guards objects n s
+has_guards objects n (Block s) = has_guards objects n s
+has_guards objects n (Exit k) = false
+has_guards objects n (Return e) = some_guard (guarded objects [] n e).before
+
+-- the least number above each variable that the guards set, if there is one
+abbrev pub variables_in : List Size → (n : ℕ) → Statement → ℕ
+variables_in objects n Skip = 0
+variables_in objects n (Set x e) = (guarded objects [] n e).next
+variables_in objects n (Store w o i e) = (stored_word objects (first_index objects n w o i) e).next
+variables_in objects n (Call to f es) = (guarded_all objects [] n es).next
+variables_in objects n (Read to) = 0
+variables_in objects n (Write e) = (guarded objects [] n e).next
+variables_in objects n (Sequence s t) = max (variables_in objects n s) (variables_in objects n t)
+variables_in objects n (If e s t) = max (guarded objects [] n e).next (max (variables_in objects n s) (variables_in objects n t))
+variables_in objects n (Loop s) = variables_in objects n s
+variables_in objects n (Block s) = variables_in objects n s
+variables_in objects n (Exit k) = 0
+variables_in objects n (Return e) = (guarded objects [] n e).next
+
+-- the code of a function with guards, and the loop at its end; if the function's own code comes to its end, so does this
+abbrev pub with_loop : Statement → Statement
+with_loop s = Block (Sequence (Block (Sequence s (Exit 1))) forever)
+
+-- a function's code: the loop is there only if a guard is
+abbrev pub guarded_function : List Size → (n : ℕ) → Statement → Statement
+guarded_function objects n s = if has_guards objects n s then with_loop (guarded_code objects n 0 s) else guarded_code objects n 0 s

@@ -1,0 +1,9 @@
+-- the guards, and the code with them
+pub mod Guard
+-- what holds of all guarded code
+pub mod Laws
+-- the number of a fault
+pub mod Fault
+pub mod internal
+-- worked examples
+pub mod rows

@@ -1,0 +1,62 @@
+-- Worked guards, by computation, of two objects: three words, and four bytes. Variables below 4 are the code's.
+use Rattle.std.specs.Prelude.{◌≡◌, refl, ◌-◌, ◌^◌, false, List, [], ◌∷◌}
+use Rattle.cc_words.specs.declared.operators.Width.TheVariants.{Byte, Word}
+use Rattle.cc_words.specs.declared.operators.Unary.TheVariants.{IsZero}
+use Rattle.cc_words.specs.declared.operators.Binary.TheVariants.{Add, DivS, DivU, RemU, Shl, And, Eq, LeU}
+use Rattle.cc_simulation.specs.World.{Size}
+use Rattle.cc_cminor.specs.Cminor.{Expression, Constant, Local, Unary, Binary, Load, Statement, Skip, Set, Store, Sequence, If, Loop, Block, Exit}
+use Rattle.cc_guard.specs.Guard.{guarded_code, has_guards, guarded_function}
+
+abbrev objects : List Size
+objects = record { width = Word; elements = 3 } ∷ record { width = Byte; elements = 4 } ∷ []
+
+-- the run stops if an index is not below a number
+abbrev stop_from : Expression → Expression → Statement
+stop_from n i = If (Binary LeU n i) (Exit 0) Skip
+
+-- `a[i] += b[i]`: once for both elements of a, and b has no fewer
+two_arrays : guarded_code objects 4 0 (Store Word 0 (Local 0) (Binary Add (Load Word 0 (Local 0)) (Load Byte 1 (Local 0))))
+    ≡ Sequence (stop_from (Constant 3) (Local 0)) (Store Word 0 (Local 0) (Binary Add (Load Word 0 (Local 0)) (Load Byte 1 (Local 0))))
+two_arrays = refl
+
+-- `x = a[b[i + 1]]`: an index that is no variable waits in one
+nested : guarded_code objects 4 0 (Set 1 (Load Word 0 (Load Byte 1 (Binary Add (Local 0) (Constant 1)))))
+    ≡ Sequence (Set 4 (Binary Add (Local 0) (Constant 1))) (Sequence (stop_from (Constant 4) (Local 4))
+    (Sequence (Set 5 (Load Byte 1 (Local 4))) (Sequence (stop_from (Constant 3) (Local 5)) (Set 1 (Load Word 0 (Local 5))))))
+nested = refl
+
+-- what is evident has no guard: `x = b[y & 3] << 31`, `x = a[y % 3] / 10`
+evident : guarded_code objects 4 0 (Set 0 (Binary Shl (Load Byte 1 (Binary And (Local 1) (Constant 3))) (Constant 31))) ≡ Set 0 (Binary Shl (Load Byte 1 (Binary And (Local 1) (Constant 3))) (Constant 31))
+evident = refl
+
+no_guard : has_guards objects 4 (Set 0 (Binary Shl (Load Byte 1 (Binary And (Local 1) (Constant 3))) (Constant 31))) ≡ false
+no_guard = refl
+
+remainder : guarded_code objects 4 0 (Set 0 (Binary DivS (Load Word 0 (Binary RemU (Local 1) (Constant 3))) (Constant 10))) ≡ Set 0 (Binary DivS (Load Word 0 (Binary RemU (Local 1) (Constant 3))) (Constant 10))
+remainder = refl
+
+-- an index that is evidently outside, and an object of another width: the run always stops
+outside : guarded_code objects 4 0 (Set 0 (Load Word 0 (Constant 3))) ≡ Sequence (stop_from (Constant 3) (Constant 3)) (Set 0 (Load Word 0 (Constant 3)))
+outside = refl
+
+another_width : guarded_code objects 4 0 (Set 0 (Load Byte 0 (Local 1))) ≡ Sequence (stop_from (Constant 0) (Local 1)) (Set 0 (Load Byte 0 (Local 1)))
+another_width = refl
+
+-- a signed quotient of two variables, and an unsigned one whose operands wait
+quotient : guarded_code objects 4 0 (Set 0 (Binary DivS (Local 1) (Local 2)))
+    ≡ Sequence (If (Unary IsZero (Local 2)) (Exit 0) Skip)
+    (Sequence (If (Binary Eq (Local 2) (Constant (2 ^ 32 - 1))) (If (Binary Eq (Local 1) (Constant (2 ^ 31))) (Exit 0) Skip) Skip) (Set 0 (Binary DivS (Local 1) (Local 2))))
+quotient = refl
+
+waiting_operand : guarded_code objects 4 0 (Set 0 (Binary DivU (Binary Add (Local 1) (Local 1)) (Binary Add (Local 2) (Local 3))))
+    ≡ Sequence (Set 4 (Binary Add (Local 2) (Local 3))) (Sequence (If (Unary IsZero (Local 4)) (Exit 0) Skip) (Set 0 (Binary DivU (Binary Add (Local 1) (Local 1)) (Local 4))))
+waiting_operand = refl
+
+-- a function with a guard in a block: the exit leaves that too, to the loop at the end
+whole : guarded_function objects 4 (Block (Set 0 (Load Word 0 (Local 1))))
+    ≡ Block (Sequence (Block (Sequence (Block (Sequence (If (Binary LeU (Constant 3) (Local 1)) (Exit 1) Skip) (Set 0 (Load Word 0 (Local 1))))) (Exit 1))) (Loop Skip))
+whole = refl
+
+-- and one without: as it was
+as_it_was : guarded_function objects 4 (Block (Set 0 (Load Word 0 (Constant 2)))) ≡ Block (Set 0 (Load Word 0 (Constant 2)))
+as_it_was = refl

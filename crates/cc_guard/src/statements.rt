@@ -1,0 +1,190 @@
+// Statements, each with its guards in front of it.
+//
+// The recursion is as deep as the tree: at most eight levels of Cminor for each of the source's 64.
+
+ghost use Rattle.std.specs.Prelude.{◌≡◌, IfOk, OnOk};
+ghost use Rattle.cc_cminor.specs.Cminor as cminor;
+ghost use Rattle.cc_cminor.specs.Code.{expression_of, expressions_of, statement_of, in_sequence};
+ghost use Rattle.cc_cminor.specs.internal.Statements.{statements_of};
+ghost use Rattle.cc_guard.specs.Guard.{guarded_code};
+ghost use Rattle.cc_guard.specs.internal.Written.{SeesStatement, sizes_of};
+
+use crate::boxes::{boxed_statement, sequence};
+use crate::expressions::{expression, expressions, index};
+use crate::guards::{Seen, begun, finished, note};
+use crate::sizes::ObjectSize;
+use cc_cminor::{Expression, Statement};
+use cc_words::Width;
+use std::alloc::{AllocError, Global};
+
+fn set(
+    alloc: Global,
+    sizes: &[ObjectSize],
+    first: usize,
+    blocks: usize,
+    seen: &mut Seen,
+    variable: usize,
+    e: &Expression,
+) -> Result<Box<Statement>, AllocError>
+    ensures code { IfOk result (λ s. statement_of s.value ≡ guarded_code (sizes_of sizes.now) first blocks (cminor.Set variable (expression_of e.now))) }
+    ensures seen { OnOk result (SeesStatement (sizes_of sizes.now) first (cminor.Set variable (expression_of e.now)) seen.old seen.new) }
+{
+    let mut guards = begun(alloc, first);
+    let value = expression(alloc, sizes, blocks, &mut guards, e)?;
+    note(&guards, seen);
+    finished(alloc, guards, Statement::Set(variable, value))
+}
+
+fn store(
+    alloc: Global,
+    sizes: &[ObjectSize],
+    first: usize,
+    blocks: usize,
+    seen: &mut Seen,
+    width: Width,
+    object: usize,
+    i: &Expression,
+    e: &Expression,
+) -> Result<Box<Statement>, AllocError>
+    ensures code { IfOk result (λ s. statement_of s.value ≡ guarded_code (sizes_of sizes.now) first blocks (cminor.Store width object (expression_of i.now) (expression_of e.now))) }
+    ensures seen { OnOk result (SeesStatement (sizes_of sizes.now) first (cminor.Store width object (expression_of i.now) (expression_of e.now)) seen.old seen.new) }
+{
+    let mut guards = begun(alloc, first);
+    let i = index(alloc, sizes, blocks, &mut guards, width, object, i)?;
+    let value = expression(alloc, sizes, blocks, &mut guards, e)?;
+    note(&guards, seen);
+    finished(alloc, guards, Statement::Store(width, object, i, value))
+}
+
+fn call(
+    alloc: Global,
+    sizes: &[ObjectSize],
+    first: usize,
+    blocks: usize,
+    seen: &mut Seen,
+    to: Option<usize>,
+    function: usize,
+    es: &[Expression],
+) -> Result<Box<Statement>, AllocError>
+    ensures code { IfOk result (λ s. statement_of s.value ≡ guarded_code (sizes_of sizes.now) first blocks (cminor.Call to function (expressions_of es.now))) }
+    ensures seen { OnOk result (SeesStatement (sizes_of sizes.now) first (cminor.Call to function (expressions_of es.now)) seen.old seen.new) }
+{
+    let mut guards = begun(alloc, first);
+    let values = expressions(alloc, sizes, blocks, &mut guards, es)?;
+    note(&guards, seen);
+    finished(alloc, guards, Statement::Call(to, function, values))
+}
+
+fn write(
+    alloc: Global,
+    sizes: &[ObjectSize],
+    first: usize,
+    blocks: usize,
+    seen: &mut Seen,
+    e: &Expression,
+) -> Result<Box<Statement>, AllocError>
+    ensures code { IfOk result (λ s. statement_of s.value ≡ guarded_code (sizes_of sizes.now) first blocks (cminor.Write (expression_of e.now))) }
+    ensures seen { OnOk result (SeesStatement (sizes_of sizes.now) first (cminor.Write (expression_of e.now)) seen.old seen.new) }
+{
+    let mut guards = begun(alloc, first);
+    let value = expression(alloc, sizes, blocks, &mut guards, e)?;
+    note(&guards, seen);
+    finished(alloc, guards, Statement::Write(value))
+}
+
+fn give_back(
+    alloc: Global,
+    sizes: &[ObjectSize],
+    first: usize,
+    blocks: usize,
+    seen: &mut Seen,
+    e: &Expression,
+) -> Result<Box<Statement>, AllocError>
+    ensures code { IfOk result (λ s. statement_of s.value ≡ guarded_code (sizes_of sizes.now) first blocks (cminor.Return (expression_of e.now))) }
+    ensures seen { OnOk result (SeesStatement (sizes_of sizes.now) first (cminor.Return (expression_of e.now)) seen.old seen.new) }
+{
+    let mut guards = begun(alloc, first);
+    let value = expression(alloc, sizes, blocks, &mut guards, e)?;
+    note(&guards, seen);
+    finished(alloc, guards, Statement::Return(value))
+}
+
+/// A statement in so many blocks, with its guards, which set variables from `first` on.
+#[cycle(statements)]
+pub fn statement(
+    alloc: Global,
+    sizes: &[ObjectSize],
+    first: usize,
+    blocks: usize,
+    seen: &mut Seen,
+    s: &Statement,
+) -> Result<Box<Statement>, AllocError>
+    ensures code { IfOk result (λ code. statement_of code.value ≡ guarded_code (sizes_of sizes.now) first blocks (statement_of s.now)) }
+    ensures seen { OnOk result (SeesStatement (sizes_of sizes.now) first (statement_of s.now) seen.old seen.new) }
+{
+    match s {
+        Statement::Skip => boxed_statement(alloc, Statement::Skip),
+        Statement::Set(variable, e) => set(alloc, sizes, first, blocks, seen, *variable, e),
+        Statement::Store(width, object, i, e) => {
+            store(alloc, sizes, first, blocks, seen, *width, *object, i, e)
+        }
+        Statement::Call(to, function, es) => {
+            call(
+                alloc,
+                sizes,
+                first,
+                blocks,
+                seen,
+                *to,
+                *function,
+                es.as_slice(),
+            )
+        }
+        Statement::Read(to) => boxed_statement(alloc, Statement::Read(*to)),
+        Statement::Write(e) => write(alloc, sizes, first, blocks, seen, e),
+        Statement::Sequence(all) => {
+            statements(alloc, sizes, first, blocks, seen, all.as_slice())
+        }
+        Statement::If(e, nonzero, otherwise) => {
+            let mut guards = begun(alloc, first);
+            let value = expression(alloc, sizes, blocks, &mut guards, e)?;
+            note(&guards, seen);
+            let nonzero = statement(alloc, sizes, first, blocks, seen, nonzero)?;
+            let otherwise = statement(alloc, sizes, first, blocks, seen, otherwise)?;
+            finished(alloc, guards, Statement::If(value, nonzero, otherwise))
+        }
+        Statement::Loop(body) => {
+            let body = statement(alloc, sizes, first, blocks, seen, body)?;
+            boxed_statement(alloc, Statement::Loop(body))
+        }
+        Statement::Block(body) => {
+            let Some(inside) = blocks.checked_add(1) else {
+                return Err(AllocError);
+            };
+            let body = statement(alloc, sizes, first, inside, seen, body)?;
+            boxed_statement(alloc, Statement::Block(body))
+        }
+        Statement::Exit(k) => boxed_statement(alloc, Statement::Exit(*k)),
+        Statement::Return(e) => give_back(alloc, sizes, first, blocks, seen, e),
+    }
+}
+
+#[cycle(statements)]
+fn statements(
+    alloc: Global,
+    sizes: &[ObjectSize],
+    first: usize,
+    blocks: usize,
+    seen: &mut Seen,
+    all: &[Statement],
+) -> Result<Box<Statement>, AllocError>
+    ensures code { IfOk result (λ code. statement_of code.value ≡ guarded_code (sizes_of sizes.now) first blocks (in_sequence (statements_of all.now))) }
+    ensures seen { OnOk result (SeesStatement (sizes_of sizes.now) first (in_sequence (statements_of all.now)) seen.old seen.new) }
+{
+    let mut codes = Vec::new(alloc);
+    for s in all {
+        let code = statement(alloc, sizes, first, blocks, seen, s)?;
+        codes.push(Box::into_inner(code))?;
+    }
+    sequence(alloc, codes)
+}
