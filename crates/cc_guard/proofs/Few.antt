@@ -1,6 +1,6 @@
 -- Guards set at most two variables for each operation that may have no answer.
 use Rattle.std.proofs.Common.{◌≡◌, ℕ, suc, ◌+◌, ◌*◌, ◌≤◌, Bool, true, false, List, [], ◌∷◌, refl, arith}
-use Rattle.std.specs.Prelude.{if◌then◌else◌, max}
+use Rattle.std.specs.Prelude.{if◌then◌else◌}
 use Rattle.std.proofs.Math.Nat.{max-le}
 use Rattle.cc_words.specs.declared.operators.Binary as two
 use Rattle.cc_words.specs.declared.operators.Binary.TheVariants.{Add, Sub, Mul, DivS, DivU, RemS, RemU, Shl, ShrS, ShrU, And, Or, Xor, Eq, Ne, LtS, LtU, LeS, LeU}
@@ -9,7 +9,7 @@ use Rattle.cc_simulation.specs.World.{Size}
 use Rattle.cc_cminor.specs.Cminor.{Expression, Constant, Local, Unary, Binary, Load, Statement, Skip, Set, Store, Call, Read, Write, Sequence, If, Loop, Block, Exit, Return}
 use Rattle.cc_cminor.specs.Size.{partial, partials, all_partials, code_partials}
 use Rattle.cc_guard.specs.declared.known.Limit.{Limit}
-use Rattle.cc_guard.specs.Guard.{Guarded, most, is_below, always, reads_left, elements_in, waits_as, waiting, waiting_if, with_binary, with_test, bounded, indexed, first_index, stored_word, guarded, guarded_all, variables_in}
+use Rattle.cc_guard.specs.Guard.{Guarded, most, is_below, always, reads_left, elements_in, waits_as, waiting, waiting_if, with_binary, with_test, bounded, indexed, first_index, guarded, guarded_all, variables_in}
 use Rattle.cc_guard.specs.Laws.{GuardsSetFew}
 
 waits_next : (e : Expression) (g : Guarded) → (waits_as e g).next ≤ suc g.next

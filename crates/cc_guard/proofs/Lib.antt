@@ -3,7 +3,7 @@
 -- exactly if the expression has a value, and its value after them is that (Values). A run goes through guards, or one stops it and it
 -- goes on for ever. A move of the code is matched by one or more moves of the guarded code, so each cut of the one is a cut of the other, and
 -- no less was done (Matching, Moves). Code without guards is as it was, and never comes to what it cannot do (Unguarded). The whole is
--- in Tracking and Lowered. Numbered and Few show that variables are below their limit, Sizing and Writing that the code makes what the definition
+-- in Tracking and Lowered. Words and OnlyDepth show what follows if a unit needs no guard. Numbered and Few show that variables are below their limit, Sizing and Writing that the code makes what the definition
 -- says.
 pub mod Passing
 pub mod Evident
@@ -17,4 +17,6 @@ pub mod Numbered
 pub mod Few
 pub mod Sizing
 pub mod Lowered
+pub mod Words
+pub mod OnlyDepth
 pub mod Writing

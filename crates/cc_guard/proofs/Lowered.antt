@@ -19,13 +19,15 @@ use Rattle.cc_cminor.specs.Numbers.{most_variables, StatementFits}
 use Rattle.cc_cminor.specs.Exits.{ExitsFit}
 use Rattle.cc_cminor.specs.Breaks.{TracksOrBreaks}
 use Rattle.cc_cminor.specs.Variables.{above, above_result, above_expression, above_expressions, above_statement}
-use Rattle.cc_cminor.specs.Pair.{Pair, tree_of, code_of, AreCalls, KeepsUp, FailsAlike, IsPair}
+use Rattle.cc_cminor.specs.Pair.{Pair, tree_of, code_of, AreCalls, KeepsUp, FailsAlike, GoesWrong, IsPair}
 use Rattle.cc_guard.specs.declared.known.Limit.{Limit}
 use Rattle.cc_guard.specs.Guard.{Guard, Put, Stop, StopBoth, first_index, stored_word, guards_then, guarded, guarded_all, guarded_code, has_guards, with_loop, guarded_function, variables_in}
 use Rattle.cc_guard.specs.internal.Fits.{Under, AllUnder, Fits, KeepsSizes}
+use Rattle.cc_guard.specs.Safe.{CodeConstantsFit, NeedsNoGuard}
 use Rattle.cc_guard.proofs.Sizing.{unnamed, unnamed_sizes}
 use Rattle.cc_guard.proofs.Numbered.{function_fits}
 use Rattle.cc_guard.proofs.Tracking.{guarded_tracks}
+use Rattle.cc_guard.proofs.Unguarded.{unguarded_stays}
 
 -- ---- the code reads variables below its number alone
 
@@ -198,6 +200,16 @@ checked_keeps_up : CallsKeepObjects → (unit : List External) (f : ℕ) (s : St
 checked_keeps_up keep unit f s exits alike m is =
     subst (λ (objects : List Size). Tracks m f 1 cminor_move cminor_output (cminor_start (guarded_function objects (above_statement 0 s) s))) is.objects
     (guarded_keeps_up keep Checked unit m is f s exits (alike m is))
+
+-- code without guards keeps up with the checked function as it is
+pub unguarded_needs_none : CallsKeepObjects → (unit : List External) (f : ℕ) (s : Statement) → AreCalls unit s → CodeConstantsFit s → ExitsFit 0 s → FailsAlike unit f s → GoesWrong unit f s
+    → has_guards (objects_in unit) (above_statement 0 s) s ≡ false → NeedsNoGuard unit f s
+unguarded_needs_none keep unit f s calls constants exits alike wrong none = record {
+  calls = calls;
+  constants = constants;
+  keeps_up = subst (λ (x : Statement). KeepsUp Checked unit f x) (unguarded_stays (objects_in unit) (above_statement 0 s) s none) (checked_keeps_up keep unit f s exits alike);
+  goes_wrong = wrong;
+}
 
 -- ---- the pair
 

@@ -12,7 +12,7 @@ use Rattle.cc_guard.specs.declared.known.Limit.{Limit}
 use Rattle.cc_guard.specs.Guard.{Guard, Guarded, most, is_below, always, asked, reads_left, elements_in, waiting, waiting_if, with_binary, with_test, bounded, indexed, first_index, stored_word, guards_then, guarded, guarded_all, guarded_code, some_guard, has_guards, with_loop}
 use Rattle.cc_guard.specs.Laws.{UnguardedStays}
 use Rattle.cc_guard.specs.internal.Next.{blocks_of}
-use Rattle.cc_guard.specs.internal.Fits.{Under, AllUnder, Fits}
+use Rattle.cc_guard.specs.internal.Fits.{Under, Fits}
 use Rattle.cc_guard.proofs.Passing.{Meets}
 use Rattle.cc_guard.proofs.Values.{HasValue, HaveValues, guards, guards_all}
 use Rattle.cc_guard.proofs.Moves.{NextFits, store, Stored, same_store, store_guarded, store_keeps, left_fits}

@@ -1,10 +1,10 @@
 -- What the code writes of guards is what the definition says: guards come after those that were written already.
-use Rattle.std.proofs.Common.{◌≡◌, ℕ, suc, ◌≤◌, Bool, true, false, List, [], ◌∷◌, ◌++◌, map, refl, sym, ap, ◌∙◌, subst, append-nil, append_assoc, arith, rules, Result, Ok, Err, OnOk}
-use Rattle.std.specs.Prelude.{if◌then◌else◌, ◌||◌, max}
+use Rattle.std.proofs.Common.{◌≡◌, ℕ, ◌≤◌, Bool, true, false, List, [], ◌∷◌, ◌++◌, map, refl, sym, ap, ◌∙◌, subst, append-nil, append_assoc, arith, rules, Result, Ok, Err, OnOk}
+use Rattle.std.specs.Prelude.{◌||◌, max}
 use Rattle.std.proofs.Math.Bool.{or_assoc}
 use Rattle.std.proofs.Math.Nat.{max-zero, max-le, le-max_left, le-max_right}
 use Rattle.cc_simulation.specs.World.{Size}
-use Rattle.cc_cminor.specs.Cminor.{Expression, Constant, Local, Unary, Binary, Load, Statement, Skip, Set, Store, Call, Read, Write, Sequence, If, Loop, Block, Exit, Return}
+use Rattle.cc_cminor.specs.Cminor.{Expression, Constant, Local, Unary, Binary, Load, Statement, Sequence, If}
 use Rattle.cc_cminor.specs.Code.{expression_of, statement_of, in_sequence}
 use Rattle.cc_cminor.proofs.Codes.{sequence_is}
 use Rattle.cc_words.specs.declared.operators.Width.{Width}
@@ -13,7 +13,7 @@ use Rattle.cc_cminor.specs.declared.code.Statement as code
 use Rattle.cc_guard.specs.declared.known.Limit.{Limit}
 use Rattle.cc_guard.specs.declared.guards.Guards.{Guards}
 use Rattle.cc_guard.specs.declared.guards.Seen.{Seen}
-use Rattle.cc_guard.specs.Guard.{Guard, Put, Guarded, guard_code, waits_as, waiting, waiting_if, indexed, first_index, stored_word, guards_then, guarded, guarded_all, guarded_code, some_guard, has_guards, variables_in}
+use Rattle.cc_guard.specs.Guard.{Guard, Guarded, guard_code, waits_as, waiting, waiting_if, indexed, first_index, stored_word, guards_then, guarded, guarded_all, guarded_code, some_guard, has_guards, variables_in}
 use Rattle.cc_guard.specs.internal.Written.{codes, Adds, AddsAll, here, some_of, Sees, SeesStatement}
 
 -- ---- guards that are written

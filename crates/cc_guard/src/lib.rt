@@ -6,6 +6,7 @@
 #![tactic(auto)]
 
 mod boxes;
+mod constants;
 mod expressions;
 mod fault;
 mod guards;
@@ -16,5 +17,5 @@ mod sizes;
 mod statements;
 
 pub use fault::GuardFault;
-pub use laws::{guards_set_few, unguarded_code_stays};
-pub use pass::guard;
+pub use laws::{guards_set_few, only_depth_is_left, unguarded_code_stays};
+pub use pass::{guard, needs_no_guard};

@@ -1,4 +1,4 @@
-use Rattle.std.proofs.Common.{◌∙◌, ◌++◌, [], ap}
+use Rattle.std.proofs.Common.{◌∙◌, ◌++◌, ap}
 use Rattle.cc_cminor.specs.Cminor as cminor
 use Rattle.cc_cminor.specs.Code.{expression_of}
 use Rattle.cc_cminor.proofs.Codes.{if_ok}
