@@ -5,7 +5,9 @@
 //! evident), `sizes` (of the unit's objects) and `boxes` below. What the pass makes is a definition of `specs/Guard.antt`.
 #![tactic(auto)]
 
+mod after;
 mod boxes;
+mod changed;
 mod constants;
 mod expressions;
 mod fault;

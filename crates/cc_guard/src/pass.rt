@@ -39,7 +39,7 @@ fn guarded_body(
     let sizes = object_sizes(alloc, unit.externals())?;
     let code = pair.code();
     let first = variables_above(0, code) as usize;
-    let made = statement(alloc, sizes.as_slice(), first, 0, seen, code)?;
+    let made = statement(alloc, sizes.as_slice(), first, 0, seen, &[], code)?;
     Ok(made)
 }
 
