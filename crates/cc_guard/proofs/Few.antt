@@ -1,6 +1,6 @@
 -- Guards set at most two variables for each operation that may have no answer.
 use Rattle.std.proofs.Common.{◌≡◌, ℕ, suc, ◌+◌, ◌*◌, ◌≤◌, Bool, true, false, List, [], ◌∷◌, refl, arith}
-use Rattle.std.specs.Prelude.{if◌then◌else◌, max}
+use Rattle.std.specs.Prelude.{if◌then◌else◌}
 use Rattle.std.proofs.Math.Nat.{max-le}
 use Rattle.cc_words.specs.declared.operators.Binary as two
 use Rattle.cc_words.specs.declared.operators.Binary.TheVariants.{Add, Sub, Mul, DivS, DivU, RemS, RemU, Shl, ShrS, ShrU, And, Or, Xor, Eq, Ne, LtS, LtU, LeS, LeU}
@@ -9,7 +9,7 @@ use Rattle.cc_simulation.specs.World.{Size}
 use Rattle.cc_cminor.specs.Cminor.{Expression, Constant, Local, Unary, Binary, Load, Statement, Skip, Set, Store, Call, Read, Write, Sequence, If, Loop, Block, Exit, Return}
 use Rattle.cc_cminor.specs.Size.{partial, partials, all_partials, code_partials}
 use Rattle.cc_guard.specs.declared.known.Limit.{Limit}
-use Rattle.cc_guard.specs.Guard.{Guarded, most, is_below, always, reads_left, elements_in, waits_as, waiting, waiting_if, with_binary, with_test, bounded, indexed, first_index, stored_word, guarded, guarded_all, variables_in}
+use Rattle.cc_guard.specs.Guard.{Guarded, most, is_below, always, reads_left, elements_in, waits_as, waiting, waiting_if, with_binary, with_test, bounded, indexed, first_index, guarded, guarded_all, sets, kept, known_after, known_within, variables_after}
 use Rattle.cc_guard.specs.Laws.{GuardsSetFew}
 
 waits_next : (e : Expression) (g : Guarded) → (waits_as e g).next ≤ suc g.next
@@ -88,27 +88,27 @@ module _ (objects : List Size) where
       let y = all_few es g.known g.next in
       omega arith
 
-  code_few : (n : ℕ) (s : Statement) → variables_in objects n s ≤ n + 2 * code_partials s
-  code_few n Skip = omega arith
-  code_few n (Set x e) = few e [] n
-  code_few n (Store w o i e) =
-      let gi = first_index objects n w o i in
-      let x = indexed_few [] w o n (partials i) i (guarded objects [] n i) (few i [] n) in
+  code_few : (n : ℕ) (s : Statement) (ks : List Limit) → variables_after objects n ks s ≤ n + 2 * code_partials s
+  code_few n Skip ks = omega arith
+  code_few n (Set x e) ks = few e ks n
+  code_few n (Store w o i e) ks =
+      let gi = first_index objects ks n w o i in
+      let x = indexed_few ks w o n (partials i) i (guarded objects ks n i) (few i ks n) in
       let y = few e gi.known gi.next in
       omega arith
-  code_few n (Call to f es) = all_few es [] n
-  code_few n (Read to) = omega arith
-  code_few n (Write e) = few e [] n
-  code_few n (Sequence s t) = let x = code_few n s in let y = code_few n t in max-le (omega arith) (omega arith)
-  code_few n (If e s t) =
-      let z = few e [] n in
-      let x = code_few n s in
-      let y = code_few n t in
+  code_few n (Call to f es) ks = all_few es ks n
+  code_few n (Read to) ks = omega arith
+  code_few n (Write e) ks = few e ks n
+  code_few n (Sequence s t) ks = let x = code_few n s ks in let y = code_few n t (known_after objects n ks s) in max-le (omega arith) (omega arith)
+  code_few n (If e s t) ks =
+      let z = few e ks n in
+      let x = code_few n s (known_within objects n ks e) in
+      let y = code_few n t (known_within objects n ks e) in
       max-le (omega arith) (max-le (omega arith) (omega arith))
-  code_few n (Loop s) = code_few n s
-  code_few n (Block s) = code_few n s
-  code_few n (Exit k) = omega arith
-  code_few n (Return e) = few e [] n
+  code_few n (Loop s) ks = code_few n s (kept n (sets s) ks)
+  code_few n (Block s) ks = code_few n s ks
+  code_few n (Exit k) ks = omega arith
+  code_few n (Return e) ks = few e ks n
 
 pub guards_set_few : GuardsSetFew
-guards_set_few objects n s = code_few objects n s
+guards_set_few objects n s = code_few objects n s []

@@ -19,13 +19,15 @@ use Rattle.cc_cminor.specs.Numbers.{most_variables, StatementFits}
 use Rattle.cc_cminor.specs.Exits.{ExitsFit}
 use Rattle.cc_cminor.specs.Breaks.{TracksOrBreaks}
 use Rattle.cc_cminor.specs.Variables.{above, above_result, above_expression, above_expressions, above_statement}
-use Rattle.cc_cminor.specs.Pair.{Pair, tree_of, code_of, AreCalls, KeepsUp, FailsAlike, IsPair}
+use Rattle.cc_cminor.specs.Pair.{Pair, tree_of, code_of, AreCalls, KeepsUp, FailsAlike, GoesWrong, IsPair}
 use Rattle.cc_guard.specs.declared.known.Limit.{Limit}
-use Rattle.cc_guard.specs.Guard.{Guard, Put, Stop, StopBoth, first_index, stored_word, guards_then, guarded, guarded_all, guarded_code, has_guards, with_loop, guarded_function, variables_in}
+use Rattle.cc_guard.specs.Guard.{Guard, Put, Stop, StopBoth, first_index, stored_word, guards_then, guarded, guarded_all, sets, kept, known_after, known_within, code_after, guarded_code, has_guards, with_loop, guarded_function, variables_in}
 use Rattle.cc_guard.specs.internal.Fits.{Under, AllUnder, Fits, KeepsSizes}
+use Rattle.cc_guard.specs.Safe.{CodeConstantsFit, NeedsNoGuard}
 use Rattle.cc_guard.proofs.Sizing.{unnamed, unnamed_sizes}
 use Rattle.cc_guard.proofs.Numbered.{function_fits}
 use Rattle.cc_guard.proofs.Tracking.{guarded_tracks}
+use Rattle.cc_guard.proofs.Unguarded.{unguarded_stays}
 
 -- ---- the code reads variables below its number alone
 
@@ -70,7 +72,7 @@ result_above (Some x) count = (above_ge count x).0
 
 fits_more : (s : Statement) (b n m : ℕ) → n ≤ m → Fits n b s → Fits m b s
 fits_more Skip b n m le u = tt
-fits_more (Set x e) b n m le u = under_more e n m le u
+fits_more (Set x e) b n m le u = (let lt = u.0 in omega arith, under_more e n m le u.1)
 fits_more (Store w o i e) b n m le u = (under_more i n m le u.0, under_more e n m le u.1)
 fits_more (Call to f es) b n m le u = all_under_more es n m le u
 fits_more (Read to) b n m le u = tt
@@ -88,8 +90,9 @@ fits_above (Set y e) b count x =
     let f = above_ge count y in
     let g = expression_under e (above count y) in
     let le = f.0 in
+    let lt = f.1 in
     let le' = g.0 in
-    (omega arith, g.1)
+    (omega arith, (omega arith, g.1))
 fits_above (Store w o i e) b count x =
     let f = expression_under i count in
     let g = expression_under e (above_expression count i) in
@@ -135,26 +138,26 @@ module _ (unit : List External) (objects : List Size) (n : ℕ) where
   same_many ks k [] = refl
   same_many ks k (e ∷ es) = ap suc (same_many (guarded objects ks k e).known (guarded objects ks k e).next es)
 
-  guarded_calls : (b : ℕ) (s : Statement) → AreCalls unit s → AreCalls unit (guarded_code objects n b s)
-  guarded_calls b Skip h = tt
-  guarded_calls b (Set x e) h = then_calls b (guarded objects [] n e).before _ tt
-  guarded_calls b (Store w o i e) h = then_calls b ((first_index objects n w o i).before ++ (stored_word objects (first_index objects n w o i) e).before) _ tt
-  guarded_calls b (Call to f es) h = then_calls b (guarded_all objects [] n es).before _ (h ∙ ap (λ m. Some m) (same_many [] n es))
-  guarded_calls b (Read to) h = tt
-  guarded_calls b (Write e) h = then_calls b (guarded objects [] n e).before _ tt
-  guarded_calls b (Sequence s t) h = (guarded_calls b s h.0, guarded_calls b t h.1)
-  guarded_calls b (If e s t) h = then_calls b (guarded objects [] n e).before _ (guarded_calls b s h.0, guarded_calls b t h.1)
-  guarded_calls b (Loop a) h = guarded_calls b a h
-  guarded_calls b (Block a) h = guarded_calls (suc b) a h
-  guarded_calls b (Exit k) h = tt
-  guarded_calls b (Return e) h = then_calls b (guarded objects [] n e).before _ tt
+  guarded_calls : (b : ℕ) (s : Statement) (ks : List Limit) → AreCalls unit s → AreCalls unit (code_after objects n ks b s)
+  guarded_calls b Skip ks h = tt
+  guarded_calls b (Set x e) ks h = then_calls b (guarded objects ks n e).before _ tt
+  guarded_calls b (Store w o i e) ks h = then_calls b ((first_index objects ks n w o i).before ++ (stored_word objects (first_index objects ks n w o i) e).before) _ tt
+  guarded_calls b (Call to f es) ks h = then_calls b (guarded_all objects ks n es).before _ (h ∙ ap (λ m. Some m) (same_many ks n es))
+  guarded_calls b (Read to) ks h = tt
+  guarded_calls b (Write e) ks h = then_calls b (guarded objects ks n e).before _ tt
+  guarded_calls b (Sequence s t) ks h = (guarded_calls b s ks h.0, guarded_calls b t (known_after objects n ks s) h.1)
+  guarded_calls b (If e s t) ks h = then_calls b (guarded objects ks n e).before _ (guarded_calls b s (known_within objects n ks e) h.0, guarded_calls b t (known_within objects n ks e) h.1)
+  guarded_calls b (Loop a) ks h = guarded_calls b a (kept n (sets a) ks) h
+  guarded_calls b (Block a) ks h = guarded_calls (suc b) a ks h
+  guarded_calls b (Exit k) ks h = tt
+  guarded_calls b (Return e) ks h = then_calls b (guarded objects ks n e).before _ tt
 
   pub function_calls : (s : Statement) → AreCalls unit s → AreCalls unit (guarded_function objects n s)
   function_calls s h = by (has_guards objects n s)
     where
       by : (r : Bool) → AreCalls unit (if r then with_loop (guarded_code objects n 0 s) else guarded_code objects n 0 s)
-      by true = ((guarded_calls 0 s h, tt), tt)
-      by false = guarded_calls 0 s h
+      by true = ((guarded_calls 0 s [] h, tt), tt)
+      by false = guarded_calls 0 s [] h
 
 -- ---- sizes
 
@@ -198,6 +201,16 @@ checked_keeps_up : CallsKeepObjects → (unit : List External) (f : ℕ) (s : St
 checked_keeps_up keep unit f s exits alike m is =
     subst (λ (objects : List Size). Tracks m f 1 cminor_move cminor_output (cminor_start (guarded_function objects (above_statement 0 s) s))) is.objects
     (guarded_keeps_up keep Checked unit m is f s exits (alike m is))
+
+-- code without guards keeps up with the checked function as it is
+pub unguarded_needs_none : CallsKeepObjects → (unit : List External) (f : ℕ) (s : Statement) → AreCalls unit s → CodeConstantsFit s → ExitsFit 0 s → FailsAlike unit f s → GoesWrong unit f s
+    → has_guards (objects_in unit) (above_statement 0 s) s ≡ false → NeedsNoGuard unit f s
+unguarded_needs_none keep unit f s calls constants exits alike wrong none = record {
+  calls = calls;
+  constants = constants;
+  keeps_up = subst (λ (x : Statement). KeepsUp Checked unit f x) (unguarded_stays (objects_in unit) (above_statement 0 s) s none) (checked_keeps_up keep unit f s exits alike);
+  goes_wrong = wrong;
+}
 
 -- ---- the pair
 

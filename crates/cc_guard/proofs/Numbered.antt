@@ -1,5 +1,5 @@
 -- The numbers in guarded code are below their limits, if its guards set no more variables than there are.
-use Rattle.std.proofs.Common.{◌≡◌, ℕ, suc, ◌<◌, ◌≤◌, Bool, true, false, List, [], ◌∷◌, ◌++◌, refl, arith}
+use Rattle.std.proofs.Common.{ℕ, suc, ◌<◌, ◌≤◌, Bool, true, false, List, [], ◌∷◌, ◌++◌, arith}
 use Rattle.std.specs.Prelude.{if◌then◌else◌, max}
 use Rattle.std.proofs.Math.Nat.{le-max_left, le-max_right}
 use Rattle.cc_words.specs.declared.operators.Binary as two
@@ -9,7 +9,7 @@ use Rattle.cc_simulation.specs.World.{Size}
 use Rattle.cc_cminor.specs.Cminor.{Expression, Constant, Local, Unary, Binary, Load, Statement, Skip, Set, Store, Call, Read, Write, Sequence, If, Loop, Block, Exit, Return}
 use Rattle.cc_cminor.specs.Numbers.{most_variables, ExpressionBelow, ExpressionsBelow, StatementFits}
 use Rattle.cc_guard.specs.declared.known.Limit.{Limit}
-use Rattle.cc_guard.specs.Guard.{Guard, Put, Stop, StopBoth, Guarded, most, is_below, always, asked, reads_left, elements_in, waits_as, waiting, waiting_if, with_binary, with_test, bounded, indexed, first_index, stored_word, guards_then, guarded, guarded_all, guarded_code, has_guards, variables_in, with_loop, guarded_function}
+use Rattle.cc_guard.specs.Guard.{Guard, Put, Stop, StopBoth, Guarded, most, is_below, always, asked, reads_left, elements_in, waits_as, waiting, waiting_if, with_binary, with_test, bounded, indexed, first_index, stored_word, guards_then, guarded, guarded_all, sets, kept, known_after, known_within, code_after, guarded_code, has_guards, variables_after, variables_in, with_loop, guarded_function}
 
 -- ---- guards
 
@@ -194,41 +194,43 @@ module _ (objects : List Size) where
   -- ---- statements
 
   module _ (n : ℕ) where
-    code_fits : (b : ℕ) (s : Statement) → StatementFits s → variables_in objects n s ≤ most_variables → StatementFits (guarded_code objects n b s)
-    code_fits b Skip u le = tt
-    code_fits b (Set x e) u le = let f = fits e [] n u.1 le in then_fits b (guarded objects [] n e).before _ f.guards (u.0, f.value)
-    code_fits b (Store w o i e) u le =
-        let gi = first_index objects n w o i in
+    code_fits : (b : ℕ) (s : Statement) (ks : List Limit) → StatementFits s → variables_after objects n ks s ≤ most_variables → StatementFits (code_after objects n ks b s)
+    code_fits b Skip ks u le = tt
+    code_fits b (Set x e) ks u le = let f = fits e ks n u.1 le in then_fits b (guarded objects ks n e).before _ f.guards (u.0, f.value)
+    code_fits b (Store w o i e) ks u le =
+        let gi = first_index objects ks n w o i in
         let ge = stored_word objects gi e in
         let x = grows e gi.known gi.next in
-        let fi = indexed_fits [] w o i (guarded objects [] n i) (omega arith) (λ below. fits i [] n u.1 below) in
+        let fi = indexed_fits ks w o i (guarded objects ks n i) (omega arith) (λ below. fits i ks n u.1 below) in
         let fe = fits e gi.known gi.next u.2 le in
         then_fits b (gi.before ++ ge.before) _ (both_fit gi.before ge.before fi.guards fe.guards) (u.0, fi.value, fe.value)
-    code_fits b (Call to f es) u le = let r = all_fit es [] n u.2 le in then_fits b (guarded_all objects [] n es).before _ r.guards (u.0, u.1, r.values)
-    code_fits b (Read to) u le = u
-    code_fits b (Write e) u le = let f = fits e [] n u le in then_fits b (guarded objects [] n e).before _ f.guards f.value
-    code_fits b (Sequence s t) u le =
-        let x = le-max_left (variables_in objects n s) (variables_in objects n t) in
-        let y = le-max_right (variables_in objects n s) (variables_in objects n t) in
-        (code_fits b s u.0 (omega arith), code_fits b t u.1 (omega arith))
-    code_fits b (If e s t) u le =
-        let g = guarded objects [] n e in
-        let p = variables_in objects n s in
-        let q = variables_in objects n t in
+    code_fits b (Call to f es) ks u le = let r = all_fit es ks n u.2 le in then_fits b (guarded_all objects ks n es).before _ r.guards (u.0, u.1, r.values)
+    code_fits b (Read to) ks u le = u
+    code_fits b (Write e) ks u le = let f = fits e ks n u le in then_fits b (guarded objects ks n e).before _ f.guards f.value
+    code_fits b (Sequence s t) ks u le =
+        let K = known_after objects n ks s in
+        let x = le-max_left (variables_after objects n ks s) (variables_after objects n K t) in
+        let y = le-max_right (variables_after objects n ks s) (variables_after objects n K t) in
+        (code_fits b s ks u.0 (omega arith), code_fits b t K u.1 (omega arith))
+    code_fits b (If e s t) ks u le =
+        let g = guarded objects ks n e in
+        let K = known_within objects n ks e in
+        let p = variables_after objects n K s in
+        let q = variables_after objects n K t in
         let x = le-max_left g.next (max p q) in
         let y = le-max_right g.next (max p q) in
         let z = le-max_left p q in
         let v = le-max_right p q in
-        let f = fits e [] n u.0 (omega arith) in
-        then_fits b g.before _ f.guards (f.value, code_fits b s u.1 (omega arith), code_fits b t u.2 (omega arith))
-    code_fits b (Loop s) u le = code_fits b s u le
-    code_fits b (Block s) u le = code_fits (suc b) s u le
-    code_fits b (Exit k) u le = tt
-    code_fits b (Return e) u le = let f = fits e [] n u le in then_fits b (guarded objects [] n e).before _ f.guards f.value
+        let f = fits e ks n u.0 (omega arith) in
+        then_fits b g.before _ f.guards (f.value, code_fits b s K u.1 (omega arith), code_fits b t K u.2 (omega arith))
+    code_fits b (Loop s) ks u le = code_fits b s (kept n (sets s) ks) u le
+    code_fits b (Block s) ks u le = code_fits (suc b) s ks u le
+    code_fits b (Exit k) ks u le = tt
+    code_fits b (Return e) ks u le = let f = fits e ks n u le in then_fits b (guarded objects ks n e).before _ f.guards f.value
 
     pub function_fits : (s : Statement) → StatementFits s → variables_in objects n s ≤ most_variables → StatementFits (guarded_function objects n s)
     function_fits s u le = by (has_guards objects n s)
       where
         by : (r : Bool) → StatementFits (if r then with_loop (guarded_code objects n 0 s) else guarded_code objects n 0 s)
-        by true = ((code_fits 0 s u le, tt), tt)
-        by false = code_fits 0 s u le
+        by true = ((code_fits 0 s [] u le, tt), tt)
+        by false = code_fits 0 s [] u le

@@ -1,21 +1,24 @@
 -- Code in which no guard is needed: it is as it was, and it never comes to what it cannot do.
-use Rattle.std.proofs.Common.{◌≡◌, ℕ, zero, suc, ◌<◌, Bool, true, false, List, [], ◌∷◌, ◌++◌, map, Option, Some, None, refl, sym, ap, ◌∙◌, subst, arith}
+use Rattle.std.proofs.Common.{◌≡◌, ℕ, zero, suc, Bool, true, false, List, [], ◌∷◌, ◌++◌, map, Option, Some, None, refl, sym, ap, ◌∙◌, subst}
 use Rattle.std.specs.Prelude.{if◌then◌else◌, ◌||◌}
 use Rattle.cc_words.specs.declared.operators.Binary as two
 use Rattle.cc_words.specs.declared.operators.Binary.TheVariants.{Add, Sub, Mul, DivS, DivU, RemS, RemU, Shl, ShrS, ShrU, And, Or, Xor, Eq, Ne, LtS, LtU, LeS, LeU}
 use Rattle.cc_words.specs.declared.operators.Width.{Width}
-use Rattle.cc_simulation.specs.World.{Size, size_of, World, Question, Answer, Effect, Gives, Unfinished, Failed, next_word, after_read, after_write}
+use Rattle.cc_simulation.specs.World.{Size, size_of, World, Question, Answer, Effect, Gives, Unfinished, Failed, after_write}
 use Rattle.cc_simulation.specs.Run.{Move, Goes, Calls, Returns, Fails, tried}
-use Rattle.cc_cminor.specs.Cminor.{Expression, Constant, Local, Unary, Binary, Load, Statement, Skip, Set, Store, Call, Read, Write, Sequence, If, Loop, Block, Exit, Return, Continuation, Ends, Then, Again, Leaving, Variables, value, values, put, put_result, Config, config, chosen, left_by, skips, exits, moves, cminor_move, cminor_output}
+use Rattle.cc_cminor.specs.Cminor.{Expression, Constant, Local, Unary, Binary, Load, Statement, Skip, Set, Store, Call, Read, Write, Sequence, If, Loop, Block, Exit, Return, Continuation, Ends, Then, Again, Leaving, Variables, value, values, put, put_result, Config, config, chosen, skips, exits, moves, cminor_move, cminor_output}
 use Rattle.cc_cminor.specs.Breaks.{broken, broken_act, broken_resumed, BreaksAt}
 use Rattle.cc_guard.specs.declared.known.Limit.{Limit}
-use Rattle.cc_guard.specs.Guard.{Guard, Guarded, most, is_below, always, asked, reads_left, elements_in, waiting, waiting_if, with_binary, with_test, bounded, indexed, first_index, stored_word, guards_then, guarded, guarded_all, guarded_code, some_guard, has_guards, with_loop}
+use Rattle.cc_guard.specs.Guard.{Guard, Guarded, most, is_below, always, asked, reads_left, elements_in, waiting, waiting_if, with_binary, with_test, bounded, first_index, stored_word, guards_then, guarded, guarded_all, sets, kept, known_after, known_within, code_after, guarded_code, some_guard, guards_after, with_loop}
 use Rattle.cc_guard.specs.Laws.{UnguardedStays}
-use Rattle.cc_guard.specs.internal.Next.{blocks_of}
-use Rattle.cc_guard.specs.internal.Fits.{Under, AllUnder, Fits}
+use Rattle.cc_guard.specs.internal.Next.{Noted, Last, AndThen, InLoop, InBlock, plain_next, exits_of}
+use Rattle.cc_guard.specs.internal.Fits.{Under}
 use Rattle.cc_guard.proofs.Passing.{Meets}
-use Rattle.cc_guard.proofs.Values.{HasValue, HaveValues, guards, guards_all}
-use Rattle.cc_guard.proofs.Moves.{NextFits, store, Stored, same_store, store_guarded, store_keeps, left_fits}
+use Rattle.cc_guard.proofs.Evident.{Holds}
+use Rattle.cc_guard.proofs.Values.{Agree, LimitsUnder, same_value, same_values, HasValue, HaveValues, guards, guards_all}
+use Rattle.cc_guard.proofs.Flow.{ExitKnows}
+use Rattle.cc_guard.proofs.Matching.{Matches}
+use Rattle.cc_guard.proofs.Moves.{At, Related, store, same_store, store_agrees, Stored, store_guarded, matches}
 
 no_true : {A : Type 0} → true ≡ false → A
 no_true e = absurd (let f : true ≡ false = e in cc)
@@ -93,7 +96,7 @@ module _ (objects : List Size) where
   same_expression (Load w o i) ks n none =
       ap (λ x. Load w o x) (index_same (is_below (most ks i) (elements_in objects w o)) (elements_in objects w o) i (guarded objects ks n i) none (same_expression i ks n)).1
 
-  same_index : (ks : List Limit) (w : Width) (o n : ℕ) (i : Expression) → some_guard (indexed objects ks w o i (guarded objects ks n i)).before ≡ false → (indexed objects ks w o i (guarded objects ks n i)).value ≡ i
+  same_index : (ks : List Limit) (w : Width) (o n : ℕ) (i : Expression) → some_guard (first_index objects ks n w o i).before ≡ false → (first_index objects ks n w o i).value ≡ i
   same_index ks w o n i none = (index_same (is_below (most ks i) (elements_in objects w o)) (elements_in objects w o) i (guarded objects ks n i) none (same_expression i ks n)).1
 
   same_all : (es : List Expression) (ks : List Limit) (n : ℕ) → some_guard (guarded_all objects ks n es).before ≡ false → (guarded_all objects ks n es).values ≡ es
@@ -108,141 +111,118 @@ module _ (objects : List Size) where
   alone b (g ∷ gs) s none = no_true none
 
   module _ (n : ℕ) where
-    pub same_code : (b : ℕ) (s : Statement) → has_guards objects n s ≡ false → guarded_code objects n b s ≡ s
-    same_code b Skip none = refl
-    same_code b (Set x e) none = alone b (guarded objects [] n e).before _ none ∙ ap (λ v. Set x v) (same_expression e [] n none)
-    same_code b (Store w o i e) none =
-        let gi = first_index objects n w o i in
+    pub same_code : (b : ℕ) (s : Statement) (ks : List Limit) → guards_after objects n ks s ≡ false → code_after objects n ks b s ≡ s
+    same_code b Skip ks none = refl
+    same_code b (Set x e) ks none = alone b (guarded objects ks n e).before _ none ∙ ap (λ v. Set x v) (same_expression e ks n none)
+    same_code b (Store w o i e) ks none =
+        let gi = first_index objects ks n w o i in
         let ge = stored_word objects gi e in
         let p = none_in gi.before ge.before none in
-        alone b (gi.before ++ ge.before) _ none ∙ ap (λ v. Store w o v ge.value) (same_index [] w o n i p.0) ∙ ap (λ v. Store w o i v) (same_expression e gi.known gi.next p.1)
-    same_code b (Call to f es) none = alone b (guarded_all objects [] n es).before _ none ∙ ap (λ vs. Call to f vs) (same_all es [] n none)
-    same_code b (Read to) none = refl
-    same_code b (Write e) none = alone b (guarded objects [] n e).before _ none ∙ ap (λ v. Write v) (same_expression e [] n none)
-    same_code b (Sequence s t) none =
-        ap (λ x. Sequence x (guarded_code objects n b t)) (same_code b s (or_left _ (has_guards objects n t) none)) ∙ ap (λ x. Sequence s x) (same_code b t (or_right (has_guards objects n s) _ none))
-    same_code b (If e s t) none =
-        let g = guarded objects [] n e in
-        let p = or_left (some_guard g.before) (has_guards objects n s || has_guards objects n t) none in
-        let q = or_right (some_guard g.before) (has_guards objects n s || has_guards objects n t) none in
-        alone b g.before _ p ∙ ap (λ v. If v (guarded_code objects n b s) (guarded_code objects n b t)) (same_expression e [] n p)
-        ∙ ap (λ x. If e x (guarded_code objects n b t)) (same_code b s (or_left _ (has_guards objects n t) q)) ∙ ap (λ x. If e s x) (same_code b t (or_right (has_guards objects n s) _ q))
-    same_code b (Loop s) none = ap (λ x. Loop x) (same_code b s none)
-    same_code b (Block s) none = ap (λ x. Block x) (same_code (suc b) s none)
-    same_code b (Exit k) none = refl
-    same_code b (Return e) none = alone b (guarded objects [] n e).before _ none ∙ ap (λ v. Return v) (same_expression e [] n none)
+        alone b (gi.before ++ ge.before) _ none ∙ ap (λ v. Store w o v ge.value) (same_index ks w o n i p.0) ∙ ap (λ v. Store w o i v) (same_expression e gi.known gi.next p.1)
+    same_code b (Call to f es) ks none = alone b (guarded_all objects ks n es).before _ none ∙ ap (λ vs. Call to f vs) (same_all es ks n none)
+    same_code b (Read to) ks none = refl
+    same_code b (Write e) ks none = alone b (guarded objects ks n e).before _ none ∙ ap (λ v. Write v) (same_expression e ks n none)
+    same_code b (Sequence s t) ks none =
+        let K = known_after objects n ks s in
+        ap (λ x. Sequence x (code_after objects n K b t)) (same_code b s ks (or_left _ (guards_after objects n K t) none)) ∙ ap (λ x. Sequence s x) (same_code b t K (or_right (guards_after objects n ks s) _ none))
+    same_code b (If e s t) ks none =
+        let g = guarded objects ks n e in
+        let K = known_within objects n ks e in
+        let c = guards_after objects n K s in
+        let d = guards_after objects n K t in
+        let p = or_left (some_guard g.before) (c || d) none in
+        let q = or_right (some_guard g.before) (c || d) none in
+        alone b g.before _ p ∙ ap (λ v. If v (code_after objects n K b s) (code_after objects n K b t)) (same_expression e ks n p)
+        ∙ ap (λ x. If e x (code_after objects n K b t)) (same_code b s K (or_left c d q)) ∙ ap (λ x. If e s x) (same_code b t K (or_right c d q))
+    same_code b (Loop s) ks none = ap (λ x. Loop x) (same_code b s (kept n (sets s) ks) none)
+    same_code b (Block s) ks none = ap (λ x. Block x) (same_code (suc b) s ks none)
+    same_code b (Exit k) ks none = refl
+    same_code b (Return e) ks none = alone b (guarded objects ks n e).before _ none ∙ ap (λ v. Return v) (same_expression e ks n none)
 
     -- ---- it never comes to what it cannot do
 
-    abbrev NextQuiet : Continuation → Type 0
-    NextQuiet Ends = Unit {0}
-    NextQuiet (Then s κ) = (has_guards objects n s ≡ false) × NextQuiet κ
-    NextQuiet (Again s κ) = (has_guards objects n s ≡ false) × NextQuiet κ
-    NextQuiet (Leaving κ) = NextQuiet κ
-
-    pub record Quiet (c : Config) : Type 0 where
-      pub quiet : has_guards objects n c.statement ≡ false
-      pub next_quiet : NextQuiet c.next
-      pub fits : Fits n (blocks_of c.next) c.statement
-      pub next_fits : NextFits objects n c.next
-      pub sizes : map size_of c.world.globals ≡ objects
-
     module _ (effect : ℕ → Question → Effect) (keeps : (j left : ℕ) (q : Question) (a : Answer) → effect j q ≡ Gives a left → map size_of q.world.globals ≡ objects → map size_of a.world.globals ≡ objects) where
-      -- it can be made, and what comes of it is quiet
-      abbrev Onward : Move Config → Type 0
-      Onward (Goes c) = Quiet c
-      Onward (Calls q resume) = (j left : ℕ) (a : Answer) → effect j q ≡ Gives a left → Quiet (resume a)
-      Onward (Returns r) = Unit {0}
-      Onward Fails = ⊥
+      abbrev CanMove : Move Config → Type 0
+      CanMove (Goes c) = Unit {0}
+      CanMove (Calls q resume) = Unit {0}
+      CanMove (Returns r) = Unit {0}
+      CanMove Fails = ⊥
 
-      quiet_at : (s : Statement) (κ : Continuation) (l : Variables) (h : World) → has_guards objects n s ≡ false → NextQuiet κ → Fits n (blocks_of κ) s → NextFits objects n κ → map size_of h.globals ≡ objects → Quiet (config s κ l h)
-      quiet_at s κ l h q nq u v sizes = record { quiet = q; next_quiet = nq; fits = u; next_fits = v; sizes = sizes }
+      -- without guards there is a value
+      given : {A : Type 0} (gs : List Guard) (m : Variables) (h : World) (o : Option A) (Q : Variables → A → Type 0) (go : A → Move Config) → some_guard gs ≡ false → Meets h gs m o Q → ((a : A) → CanMove (go a)) → CanMove (tried o go)
+      given [] m h None Q go none p f = absurd p
+      given [] m h (Some a) Q go none p f = f a
+      given (g ∷ gs) m h o Q go none p f = no_true none
 
-      given : {A : Type 0} (gs : List Guard) (l : Variables) (h : World) (o : Option A) (Q : Variables → A → Type 0) (go : A → Move Config) → some_guard gs ≡ false → Meets h gs l o Q → ((a : A) → o ≡ Some a → Onward (go a)) → Onward (tried o go)
-      given [] l h None Q go none p f = absurd p
-      given [] l h (Some a) Q go none p f = f a refl
-      given (g ∷ gs) l h o Q go none p f = no_true none
+      with_value : (e : Expression) (ks : List Limit) (l m : Variables) (h : World) (go : ℕ → Move Config) → some_guard (guarded objects ks n e).before ≡ false → Under n e → LimitsUnder n ks → Holds ks m → Agree n m l → map size_of h.globals ≡ objects
+          → ((w : ℕ) → CanMove (go w)) → CanMove (tried (value e l h) go)
+      with_value e ks l m h go none u under holds agree sizes f =
+          subst (λ (o : Option ℕ). CanMove (tried o go)) (same_value e n m l h u agree)
+          (given (guarded objects ks n e).before m h (value e m h) (λ k w. HasValue objects h sizes n (guarded objects ks n e).value (guarded objects ks n e).known m k w) go none (guards objects h sizes e ks n m u under holds) f)
 
-      with_value : (e : Expression) (l : Variables) (h : World) (go : ℕ → Move Config) → some_guard (guarded objects [] n e).before ≡ false → Under n e → map size_of h.globals ≡ objects → ((w : ℕ) → Onward (go w)) → Onward (tried (value e l h) go)
-      with_value e l h go none u sizes f =
-          given (guarded objects [] n e).before l h (value e l h) (λ k w. HasValue objects h sizes n (guarded objects [] n e).value (guarded objects [] n e).known l k w) go none (guards objects h sizes e [] n l u tt tt) (λ w is. f w)
+      skips_can : (κ : Continuation) (l : Variables) (h : World) → CanMove (skips κ l h)
+      skips_can Ends l h = tt
+      skips_can (Then s κ) l h = tt
+      skips_can (Again s κ) l h = tt
+      skips_can (Leaving κ) l h = tt
 
-      skips_on : (κ : Continuation) (l : Variables) (h : World) → NextQuiet κ → NextFits objects n κ → map size_of h.globals ≡ objects → Onward (skips κ l h)
-      skips_on Ends l h q v sizes = tt
-      skips_on (Then s κ) l h q v sizes = quiet_at s κ l h q.0 q.1 v.0 v.1 sizes
-      skips_on (Again s κ) l h q v sizes = quiet_at s (Again s κ) l h q.0 q v.0 v sizes
-      skips_on (Leaving κ) l h q v sizes = quiet_at Skip κ l h refl q tt v sizes
+      exits_can : (k : ℕ) (ν : Noted) (ks : List Limit) (l : Variables) (h : World) → ExitKnows objects n true (exits_of ν) k ks → CanMove (exits k (plain_next ν) l h)
+      exits_can k Last ks l h p = absurd p
+      exits_can k (AndThen gs s ν) ks l h p = tt
+      exits_can k (InLoop gs s ν) ks l h p = tt
+      exits_can k (InBlock gs ν) ks l h p = tt
 
-      left_quiet : (k : ℕ) → has_guards objects n (left_by k) ≡ false
-      left_quiet zero = refl
-      left_quiet (suc k) = refl
-
-      exits_on : (k : ℕ) (κ : Continuation) (l : Variables) (h : World) → Fits n (blocks_of κ) (Exit k) → NextQuiet κ → NextFits objects n κ → map size_of h.globals ≡ objects → Onward (exits k κ l h)
-      exits_on k Ends l h lt q v sizes = absurd (no_less k lt)
-        where
-          no_less : (k : ℕ) → Fits n 0 (Exit k) → ⊥
-          no_less k lt = let x : k < 0 = lt in omega arith
-      exits_on k (Then s κ) l h lt q v sizes = quiet_at (Exit k) κ l h refl q.1 lt v.1 sizes
-      exits_on k (Again s κ) l h lt q v sizes = quiet_at (Exit k) κ l h refl q.1 lt v.1 sizes
-      exits_on k (Leaving κ) l h lt q v sizes = quiet_at (left_by k) κ l h (left_quiet k) q (left_fits objects n effect keeps k (blocks_of κ) lt) v sizes
-
-      on : (s : Statement) (κ : Continuation) (l : Variables) (h : World) → has_guards objects n s ≡ false → NextQuiet κ → Fits n (blocks_of κ) s → NextFits objects n κ → map size_of h.globals ≡ objects → Onward (moves s κ l h)
-      on Skip κ l h none q u v sizes = skips_on κ l h q v sizes
-      on (Set x e) κ l h none q u v sizes = with_value e l h (λ w. Goes (config Skip κ (put l x w) h)) none u sizes (λ w. quiet_at Skip κ (put l x w) h refl q tt v sizes)
-      on (Store w o i e) κ l h none q u v sizes =
-          let gi = first_index objects n w o i in
+      can : (s : Statement) (ks : List Limit) (ν : Noted) (l m : Variables) (h : World) → At objects n true s ks ν l m h → CanMove (moves s (plain_next ν) l h)
+      can Skip ks ν l m h p = skips_can (plain_next ν) l h
+      can (Set x e) ks ν l m h p = with_value e ks l m h (λ w. Goes (config Skip (plain_next ν) (put l x w) h)) (p.flows.2 refl) p.flows.1 p.under p.holds p.agree p.sizes (λ w. tt)
+      can (Store w o i e) ks ν l m h p =
+          let gi = first_index objects ks n w o i in
           let ge = stored_word objects gi e in
-          subst (λ x. Onward x) (same_store objects n effect keeps w o i e l h (λ g. Goes (config Skip κ l g)))
-          (given (gi.before ++ ge.before) l h (store objects n effect keeps w o i e l h) (λ k g. Stored objects n effect keeps w o gi.value ge.value l h k g) (λ g. Goes (config Skip κ l g)) none (store_guarded objects n effect keeps w o i e l h u.0 u.1 sizes)
-          (λ g is. quiet_at Skip κ l g refl q tt v (store_keeps objects n effect keeps w o i e l h g is sizes)))
-      on (Call to f es) κ l h none q u v sizes =
-          given (guarded_all objects [] n es).before l h (values es l h) (λ k ws. HaveValues objects h sizes n (guarded_all objects [] n es).values l k ws)
-          (λ ws. Calls (record { function = f; arguments = ws; world = h }) (λ a. config Skip κ (put_result l to a.value) a.world)) none (guards_all objects h sizes es [] n l u tt tt)
-          (λ ws is j left a gives. quiet_at Skip κ (put_result l to a.value) a.world refl q tt v (keeps j left (record { function = f; arguments = ws; world = h }) a gives sizes))
-      on (Read to) κ l h none q u v sizes = quiet_at Skip κ (put_result l to (next_word h)) (after_read h) refl q tt v sizes
-      on (Write e) κ l h none q u v sizes = with_value e l h (λ w. Goes (config Skip κ l (after_write w h))) none u sizes (λ w. quiet_at Skip κ l (after_write w h) refl q tt v sizes)
-      on (Sequence s t) κ l h none q u v sizes =
-          quiet_at s (Then t κ) l h (or_left _ (has_guards objects n t) none) (or_right (has_guards objects n s) _ none, q) u.0 (u.1, v) sizes
-      on (If e s t) κ l h none q u v sizes =
-          let g = guarded objects [] n e in
-          let p = or_left (some_guard g.before) (has_guards objects n s || has_guards objects n t) none in
-          let r = or_right (some_guard g.before) (has_guards objects n s || has_guards objects n t) none in
-          with_value e l h (λ w. Goes (config (chosen w s t) κ l h)) p u.0 sizes (λ w. quiet_at (chosen w s t) κ l h (quiet_chosen w r) q (chosen_fits w) v sizes)
-        where
-          quiet_chosen : (w : ℕ) → (has_guards objects n s || has_guards objects n t) ≡ false → has_guards objects n (chosen w s t) ≡ false
-          quiet_chosen zero r = or_right (has_guards objects n s) _ r
-          quiet_chosen (suc w) r = or_left _ (has_guards objects n t) r
+          let go : World → Move Config = λ g. Goes (config Skip (plain_next ν) l g) in
+          subst (λ x. CanMove x) (same_store objects n true effect keeps w o i e l h go)
+          (subst (λ (r : Option World). CanMove (tried r go)) (store_agrees objects n true effect keeps w o i e n m l h p.flows.0 p.flows.1 p.agree)
+          (given (gi.before ++ ge.before) m h (store objects n true effect keeps w o i e m h) (λ k g. Stored objects n true effect keeps w o gi.value ge.value ge.known m h k g) go (p.flows.2 refl)
+          (store_guarded objects n true effect keeps w o i e ks m h p.flows.0 p.flows.1 p.under p.holds p.sizes) (λ g. tt)))
+      can (Call to f es) ks ν l m h p =
+          let gs = guarded_all objects ks n es in
+          let go : List ℕ → Move Config = λ ws. Calls (record { function = f; arguments = ws; world = h }) (λ a. config Skip (plain_next ν) (put_result l to a.value) a.world) in
+          subst (λ (o : Option (List ℕ)). CanMove (tried o go)) (same_values es n m l h p.flows.0 p.agree)
+          (given gs.before m h (values es m h) (λ k ws. HaveValues objects h p.sizes n gs.values gs.known m k ws) go (p.flows.1 refl) (guards_all objects h p.sizes es ks n m p.flows.0 p.under p.holds) (λ ws. tt))
+      can (Read to) ks ν l m h p = tt
+      can (Write e) ks ν l m h p = with_value e ks l m h (λ w. Goes (config Skip (plain_next ν) l (after_write w h))) (p.flows.1 refl) p.flows.0 p.under p.holds p.agree p.sizes (λ w. tt)
+      can (Sequence s t) ks ν l m h p = tt
+      can (If e s t) ks ν l m h p = with_value e ks l m h (λ w. Goes (config (chosen w s t) (plain_next ν) l h)) (p.flows.1 refl) p.flows.0 p.under p.holds p.agree p.sizes (λ w. tt)
+      can (Loop s) ks ν l m h p = tt
+      can (Block s) ks ν l m h p = tt
+      can (Exit k) ks ν l m h p = exits_can k ν ks l h p.flows
+      can (Return e) ks ν l m h p = with_value e ks l m h (λ w. Returns (record { value = w; world = h })) (p.flows.1 refl) p.flows.0 p.under p.holds p.agree p.sizes (λ w. tt)
 
-          chosen_fits : (w : ℕ) → Fits n (blocks_of κ) (chosen w s t)
-          chosen_fits zero = u.2
-          chosen_fits (suc w) = u.1
-      on (Loop s) κ l h none q u v sizes = quiet_at s (Again s κ) l h none (none, q) u (u, v) sizes
-      on (Block s) κ l h none q u v sizes = quiet_at s (Leaving κ) l h none q u v sizes
-      on (Exit k) κ l h none q u v sizes = exits_on k κ l h u q v sizes
-      on (Return e) κ l h none q u v sizes = with_value e l h (λ w. Returns (record { value = w; world = h })) none u sizes (λ w. tt)
+      -- code that is related to quiet code can move
+      can_move : (c d : Config) → Related objects n true c d → CanMove (cminor_move c)
+      can_move c d r = subst (λ (κ : Continuation). CanMove (moves c.statement κ c.variables c.world)) (sym r.next_is) (can c.statement r.facts r.noted c.variables d.variables c.world r.at)
 
       abbrev breaks : ℕ → ℕ → Config → Option (List ℕ)
       breaks k j c = broken cminor_move cminor_output effect k j c
 
-      act_unbroken : (k j : ℕ) (o : List ℕ) (m : Move Config) → Onward m → ((j : ℕ) (c : Config) → Quiet c → breaks k j c ≡ None) → broken_act effect m o j (breaks k) ≡ None
-      act_unbroken k j o (Goes c) p ih = ih j c p
-      act_unbroken k j o (Calls q resume) p ih = by (effect j q) refl
+      act_unbroken : (k j : ℕ) (o : List ℕ) (m : Move Config) (d : Config) → CanMove m → Matches effect (Related objects n true) o m d → ((j : ℕ) (c d : Config) → Related objects n true c d → breaks k j c ≡ None) → broken_act effect m o j (breaks k) ≡ None
+      act_unbroken k j o (Goes c) d can x ih = ih j c x.to x.related
+      act_unbroken k j o (Calls q resume) d can x ih = by (effect j q) refl
         where
           by : (e : Effect) → effect j q ≡ e → broken_resumed e resume (breaks k) ≡ None
-          by (Gives a left) is = ih left (resume a) (p j left a is)
+          by (Gives a left) is = ih left (resume a) (x.resume' a) (x.related j left a is)
           by (Unfinished o) is = refl
           by (Failed o) is = refl
-      act_unbroken k j o (Returns r) p ih = refl
-      act_unbroken k j o Fails p ih = absurd p
+      act_unbroken k j o (Returns r) d can x ih = refl
+      act_unbroken k j o Fails d can x ih = absurd can
 
-      pub unbroken : (k j : ℕ) (c : Config) → Quiet c → breaks k j c ≡ None
-      unbroken zero j c q = refl
-      unbroken (suc k) j c q = act_unbroken k j (cminor_output c) (cminor_move c) (on c.statement c.next c.variables c.world q.quiet q.next_quiet q.fits q.next_fits q.sizes) (unbroken k)
+      pub unbroken : (k j : ℕ) (c d : Config) → Related objects n true c d → breaks k j c ≡ None
+      unbroken zero j c d r = refl
+      unbroken (suc k) j c d r = act_unbroken k j (cminor_output c) (cminor_move c) d (can_move c d r) (matches objects n true effect keeps c d r) (unbroken k)
 
-      pub never_breaks : (e : Effect) (c : Config) → Quiet c → BreaksAt cminor_move cminor_output effect e c → ⊥
-      never_breaks (Gives a left) c q p = p
-      never_breaks (Unfinished o) c q p = let e : None ≡ Some o = sym (unbroken p.moves p.steps c q) ∙ p.breaks in cc
-      never_breaks (Failed o) c q p = p
+      pub never_breaks : (e : Effect) (c d : Config) → Related objects n true c d → BreaksAt cminor_move cminor_output effect e c → ⊥
+      never_breaks (Gives a left) c d r p = p
+      never_breaks (Unfinished o) c d r p = let e : None ≡ Some o = sym (unbroken p.moves p.steps c d r) ∙ p.breaks in cc
+      never_breaks (Failed o) c d r p = p
 
 pub unguarded_stays : UnguardedStays
-unguarded_stays objects n s none = ap (λ r. if r then with_loop (guarded_code objects n 0 s) else guarded_code objects n 0 s) none ∙ same_code objects n 0 s none
+unguarded_stays objects n s none = ap (λ r. if r then with_loop (guarded_code objects n 0 s) else guarded_code objects n 0 s) none ∙ same_code objects n 0 s [] none

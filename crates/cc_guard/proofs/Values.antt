@@ -72,7 +72,7 @@ pub limits_more : (n k : ℕ) (ks : List Limit) → n ≤ k → LimitsUnder n ks
 limits_more n k [] le u = tt
 limits_more n k (x ∷ ks) le u = (let lt = u.0 in omega arith, limits_more n k ks le u.1)
 
-holds_on : (ks : List Limit) (n : ℕ) (m l : Variables) → LimitsUnder n ks → Agree n m l → Holds ks l → Holds ks m
+pub holds_on : (ks : List Limit) (n : ℕ) (m l : Variables) → LimitsUnder n ks → Agree n m l → Holds ks l → Holds ks m
 holds_on [] n m l u p q = tt
 holds_on (k ∷ ks) n m l u p q = (subst (λ w. w ≤ k.most) (sym (p k.variable u.0)) q.0, holds_on ks n m l u.1 p q.1)
 
@@ -119,7 +119,7 @@ module _ (objects : List Size) where
       let sl = sound_if (reads_left op) n a s in
       sound_test op n left (waiting (after left b)) sl (sound_waiting left.next (after left b) (right left sl))
 
-  limits_push : (k : ℕ) (ks : List Limit) (x : Limit) → LimitsUnder k ks → x.variable < k → LimitsUnder k (ks ++ x ∷ [])
+  pub limits_push : (k : ℕ) (ks : List Limit) (x : Limit) → LimitsUnder k ks → x.variable < k → LimitsUnder k (ks ++ x ∷ [])
   limits_push k [] x v u = (u, tt)
   limits_push k (y ∷ ks) x v u = (v.0, limits_push k ks x v.1 u)
 
@@ -244,7 +244,7 @@ module _ (objects : List Size) where
         by None e f = absurd (let g : None ≡ Some j = f in cc)
         by (Some v) e f = let same : i ≡ j = (let g : Some i ≡ Some j = f in cc) in record { index = f; word = v; is = ap (λ x. element h w o x) (sym same) ∙ e }
 
-    holds_push : (ks : List Limit) (x : Limit) (k : Variables) → Holds ks k → k x.variable ≤ x.most → Holds (ks ++ x ∷ []) k
+    pub holds_push : (ks : List Limit) (x : Limit) (k : Variables) → Holds ks k → k x.variable ≤ x.most → Holds (ks ++ x ∷ []) k
     holds_push [] x k p q = (q, tt)
     holds_push (y ∷ ks) x k p q = (p.0, holds_push ks x k p.1 q)
 
@@ -312,21 +312,23 @@ module _ (objects : List Size) where
 
     -- ---- some expressions
 
-    abbrev pub HaveValues : ℕ → List Expression → Variables → Variables → List ℕ → Type 0
-    HaveValues n es l m ws = Agree n m l × (values es m h ≡ Some ws)
+    abbrev pub HaveValues : ℕ → List Expression → List Limit → Variables → Variables → List ℕ → Type 0
+    HaveValues n es ks l m ws = Agree n m l × (values es m h ≡ Some ws) × Holds ks m
 
-    pub guards_all : (es : List Expression) (ks : List Limit) (n : ℕ) (l : Variables) → AllUnder n es → LimitsUnder n ks → Holds ks l → Meets h (guarded_all objects ks n es).before l (values es l h) (λ m ws. HaveValues n (guarded_all objects ks n es).values l m ws)
-    guards_all [] ks n l u v kl = (λ x lt. refl, refl)
+    pub guards_all : (es : List Expression) (ks : List Limit) (n : ℕ) (l : Variables) → AllUnder n es → LimitsUnder n ks → Holds ks l
+        → Meets h (guarded_all objects ks n es).before l (values es l h) (λ m ws. HaveValues n (guarded_all objects ks n es).values (guarded_all objects ks n es).known l m ws)
+    guards_all [] ks n l u v kl = (λ x lt. refl, refl, kl)
     guards_all (e ∷ es) ks n l u v kl =
         let s = sound e ks n u.0 v in
         let g = guarded objects ks n e in
         let us = all_under_more n g.next es s.grows u.1 in
         let gs = guarded_all objects g.known g.next es in
         meets_then h g.before gs.before l (value e l h) (λ w. then_value (values es l h) (λ ws. Some (w ∷ ws))) (λ m w. HasValue n g.value g.known l m w) _ (guards e ks n l u.0 v kl)
-        (λ m w q. meets_made h gs.before m (values es l h) (λ ws. w ∷ ws) (λ k ws. HaveValues g.next gs.values m k ws) _
-        (subst (λ (o : Option (List ℕ)). Meets h gs.before m o (λ k ws. HaveValues g.next gs.values m k ws)) (same_values es n m l h u.1 q.0) (guards_all es g.known g.next m us s.limits q.2))
+        (λ m w q. meets_made h gs.before m (values es l h) (λ ws. w ∷ ws) (λ k ws. HaveValues g.next gs.values gs.known m k ws) _
+        (subst (λ (o : Option (List ℕ)). Meets h gs.before m o (λ k ws. HaveValues g.next gs.values gs.known m k ws)) (same_values es n m l h u.1 q.0) (guards_all es g.known g.next m us s.limits q.2))
         (λ k ws r. (
           agree_on n g.next k m l s.grows r.0 q.0,
           ap (λ o. then_value o (λ w. then_value (values gs.values k h) (λ ws. Some (w ∷ ws)))) (same_value g.value g.next k m h s.under r.0 ∙ q.1)
               ∙ ap (λ o. then_value o (λ ws. Some (w ∷ ws))) r.1,
+          r.2,
         )))

@@ -1,10 +1,10 @@
 -- What the code writes of guards is what the definition says: guards come after those that were written already.
-use Rattle.std.proofs.Common.{◌≡◌, ℕ, suc, ◌≤◌, Bool, true, false, List, [], ◌∷◌, ◌++◌, map, refl, sym, ap, ◌∙◌, subst, append-nil, append_assoc, arith, rules, Result, Ok, Err, OnOk}
-use Rattle.std.specs.Prelude.{if◌then◌else◌, ◌||◌, max}
+use Rattle.std.proofs.Common.{◌≡◌, ℕ, ◌≤◌, Bool, true, false, List, [], ◌∷◌, ◌++◌, refl, sym, ap, ◌∙◌, subst, append-nil, append_assoc, arith, rules, Result, Ok, Err, OnOk}
+use Rattle.std.specs.Prelude.{◌||◌, max}
 use Rattle.std.proofs.Math.Bool.{or_assoc}
 use Rattle.std.proofs.Math.Nat.{max-zero, max-le, le-max_left, le-max_right}
 use Rattle.cc_simulation.specs.World.{Size}
-use Rattle.cc_cminor.specs.Cminor.{Expression, Constant, Local, Unary, Binary, Load, Statement, Skip, Set, Store, Call, Read, Write, Sequence, If, Loop, Block, Exit, Return}
+use Rattle.cc_cminor.specs.Cminor.{Expression, Constant, Local, Unary, Binary, Load, Statement, Sequence, If}
 use Rattle.cc_cminor.specs.Code.{expression_of, statement_of, in_sequence}
 use Rattle.cc_cminor.proofs.Codes.{sequence_is}
 use Rattle.cc_words.specs.declared.operators.Width.{Width}
@@ -13,7 +13,7 @@ use Rattle.cc_cminor.specs.declared.code.Statement as code
 use Rattle.cc_guard.specs.declared.known.Limit.{Limit}
 use Rattle.cc_guard.specs.declared.guards.Guards.{Guards}
 use Rattle.cc_guard.specs.declared.guards.Seen.{Seen}
-use Rattle.cc_guard.specs.Guard.{Guard, Put, Guarded, guard_code, waits_as, waiting, waiting_if, indexed, first_index, stored_word, guards_then, guarded, guarded_all, guarded_code, some_guard, has_guards, variables_in}
+use Rattle.cc_guard.specs.Guard.{Guard, Guarded, guard_code, waits_as, waiting, waiting_if, indexed, first_index, stored_word, guards_then, guarded, guarded_all, known_after, code_after, some_guard, guards_after, variables_after}
 use Rattle.cc_guard.specs.internal.Written.{codes, Adds, AddsAll, here, some_of, Sees, SeesStatement}
 
 -- ---- guards that are written
@@ -83,10 +83,10 @@ pub record Wrote (b : ℕ) (gs : List Guard) (upto : ℕ) (new : Guards) : Type 
 pub wrote : (b n m : ℕ) (gs : List Guard) (ks : List Limit) (old new : Guards) → old.before.items ≡ [] → Adds b gs m ks old new → Wrote b gs m new
 wrote b n m gs ks old new e p = record { before = p.before ∙ ap (λ (ss : List code.Statement). statements_of ss ++ codes b gs) e; next = p.next }
 
--- the guards of an expression, of which the first may set variable n
-pub wrote_first : (b n : ℕ) (F : List Limit → ℕ → Guarded) (old new : Guards) → old.before.items ≡ [] → old.next ≡ n → old.known.items ≡ [] → AddsAll b (F old.known.items old.next) old new → Wrote b (F [] n).before (F [] n).next new
-wrote_first b n F old new e f k p =
-    let same : F old.known.items old.next ≡ F [] n = λ i. F (k i) (f i) in
+-- the guards of an expression, of which the first may set variable n, where this is known
+pub wrote_first : (b n : ℕ) (ks : List Limit) (F : List Limit → ℕ → Guarded) (old new : Guards) → old.before.items ≡ [] → old.next ≡ n → old.known.items ≡ ks → AddsAll b (F old.known.items old.next) old new → Wrote b (F ks n).before (F ks n).next new
+wrote_first b n ks F old new e f k p =
+    let same : F old.known.items old.next ≡ F ks n = λ i. F (k i) (f i) in
     let x = wrote b n (F old.known.items old.next).next (F old.known.items old.next).before (F old.known.items old.next).known old new e p in
     record { before = x.before ∙ ap (λ (g : Guarded). codes b g.before) same; next = x.next ∙ ap (λ (g : Guarded). g.next) same }
 
@@ -108,41 +108,53 @@ pub sees_wrote : (b m : ℕ) (gs : List Guard) (new : Guards) (old seen : Seen) 
 sees_wrote b m gs new old seen w s = record { guards = s.guards ∙ ap (λ x. old.guards || x) (some_codes b gs new.before.items w.before); variables = s.variables ∙ ap (λ x. max old.variables x) w.next }
 
 -- a statement with one expression, with some
-pub first_wrote : (objects : List Size) (b n : ℕ) (e : Expression) (old new : Guards) → old.before.items ≡ [] → old.next ≡ n → old.known.items ≡ [] → AddsAll b (guarded objects old.known.items old.next e) old new → Wrote b (guarded objects [] n e).before (guarded objects [] n e).next new
-first_wrote objects b n e old new p q r a = wrote_first b n (λ ks k. guarded objects ks k e) old new p q r a
+pub first_wrote : (objects : List Size) (b n : ℕ) (ks : List Limit) (e : Expression) (old new : Guards) → old.before.items ≡ [] → old.next ≡ n → old.known.items ≡ ks → AddsAll b (guarded objects old.known.items old.next e) old new
+    → Wrote b (guarded objects ks n e).before (guarded objects ks n e).next new
+first_wrote objects b n ks e old new p q r a = wrote_first b n ks (λ hs k. guarded objects hs k e) old new p q r a
 
-pub first_value : (objects : List Size) (n : ℕ) (e : Expression) (old : Guards) (x : Expression) → old.next ≡ n → old.known.items ≡ [] → x ≡ (guarded objects old.known.items old.next e).value → x ≡ (guarded objects [] n e).value
-first_value objects n e old x q r v = v ∙ (λ i. (guarded objects (r i) (q i) e).value)
+pub first_value : (objects : List Size) (n : ℕ) (ks : List Limit) (e : Expression) (old : Guards) (x : Expression) → old.next ≡ n → old.known.items ≡ ks → x ≡ (guarded objects old.known.items old.next e).value → x ≡ (guarded objects ks n e).value
+first_value objects n ks e old x q r v = v ∙ (λ i. (guarded objects (r i) (q i) e).value)
 
-pub all_wrote : (objects : List Size) (b n : ℕ) (es : List Expression) (ks : List Limit) (old new : Guards) → old.before.items ≡ [] → old.next ≡ n → old.known.items ≡ [] → Adds b (guarded_all objects old.known.items old.next es).before (guarded_all objects old.known.items old.next es).next ks old new
-    → Wrote b (guarded_all objects [] n es).before (guarded_all objects [] n es).next new
-all_wrote objects b n es ks old new p q r a =
-    let x = wrote b n (guarded_all objects old.known.items old.next es).next (guarded_all objects old.known.items old.next es).before ks old new p a in
+pub first_known : (objects : List Size) (n : ℕ) (ks : List Limit) (e : Expression) (old new : Guards) → old.next ≡ n → old.known.items ≡ ks → new.known.items ≡ (guarded objects old.known.items old.next e).known → new.known.items ≡ (guarded objects ks n e).known
+first_known objects n ks e old new q r v = v ∙ (λ i. (guarded objects (r i) (q i) e).known)
+
+pub all_wrote : (objects : List Size) (b n : ℕ) (ks : List Limit) (es : List Expression) (old new : Guards) → old.before.items ≡ [] → old.next ≡ n → old.known.items ≡ ks
+    → Adds b (guarded_all objects old.known.items old.next es).before (guarded_all objects old.known.items old.next es).next (guarded_all objects old.known.items old.next es).known old new
+    → Wrote b (guarded_all objects ks n es).before (guarded_all objects ks n es).next new
+all_wrote objects b n ks es old new p q r a =
+    let g = guarded_all objects old.known.items old.next es in
+    let x = wrote b n g.next g.before g.known old new p a in
     record { before = x.before ∙ (λ i. codes b (guarded_all objects (r i) (q i) es).before); next = x.next ∙ (λ i. (guarded_all objects (r i) (q i) es).next) }
 
+pub all_known : (objects : List Size) (n : ℕ) (ks : List Limit) (es : List Expression) (old new : Guards) → old.next ≡ n → old.known.items ≡ ks → new.known.items ≡ (guarded_all objects old.known.items old.next es).known → new.known.items ≡ (guarded_all objects ks n es).known
+all_known objects n ks es old new q r v = v ∙ (λ i. (guarded_all objects (r i) (q i) es).known)
+
 -- a store
-module _ (objects : List Size) (b n : ℕ) (w : Width) (o : ℕ) (i e : Expression) (old mid new : Guards) (p : old.before.items ≡ []) (q : old.next ≡ n) (r : old.known.items ≡ [])
+module _ (objects : List Size) (b n : ℕ) (ks : List Limit) (w : Width) (o : ℕ) (i e : Expression) (old mid new : Guards) (p : old.before.items ≡ []) (q : old.next ≡ n) (r : old.known.items ≡ ks)
     (a : AddsAll b (indexed objects old.known.items w o i (guarded objects old.known.items old.next i)) old mid) (c : AddsAll b (guarded objects mid.known.items mid.next e) mid new) where
-  same_index : indexed objects old.known.items w o i (guarded objects old.known.items old.next i) ≡ first_index objects n w o i
+  same_index : indexed objects old.known.items w o i (guarded objects old.known.items old.next i) ≡ first_index objects ks n w o i
   same_index = λ j. indexed objects (r j) w o i (guarded objects (r j) (q j) i)
 
-  index_adds : AddsAll b (first_index objects n w o i) old mid
+  index_adds : AddsAll b (first_index objects ks n w o i) old mid
   index_adds = subst (λ (g : Guarded). AddsAll b g old mid) same_index a
 
-  same_word : guarded objects mid.known.items mid.next e ≡ stored_word objects (first_index objects n w o i) e
+  same_word : guarded objects mid.known.items mid.next e ≡ stored_word objects (first_index objects ks n w o i) e
   same_word = λ j. guarded objects (index_adds.known j) (index_adds.next j) e
 
-  pub store_wrote : Wrote b ((first_index objects n w o i).before ++ (stored_word objects (first_index objects n w o i) e).before) (stored_word objects (first_index objects n w o i) e).next new
+  pub store_wrote : Wrote b ((first_index objects ks n w o i).before ++ (stored_word objects (first_index objects ks n w o i) e).before) (stored_word objects (first_index objects ks n w o i) e).next new
   store_wrote =
-      let gi = first_index objects n w o i in
+      let gi = first_index objects ks n w o i in
       let ge = stored_word objects gi e in
       wrote b n ge.next (gi.before ++ ge.before) ge.known old new p (adds_then b gi.before ge.before gi.next ge.next gi.known ge.known old mid new index_adds (subst (λ (g : Guarded). AddsAll b g mid new) same_word c))
 
-  pub store_index : (x : Expression) → x ≡ (indexed objects old.known.items w o i (guarded objects old.known.items old.next i)).value → x ≡ (first_index objects n w o i).value
+  pub store_index : (x : Expression) → x ≡ (indexed objects old.known.items w o i (guarded objects old.known.items old.next i)).value → x ≡ (first_index objects ks n w o i).value
   store_index x v = v ∙ ap (λ (g : Guarded). g.value) same_index
 
-  pub store_word : (x : Expression) → x ≡ (guarded objects mid.known.items mid.next e).value → x ≡ (stored_word objects (first_index objects n w o i) e).value
+  pub store_word : (x : Expression) → x ≡ (guarded objects mid.known.items mid.next e).value → x ≡ (stored_word objects (first_index objects ks n w o i) e).value
   store_word x v = v ∙ ap (λ (g : Guarded). g.value) same_word
+
+  pub store_known : new.known.items ≡ (stored_word objects (first_index objects ks n w o i) e).known
+  store_known = c.known ∙ ap (λ (g : Guarded). g.known) same_word
 
 -- ---- syntax
 
@@ -188,24 +200,31 @@ sees_then a c x y old mid new p q = record {
 -- ---- some statements
 
 module _ (objects : List Size) (n b : ℕ) where
-  abbrev pub all_code : List Statement → List Statement
-  all_code ss = map (guarded_code objects n b) ss
+  abbrev pub all_code : List Limit → List Statement → List Statement
+  all_code ks [] = []
+  all_code ks (s ∷ ss) = code_after objects n ks b s ∷ all_code (known_after objects n ks s) ss
 
-  pub sequence_code : (ss : List Statement) → guarded_code objects n b (in_sequence ss) ≡ in_sequence (all_code ss)
-  sequence_code [] = refl
-  sequence_code (s ∷ []) = refl
-  sequence_code (s ∷ t ∷ ss) = ap (λ x. Sequence (guarded_code objects n b s) x) (sequence_code (t ∷ ss))
+  pub sequence_code : (ks : List Limit) (ss : List Statement) → code_after objects n ks b (in_sequence ss) ≡ in_sequence (all_code ks ss)
+  sequence_code ks [] = refl
+  sequence_code ks (s ∷ []) = refl
+  sequence_code ks (s ∷ t ∷ ss) = ap (λ x. Sequence (code_after objects n ks b s) x) (sequence_code (known_after objects n ks s) (t ∷ ss))
 
-  pub guards_first : (s : Statement) (ss : List Statement) → has_guards objects n (in_sequence (s ∷ ss)) ≡ (has_guards objects n s || has_guards objects n (in_sequence ss))
-  guards_first s [] = or_false (has_guards objects n s)
-  guards_first s (t ∷ ss) = refl
+  pub known_first : (ks : List Limit) (s : Statement) (ss : List Statement) → known_after objects n ks (in_sequence (s ∷ ss)) ≡ known_after objects n (known_after objects n ks s) (in_sequence ss)
+  known_first ks s [] = refl
+  known_first ks s (t ∷ ss) = refl
 
-  pub variables_first : (s : Statement) (ss : List Statement) → variables_in objects n (in_sequence (s ∷ ss)) ≡ max (variables_in objects n s) (variables_in objects n (in_sequence ss))
-  variables_first s [] = sym (max-zero (variables_in objects n s))
-  variables_first s (t ∷ ss) = refl
+  guards_first : (ks : List Limit) (s : Statement) (ss : List Statement) → guards_after objects n ks (in_sequence (s ∷ ss)) ≡ (guards_after objects n ks s || guards_after objects n (known_after objects n ks s) (in_sequence ss))
+  guards_first ks s [] = or_false (guards_after objects n ks s)
+  guards_first ks s (t ∷ ss) = refl
+
+  variables_first : (ks : List Limit) (s : Statement) (ss : List Statement) → variables_after objects n ks (in_sequence (s ∷ ss)) ≡ max (variables_after objects n ks s) (variables_after objects n (known_after objects n ks s) (in_sequence ss))
+  variables_first ks s [] = sym (max-zero (variables_after objects n ks s))
+  variables_first ks s (t ∷ ss) = refl
 
   -- what was seen, and what is to be seen of the rest
-  pub sees_first : (s : Statement) (ss : List Statement) (old mid : Seen) → SeesStatement objects n s old mid → ((seen : Seen) → SeesStatement objects n (in_sequence ss) mid seen → SeesStatement objects n (in_sequence (s ∷ ss)) old seen)
-  sees_first s ss old mid p seen q =
-      let r = sees_then (has_guards objects n s) (has_guards objects n (in_sequence ss)) (variables_in objects n s) (variables_in objects n (in_sequence ss)) old mid seen p q in
-      record { guards = r.guards ∙ ap (λ x. old.guards || x) (sym (guards_first s ss)); variables = r.variables ∙ ap (λ x. max old.variables x) (sym (variables_first s ss)) }
+  pub sees_first : (ks : List Limit) (s : Statement) (ss : List Statement) (old mid : Seen) → SeesStatement objects n ks s old mid
+      → ((seen : Seen) → SeesStatement objects n (known_after objects n ks s) (in_sequence ss) mid seen → SeesStatement objects n ks (in_sequence (s ∷ ss)) old seen)
+  sees_first ks s ss old mid p seen q =
+      let K = known_after objects n ks s in
+      let r = sees_then (guards_after objects n ks s) (guards_after objects n K (in_sequence ss)) (variables_after objects n ks s) (variables_after objects n K (in_sequence ss)) old mid seen p q in
+      record { guards = r.guards ∙ ap (λ x. old.guards || x) (sym (guards_first ks s ss)); variables = r.variables ∙ ap (λ x. max old.variables x) (sym (variables_first ks s ss)) }

@@ -9,7 +9,7 @@ use Rattle.cc_words.specs.declared.operators.Binary.TheVariants.{Add, Sub, Mul, 
 use Rattle.cc_words.specs.declared.operators.Width.{Width}
 use Rattle.cc_words.specs.Widths.{same_width}
 use Rattle.cc_simulation.specs.World.{Size, size_in}
-use Rattle.cc_cminor.specs.Cminor.{Expression, Constant, Local, Unary, Binary, Load, Statement, Skip, Set, Store, Call, Read, Write, Sequence, If, Loop, Block, Exit, Return, Continuation, Ends, Then, Again, Leaving}
+use Rattle.cc_cminor.specs.Cminor.{Expression, Constant, Local, Unary, Binary, Load, Statement, Skip, Set, Store, Call, Read, Write, Sequence, If, Loop, Block, Exit, Return}
 use Rattle.cc_guard.specs.declared.known.Limit.{Limit}
 
 -- ---- guards
@@ -223,76 +223,144 @@ pub record GuardedAll : Type 0 where
   pub before : List Guard
   pub values : List Expression
   pub next : ℕ
+  pub known : List Limit
 
 abbrev pub with_first : Guarded → GuardedAll → GuardedAll
-with_first a rest = record { before = a.before ++ rest.before; values = a.value ∷ rest.values; next = rest.next }
+with_first a rest = record { before = a.before ++ rest.before; values = a.value ∷ rest.values; next = rest.next; known = rest.known }
 
 abbrev pub guarded_all : List Size → List Limit → (n : ℕ) → List Expression → GuardedAll
-guarded_all objects ks n [] = record { before = []; values = []; next = n }
+guarded_all objects ks n [] = record { before = []; values = []; next = n; known = ks }
 guarded_all objects ks n (e ∷ es) = with_first (guarded objects ks n e) (guarded_all objects (guarded objects ks n e).known (guarded objects ks n e).next es)
 
--- ---- a statement
+-- the index of a store, and its word, after the guards of its index
+abbrev pub first_index : List Size → List Limit → (n : ℕ) → Width → (object : ℕ) → Expression → Guarded
+first_index objects ks n w o i = indexed objects ks w o i (guarded objects ks n i)
 
--- the index of a store
-abbrev pub first_index : List Size → (n : ℕ) → Width → (object : ℕ) → Expression → Guarded
-first_index objects n w o i = indexed objects [] w o i (guarded objects [] n i)
-
--- the word of a store, after the guards of its index
 abbrev pub stored_word : List Size → Guarded → Expression → Guarded
 stored_word objects i e = guarded objects i.known i.next e
+
+-- ---- what is known after a statement: that of variables which no part of it sets
+
+-- a statement, or a part of it, sets a variable
+abbrev pub sets_result : Option ℕ → (variable : ℕ) → Bool
+sets_result None x = false
+sets_result (Some y) x = y == x
+
+abbrev pub sets : Statement → (variable : ℕ) → Bool
+sets Skip x = false
+sets (Set y e) x = y == x
+sets (Store w o i e) x = false
+sets (Call to f es) x = sets_result to x
+sets (Read to) x = sets_result to x
+sets (Write e) x = false
+sets (Sequence s t) x = sets s x || sets t x
+sets (If e s t) x = sets s x || sets t x
+sets (Loop s) x = sets s x
+sets (Block s) x = sets s x
+sets (Exit k) x = false
+sets (Return e) x = false
+
+-- what is known of variables below n that were not changed
+abbrev pub stays : (n : ℕ) → (changed : ℕ → Bool) → Limit → Bool
+stays n changed k = nat_lt k.variable n && not (changed k.variable)
+
+abbrev pub kept_if : Bool → Limit → List Limit → List Limit
+kept_if b k ks = if b then k ∷ ks else ks
+
+abbrev pub kept : (n : ℕ) → (changed : ℕ → Bool) → List Limit → List Limit
+kept n changed [] = []
+kept n changed (k ∷ ks) = kept_if (stays n changed k) k (kept n changed ks)
+
+-- a variable was set to a word that is not greater than this, if something is known of it
+abbrev pub set_to : (variable : ℕ) → Option ℕ → List Limit → List Limit
+set_to x None ks = ks
+set_to x (Some m) ks = ks ++ record { variable = x; most = m } ∷ []
+
+abbrev pub known_after : List Size → (n : ℕ) → List Limit → Statement → List Limit
+known_after objects n ks Skip = ks
+known_after objects n ks (Set x e) = set_to x (most (guarded objects ks n e).known e) (kept n (sets (Set x e)) (guarded objects ks n e).known)
+known_after objects n ks (Store w o i e) = kept n (sets (Store w o i e)) (stored_word objects (first_index objects ks n w o i) e).known
+known_after objects n ks (Call to f es) = kept n (sets (Call to f es)) (guarded_all objects ks n es).known
+known_after objects n ks (Read to) = kept n (sets (Read to)) ks
+known_after objects n ks (Write e) = kept n (sets (Write e)) (guarded objects ks n e).known
+known_after objects n ks (Sequence s t) = known_after objects n (known_after objects n ks s) t
+known_after objects n ks (If e s t) = kept n (sets (If e s t)) (guarded objects ks n e).known
+known_after objects n ks (Loop s) = kept n (sets s) ks
+known_after objects n ks (Block s) = kept n (sets s) ks
+known_after objects n ks (Exit k) = ks
+known_after objects n ks (Return e) = kept n (sets (Return e)) (guarded objects ks n e).known
+
+-- ---- a statement
 
 abbrev pub with_store : (blocks : ℕ) → Width → (object : ℕ) → Guarded → Guarded → Statement
 with_store b w o i e = guards_then b (i.before ++ e.before) (Store w o i.value e.value)
 
--- a statement in so many blocks; the guards of each set variables from n on, and know nothing yet
+-- what is known where both ways of an `If` begin
+abbrev pub known_within : List Size → (n : ℕ) → List Limit → Expression → List Limit
+known_within objects n ks e = kept n (sets Skip) (guarded objects ks n e).known
+
+-- a statement in so many blocks, where this is known; the guards of each set variables from n on
+abbrev pub code_after : List Size → (n : ℕ) → List Limit → (blocks : ℕ) → Statement → Statement
+code_after objects n ks b Skip = Skip
+code_after objects n ks b (Set x e) = guards_then b (guarded objects ks n e).before (Set x (guarded objects ks n e).value)
+code_after objects n ks b (Store w o i e) = with_store b w o (first_index objects ks n w o i) (stored_word objects (first_index objects ks n w o i) e)
+code_after objects n ks b (Call to f es) = guards_then b (guarded_all objects ks n es).before (Call to f (guarded_all objects ks n es).values)
+code_after objects n ks b (Read to) = Read to
+code_after objects n ks b (Write e) = guards_then b (guarded objects ks n e).before (Write (guarded objects ks n e).value)
+code_after objects n ks b (Sequence s t) = Sequence (code_after objects n ks b s) (code_after objects n (known_after objects n ks s) b t)
+code_after objects n ks b (If e s t) =
+    guards_then b (guarded objects ks n e).before
+    (If (guarded objects ks n e).value (code_after objects n (known_within objects n ks e) b s) (code_after objects n (known_within objects n ks e) b t))
+code_after objects n ks b (Loop s) = Loop (code_after objects n (kept n (sets s) ks) b s)
+code_after objects n ks b (Block s) = Block (code_after objects n ks (suc b) s)
+code_after objects n ks b (Exit k) = Exit k
+code_after objects n ks b (Return e) = guards_then b (guarded objects ks n e).before (Return (guarded objects ks n e).value)
+
+-- at the start of a function nothing is known
 abbrev pub guarded_code : List Size → (n blocks : ℕ) → Statement → Statement
-guarded_code objects n b Skip = Skip
-guarded_code objects n b (Set x e) = guards_then b (guarded objects [] n e).before (Set x (guarded objects [] n e).value)
-guarded_code objects n b (Store w o i e) = with_store b w o (first_index objects n w o i) (stored_word objects (first_index objects n w o i) e)
-guarded_code objects n b (Call to f es) = guards_then b (guarded_all objects [] n es).before (Call to f (guarded_all objects [] n es).values)
-guarded_code objects n b (Read to) = Read to
-guarded_code objects n b (Write e) = guards_then b (guarded objects [] n e).before (Write (guarded objects [] n e).value)
-guarded_code objects n b (Sequence s t) = Sequence (guarded_code objects n b s) (guarded_code objects n b t)
-guarded_code objects n b (If e s t) =
-    guards_then b (guarded objects [] n e).before (If (guarded objects [] n e).value (guarded_code objects n b s) (guarded_code objects n b t))
-guarded_code objects n b (Loop s) = Loop (guarded_code objects n b s)
-guarded_code objects n b (Block s) = Block (guarded_code objects n (suc b) s)
-guarded_code objects n b (Exit k) = Exit k
-guarded_code objects n b (Return e) = guards_then b (guarded objects [] n e).before (Return (guarded objects [] n e).value)
+guarded_code objects n b s = code_after objects n [] b s
 
 -- whether there is a guard
 abbrev pub some_guard : List Guard → Bool
 some_guard [] = false
 some_guard (g ∷ gs) = true
 
+abbrev pub guards_after : List Size → (n : ℕ) → List Limit → Statement → Bool
+guards_after objects n ks Skip = false
+guards_after objects n ks (Set x e) = some_guard (guarded objects ks n e).before
+guards_after objects n ks (Store w o i e) = some_guard ((first_index objects ks n w o i).before ++ (stored_word objects (first_index objects ks n w o i) e).before)
+guards_after objects n ks (Call to f es) = some_guard (guarded_all objects ks n es).before
+guards_after objects n ks (Read to) = false
+guards_after objects n ks (Write e) = some_guard (guarded objects ks n e).before
+guards_after objects n ks (Sequence s t) = guards_after objects n ks s || guards_after objects n (known_after objects n ks s) t
+guards_after objects n ks (If e s t) =
+    some_guard (guarded objects ks n e).before || (guards_after objects n (known_within objects n ks e) s || guards_after objects n (known_within objects n ks e) t)
+guards_after objects n ks (Loop s) = guards_after objects n (kept n (sets s) ks) s
+guards_after objects n ks (Block s) = guards_after objects n ks s
+guards_after objects n ks (Exit k) = false
+guards_after objects n ks (Return e) = some_guard (guarded objects ks n e).before
+
 abbrev pub has_guards : List Size → (n : ℕ) → Statement → Bool
-has_guards objects n Skip = false
-has_guards objects n (Set x e) = some_guard (guarded objects [] n e).before
-has_guards objects n (Store w o i e) = some_guard ((first_index objects n w o i).before ++ (stored_word objects (first_index objects n w o i) e).before)
-has_guards objects n (Call to f es) = some_guard (guarded_all objects [] n es).before
-has_guards objects n (Read to) = false
-has_guards objects n (Write e) = some_guard (guarded objects [] n e).before
-has_guards objects n (Sequence s t) = has_guards objects n s || has_guards objects n t
-has_guards objects n (If e s t) = some_guard (guarded objects [] n e).before || (has_guards objects n s || has_guards objects n t)
-has_guards objects n (Loop s) = has_guards objects n s
-has_guards objects n (Block s) = has_guards objects n s
-has_guards objects n (Exit k) = false
-has_guards objects n (Return e) = some_guard (guarded objects [] n e).before
+has_guards objects n s = guards_after objects n [] s
 
 -- the least number above each variable that the guards set, if there is one
+abbrev pub variables_after : List Size → (n : ℕ) → List Limit → Statement → ℕ
+variables_after objects n ks Skip = 0
+variables_after objects n ks (Set x e) = (guarded objects ks n e).next
+variables_after objects n ks (Store w o i e) = (stored_word objects (first_index objects ks n w o i) e).next
+variables_after objects n ks (Call to f es) = (guarded_all objects ks n es).next
+variables_after objects n ks (Read to) = 0
+variables_after objects n ks (Write e) = (guarded objects ks n e).next
+variables_after objects n ks (Sequence s t) = max (variables_after objects n ks s) (variables_after objects n (known_after objects n ks s) t)
+variables_after objects n ks (If e s t) =
+    max (guarded objects ks n e).next (max (variables_after objects n (known_within objects n ks e) s) (variables_after objects n (known_within objects n ks e) t))
+variables_after objects n ks (Loop s) = variables_after objects n (kept n (sets s) ks) s
+variables_after objects n ks (Block s) = variables_after objects n ks s
+variables_after objects n ks (Exit k) = 0
+variables_after objects n ks (Return e) = (guarded objects ks n e).next
+
 abbrev pub variables_in : List Size → (n : ℕ) → Statement → ℕ
-variables_in objects n Skip = 0
-variables_in objects n (Set x e) = (guarded objects [] n e).next
-variables_in objects n (Store w o i e) = (stored_word objects (first_index objects n w o i) e).next
-variables_in objects n (Call to f es) = (guarded_all objects [] n es).next
-variables_in objects n (Read to) = 0
-variables_in objects n (Write e) = (guarded objects [] n e).next
-variables_in objects n (Sequence s t) = max (variables_in objects n s) (variables_in objects n t)
-variables_in objects n (If e s t) = max (guarded objects [] n e).next (max (variables_in objects n s) (variables_in objects n t))
-variables_in objects n (Loop s) = variables_in objects n s
-variables_in objects n (Block s) = variables_in objects n s
-variables_in objects n (Exit k) = 0
-variables_in objects n (Return e) = (guarded objects [] n e).next
+variables_in objects n s = variables_after objects n [] s
 
 -- the code of a function with guards, and the loop at its end; if the function's own code comes to its end, so does this
 abbrev pub with_loop : Statement → Statement

@@ -2,6 +2,8 @@
 pub mod Guard
 -- what holds of all guarded code
 pub mod Laws
+-- units in which no function needs a guard
+pub mod Safe
 -- the number of a fault
 pub mod Fault
 pub mod internal

@@ -127,7 +127,7 @@ pub fn expressions(
     es: &[Expression],
 ) -> Result<Vec<Expression>, AllocError>
     ensures values { IfOk result (λ vs. expressions_of vs.items ≡ (guarded_all (sizes_of sizes.now) guards.old.known.items guards.old.next (expressions_of es.now)).values) }
-    ensures adds { OnOk result (Adds blocks (guarded_all (sizes_of sizes.now) guards.old.known.items guards.old.next (expressions_of es.now)).before (guarded_all (sizes_of sizes.now) guards.old.known.items guards.old.next (expressions_of es.now)).next guards.new.known.items guards.old guards.new) }
+    ensures adds { OnOk result (Adds blocks (guarded_all (sizes_of sizes.now) guards.old.known.items guards.old.next (expressions_of es.now)).before (guarded_all (sizes_of sizes.now) guards.old.known.items guards.old.next (expressions_of es.now)).next (guarded_all (sizes_of sizes.now) guards.old.known.items guards.old.next (expressions_of es.now)).known guards.old guards.new) }
 {
     let mut all = Vec::new(alloc);
     for e in es {

@@ -235,17 +235,18 @@ pub fn bounded(
 
 // ---- the statement
 
-/// No guard yet; the first one may set this variable.
-pub fn begun(alloc: Global, first: usize) -> Guards
-    ensures before { result.before.items ≡ [] }
-    ensures next { result.next ≡ first }
-    ensures known { result.known.items ≡ [] }
+/// No guard yet; the first one may set this variable, and this is known.
+pub fn begun(alloc: Global, first: usize, known: &[Limit]) -> Result<Guards, AllocError>
+    ensures before { IfOk result (λ guards. guards.before.items ≡ []) }
+    ensures next { IfOk result (λ guards. guards.next ≡ first) }
+    ensures known { IfOk result (λ guards. guards.known.items ≡ known.now) }
 {
-    Guards {
+    let known = Vec::from_slice(alloc, known)?;
+    Ok(Guards {
         before: Vec::new(alloc),
         next: first,
-        known: Vec::new(alloc),
-    }
+        known,
+    })
 }
 
 /// Notes the guards of a statement.

@@ -5,7 +5,10 @@
 //! evident), `sizes` (of the unit's objects) and `boxes` below. What the pass makes is a definition of `specs/Guard.antt`.
 #![tactic(auto)]
 
+mod after;
 mod boxes;
+mod changed;
+mod constants;
 mod expressions;
 mod fault;
 mod guards;
@@ -16,5 +19,5 @@ mod sizes;
 mod statements;
 
 pub use fault::GuardFault;
-pub use laws::{guards_set_few, unguarded_code_stays};
-pub use pass::guard;
+pub use laws::{guards_set_few, only_depth_is_left, unguarded_code_stays};
+pub use pass::{guard, needs_no_guard};

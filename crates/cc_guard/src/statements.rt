@@ -1,4 +1,4 @@
-// Statements, each with its guards in front of it.
+// Statements, each with its guards in front of it, where something is known of variables.
 //
 // The recursion is as deep as the tree: at most eight levels of Cminor for each of the source's 64.
 
@@ -6,12 +6,15 @@ ghost use Rattle.std.specs.Prelude.{◌≡◌, IfOk, OnOk};
 ghost use Rattle.cc_cminor.specs.Cminor as cminor;
 ghost use Rattle.cc_cminor.specs.Code.{expression_of, expressions_of, statement_of, in_sequence};
 ghost use Rattle.cc_cminor.specs.internal.Statements.{statements_of};
-ghost use Rattle.cc_guard.specs.Guard.{guarded_code};
+ghost use Rattle.cc_guard.specs.Guard.{code_after};
 ghost use Rattle.cc_guard.specs.internal.Written.{SeesStatement, sizes_of};
 
+use crate::after::after;
 use crate::boxes::{boxed_statement, sequence};
+use crate::changed::{kept, kept_but};
 use crate::expressions::{expression, expressions, index};
 use crate::guards::{Seen, begun, finished, note};
+use crate::known::Limit;
 use crate::sizes::ObjectSize;
 use cc_cminor::{Expression, Statement};
 use cc_words::Width;
@@ -23,13 +26,14 @@ fn set(
     first: usize,
     blocks: usize,
     seen: &mut Seen,
+    known: &[Limit],
     variable: usize,
     e: &Expression,
 ) -> Result<Box<Statement>, AllocError>
-    ensures code { IfOk result (λ s. statement_of s.value ≡ guarded_code (sizes_of sizes.now) first blocks (cminor.Set variable (expression_of e.now))) }
-    ensures seen { OnOk result (SeesStatement (sizes_of sizes.now) first (cminor.Set variable (expression_of e.now)) seen.old seen.new) }
+    ensures code { IfOk result (λ s. statement_of s.value ≡ code_after (sizes_of sizes.now) first known.now blocks (cminor.Set variable (expression_of e.now))) }
+    ensures seen { OnOk result (SeesStatement (sizes_of sizes.now) first known.now (cminor.Set variable (expression_of e.now)) seen.old seen.new) }
 {
-    let mut guards = begun(alloc, first);
+    let mut guards = begun(alloc, first, known)?;
     let value = expression(alloc, sizes, blocks, &mut guards, e)?;
     note(&guards, seen);
     finished(alloc, guards, Statement::Set(variable, value))
@@ -41,15 +45,16 @@ fn store(
     first: usize,
     blocks: usize,
     seen: &mut Seen,
+    known: &[Limit],
     width: Width,
     object: usize,
     i: &Expression,
     e: &Expression,
 ) -> Result<Box<Statement>, AllocError>
-    ensures code { IfOk result (λ s. statement_of s.value ≡ guarded_code (sizes_of sizes.now) first blocks (cminor.Store width object (expression_of i.now) (expression_of e.now))) }
-    ensures seen { OnOk result (SeesStatement (sizes_of sizes.now) first (cminor.Store width object (expression_of i.now) (expression_of e.now)) seen.old seen.new) }
+    ensures code { IfOk result (λ s. statement_of s.value ≡ code_after (sizes_of sizes.now) first known.now blocks (cminor.Store width object (expression_of i.now) (expression_of e.now))) }
+    ensures seen { OnOk result (SeesStatement (sizes_of sizes.now) first known.now (cminor.Store width object (expression_of i.now) (expression_of e.now)) seen.old seen.new) }
 {
-    let mut guards = begun(alloc, first);
+    let mut guards = begun(alloc, first, known)?;
     let i = index(alloc, sizes, blocks, &mut guards, width, object, i)?;
     let value = expression(alloc, sizes, blocks, &mut guards, e)?;
     note(&guards, seen);
@@ -62,14 +67,15 @@ fn call(
     first: usize,
     blocks: usize,
     seen: &mut Seen,
+    known: &[Limit],
     to: Option<usize>,
     function: usize,
     es: &[Expression],
 ) -> Result<Box<Statement>, AllocError>
-    ensures code { IfOk result (λ s. statement_of s.value ≡ guarded_code (sizes_of sizes.now) first blocks (cminor.Call to function (expressions_of es.now))) }
-    ensures seen { OnOk result (SeesStatement (sizes_of sizes.now) first (cminor.Call to function (expressions_of es.now)) seen.old seen.new) }
+    ensures code { IfOk result (λ s. statement_of s.value ≡ code_after (sizes_of sizes.now) first known.now blocks (cminor.Call to function (expressions_of es.now))) }
+    ensures seen { OnOk result (SeesStatement (sizes_of sizes.now) first known.now (cminor.Call to function (expressions_of es.now)) seen.old seen.new) }
 {
-    let mut guards = begun(alloc, first);
+    let mut guards = begun(alloc, first, known)?;
     let values = expressions(alloc, sizes, blocks, &mut guards, es)?;
     note(&guards, seen);
     finished(alloc, guards, Statement::Call(to, function, values))
@@ -81,12 +87,13 @@ fn write(
     first: usize,
     blocks: usize,
     seen: &mut Seen,
+    known: &[Limit],
     e: &Expression,
 ) -> Result<Box<Statement>, AllocError>
-    ensures code { IfOk result (λ s. statement_of s.value ≡ guarded_code (sizes_of sizes.now) first blocks (cminor.Write (expression_of e.now))) }
-    ensures seen { OnOk result (SeesStatement (sizes_of sizes.now) first (cminor.Write (expression_of e.now)) seen.old seen.new) }
+    ensures code { IfOk result (λ s. statement_of s.value ≡ code_after (sizes_of sizes.now) first known.now blocks (cminor.Write (expression_of e.now))) }
+    ensures seen { OnOk result (SeesStatement (sizes_of sizes.now) first known.now (cminor.Write (expression_of e.now)) seen.old seen.new) }
 {
-    let mut guards = begun(alloc, first);
+    let mut guards = begun(alloc, first, known)?;
     let value = expression(alloc, sizes, blocks, &mut guards, e)?;
     note(&guards, seen);
     finished(alloc, guards, Statement::Write(value))
@@ -98,18 +105,19 @@ fn give_back(
     first: usize,
     blocks: usize,
     seen: &mut Seen,
+    known: &[Limit],
     e: &Expression,
 ) -> Result<Box<Statement>, AllocError>
-    ensures code { IfOk result (λ s. statement_of s.value ≡ guarded_code (sizes_of sizes.now) first blocks (cminor.Return (expression_of e.now))) }
-    ensures seen { OnOk result (SeesStatement (sizes_of sizes.now) first (cminor.Return (expression_of e.now)) seen.old seen.new) }
+    ensures code { IfOk result (λ s. statement_of s.value ≡ code_after (sizes_of sizes.now) first known.now blocks (cminor.Return (expression_of e.now))) }
+    ensures seen { OnOk result (SeesStatement (sizes_of sizes.now) first known.now (cminor.Return (expression_of e.now)) seen.old seen.new) }
 {
-    let mut guards = begun(alloc, first);
+    let mut guards = begun(alloc, first, known)?;
     let value = expression(alloc, sizes, blocks, &mut guards, e)?;
     note(&guards, seen);
     finished(alloc, guards, Statement::Return(value))
 }
 
-/// A statement in so many blocks, with its guards, which set variables from `first` on.
+/// A statement in so many blocks, with its guards, which set variables from `first` on, where this is known.
 #[cycle(statements)]
 pub fn statement(
     alloc: Global,
@@ -117,16 +125,21 @@ pub fn statement(
     first: usize,
     blocks: usize,
     seen: &mut Seen,
+    known: &[Limit],
     s: &Statement,
 ) -> Result<Box<Statement>, AllocError>
-    ensures code { IfOk result (λ code. statement_of code.value ≡ guarded_code (sizes_of sizes.now) first blocks (statement_of s.now)) }
-    ensures seen { OnOk result (SeesStatement (sizes_of sizes.now) first (statement_of s.now) seen.old seen.new) }
+    ensures code { IfOk result (λ code. statement_of code.value ≡ code_after (sizes_of sizes.now) first known.now blocks (statement_of s.now)) }
+    ensures seen { OnOk result (SeesStatement (sizes_of sizes.now) first known.now (statement_of s.now) seen.old seen.new) }
 {
     match s {
         Statement::Skip => boxed_statement(alloc, Statement::Skip),
-        Statement::Set(variable, e) => set(alloc, sizes, first, blocks, seen, *variable, e),
+        Statement::Set(variable, e) => {
+            set(alloc, sizes, first, blocks, seen, known, *variable, e)
+        }
         Statement::Store(width, object, i, e) => {
-            store(alloc, sizes, first, blocks, seen, *width, *object, i, e)
+            store(
+                alloc, sizes, first, blocks, seen, known, *width, *object, i, e,
+            )
         }
         Statement::Call(to, function, es) => {
             call(
@@ -135,37 +148,56 @@ pub fn statement(
                 first,
                 blocks,
                 seen,
+                known,
                 *to,
                 *function,
                 es.as_slice(),
             )
         }
         Statement::Read(to) => boxed_statement(alloc, Statement::Read(*to)),
-        Statement::Write(e) => write(alloc, sizes, first, blocks, seen, e),
+        Statement::Write(e) => write(alloc, sizes, first, blocks, seen, known, e),
         Statement::Sequence(all) => {
-            statements(alloc, sizes, first, blocks, seen, all.as_slice())
+            statements(alloc, sizes, first, blocks, seen, known, all.as_slice())
         }
         Statement::If(e, nonzero, otherwise) => {
-            let mut guards = begun(alloc, first);
+            let mut guards = begun(alloc, first, known)?;
             let value = expression(alloc, sizes, blocks, &mut guards, e)?;
             note(&guards, seen);
-            let nonzero = statement(alloc, sizes, first, blocks, seen, nonzero)?;
-            let otherwise = statement(alloc, sizes, first, blocks, seen, otherwise)?;
+            let within = kept_but(alloc, first, None, guards.known.as_slice())?;
+            let nonzero = statement(
+                alloc,
+                sizes,
+                first,
+                blocks,
+                seen,
+                within.as_slice(),
+                nonzero,
+            )?;
+            let otherwise = statement(
+                alloc,
+                sizes,
+                first,
+                blocks,
+                seen,
+                within.as_slice(),
+                otherwise,
+            )?;
             finished(alloc, guards, Statement::If(value, nonzero, otherwise))
         }
         Statement::Loop(body) => {
-            let body = statement(alloc, sizes, first, blocks, seen, body)?;
+            let again = kept(alloc, first, body, known)?;
+            let body = statement(alloc, sizes, first, blocks, seen, again.as_slice(), body)?;
             boxed_statement(alloc, Statement::Loop(body))
         }
         Statement::Block(body) => {
             let Some(inside) = blocks.checked_add(1) else {
                 return Err(AllocError);
             };
-            let body = statement(alloc, sizes, first, inside, seen, body)?;
+            let body = statement(alloc, sizes, first, inside, seen, known, body)?;
             boxed_statement(alloc, Statement::Block(body))
         }
         Statement::Exit(k) => boxed_statement(alloc, Statement::Exit(*k)),
-        Statement::Return(e) => give_back(alloc, sizes, first, blocks, seen, e),
+        Statement::Return(e) => give_back(alloc, sizes, first, blocks, seen, known, e),
     }
 }
 
@@ -176,15 +208,18 @@ fn statements(
     first: usize,
     blocks: usize,
     seen: &mut Seen,
+    known: &[Limit],
     all: &[Statement],
 ) -> Result<Box<Statement>, AllocError>
-    ensures code { IfOk result (λ code. statement_of code.value ≡ guarded_code (sizes_of sizes.now) first blocks (in_sequence (statements_of all.now))) }
-    ensures seen { OnOk result (SeesStatement (sizes_of sizes.now) first (in_sequence (statements_of all.now)) seen.old seen.new) }
+    ensures code { IfOk result (λ code. statement_of code.value ≡ code_after (sizes_of sizes.now) first known.now blocks (in_sequence (statements_of all.now))) }
+    ensures seen { OnOk result (SeesStatement (sizes_of sizes.now) first known.now (in_sequence (statements_of all.now)) seen.old seen.new) }
 {
     let mut codes = Vec::new(alloc);
+    let mut limits = Vec::from_slice(alloc, known)?;
     for s in all {
-        let code = statement(alloc, sizes, first, blocks, seen, s)?;
+        let code = statement(alloc, sizes, first, blocks, seen, limits.as_slice(), s)?;
         codes.push(Box::into_inner(code))?;
+        limits = after(alloc, sizes, first, limits.as_slice(), s)?;
     }
     sequence(alloc, codes)
 }

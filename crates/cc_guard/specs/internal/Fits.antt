@@ -1,5 +1,5 @@
--- Code into which guards can be put: it reads variables below a number alone, and each exit leaves blocks that there are. Which variables
--- it sets is not asked: no statement reads what the guards of another one have set.
+-- Code into which guards can be put: it reads and computes variables below a number alone, and each exit leaves blocks that there are. Which
+-- variables get the results of calls and reads is not asked: of these nothing is known.
 use Rattle.std.specs.Prelude.{◌≡◌, ℕ, suc, ◌<◌, List, [], ◌∷◌, map}
 use Rattle.cc_simulation.specs.World.{World, Answer, Gives, size_of}
 use Rattle.cc_simulation.specs.Meaning.{Meaning}
@@ -20,7 +20,7 @@ AllUnder n (e ∷ es) = Under n e × AllUnder n es
 -- a statement in this many blocks
 abbrev pub Fits : (n blocks : ℕ) → Statement → Type 0
 Fits n b Skip = Unit {0}
-Fits n b (Set x e) = Under n e
+Fits n b (Set x e) = (x < n) × Under n e
 Fits n b (Store width o i e) = Under n i × Under n e
 Fits n b (Call to f es) = AllUnder n es
 Fits n b (Read to) = Unit {0}

@@ -11,7 +11,7 @@ use Rattle.cc_guard.specs.declared.known.Limit.{Limit}
 use Rattle.cc_guard.specs.declared.sizes.ObjectSize.{ObjectSize}
 use Rattle.cc_guard.specs.declared.guards.Guards.{Guards}
 use Rattle.cc_guard.specs.declared.guards.Seen.{Seen}
-use Rattle.cc_guard.specs.Guard.{Guard, Guarded, guard_code, has_guards, variables_in}
+use Rattle.cc_guard.specs.Guard.{Guard, Guarded, guard_code, guards_after, variables_after}
 
 -- ---- sizes
 
@@ -56,5 +56,5 @@ pub record Sees (some : Bool) (count : ℕ) (old new : Seen) : Type 0 where
   pub guards : new.guards ≡ (old.guards || some)
   pub variables : new.variables ≡ max old.variables count
 
-abbrev pub SeesStatement : List Size → (n : ℕ) → Statement → Seen → Seen → Type 0
-SeesStatement objects n s old new = Sees (has_guards objects n s) (variables_in objects n s) old new
+abbrev pub SeesStatement : List Size → (n : ℕ) → List Limit → Statement → Seen → Seen → Type 0
+SeesStatement objects n ks s old new = Sees (guards_after objects n ks s) (variables_after objects n ks s) old new

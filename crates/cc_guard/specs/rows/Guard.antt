@@ -1,10 +1,10 @@
 -- Worked guards, by computation, of two objects: three words, and four bytes. Variables below 4 are the code's.
-use Rattle.std.specs.Prelude.{◌≡◌, refl, ◌-◌, ◌^◌, false, List, [], ◌∷◌}
+use Rattle.std.specs.Prelude.{◌≡◌, refl, ◌-◌, ◌^◌, false, List, [], ◌∷◌, Some}
 use Rattle.cc_words.specs.declared.operators.Width.TheVariants.{Byte, Word}
 use Rattle.cc_words.specs.declared.operators.Unary.TheVariants.{IsZero}
 use Rattle.cc_words.specs.declared.operators.Binary.TheVariants.{Add, DivS, DivU, RemU, Shl, And, Eq, LeU}
 use Rattle.cc_simulation.specs.World.{Size}
-use Rattle.cc_cminor.specs.Cminor.{Expression, Constant, Local, Unary, Binary, Load, Statement, Skip, Set, Store, Sequence, If, Loop, Block, Exit}
+use Rattle.cc_cminor.specs.Cminor.{Expression, Constant, Local, Unary, Binary, Load, Statement, Skip, Set, Store, Call, Sequence, If, Loop, Block, Exit}
 use Rattle.cc_guard.specs.Guard.{guarded_code, has_guards, guarded_function}
 
 abbrev objects : List Size
@@ -60,3 +60,20 @@ whole = refl
 -- and one without: as it was
 as_it_was : guarded_function objects 4 (Block (Set 0 (Load Word 0 (Constant 2)))) ≡ Block (Set 0 (Load Word 0 (Constant 2)))
 as_it_was = refl
+
+-- what is known passes on: a store's index that was masked into its variable, and one that was tested before; after a call its result is not known
+masked_store : guarded_code objects 4 0 (Sequence (Set 2 (Binary And (Local 1) (Constant 1))) (Store Word 0 (Local 2) (Local 0))) ≡ Sequence (Set 2 (Binary And (Local 1) (Constant 1))) (Store Word 0 (Local 2) (Local 0))
+masked_store = refl
+
+tested_before : guarded_code objects 4 0 (Sequence (Set 0 (Load Word 0 (Local 1))) (If (Local 0) (Set 0 (Load Word 0 (Local 1))) Skip))
+    ≡ Sequence (Sequence (stop_from (Constant 3) (Local 1)) (Set 0 (Load Word 0 (Local 1)))) (If (Local 0) (Set 0 (Load Word 0 (Local 1))) Skip)
+tested_before = refl
+
+set_again : guarded_code objects 4 0 (Sequence (Set 1 (Constant 2)) (Sequence (Call (Some 1) 0 []) (Set 0 (Load Word 0 (Local 1)))))
+    ≡ Sequence (Set 1 (Constant 2)) (Sequence (Call (Some 1) 0 []) (Sequence (stop_from (Constant 3) (Local 1)) (Set 0 (Load Word 0 (Local 1)))))
+set_again = refl
+
+-- in a loop that is known of variables that no turn sets
+kept_in_loop : guarded_code objects 4 0 (Sequence (Set 1 (Constant 2)) (Sequence (Set 2 (Constant 2)) (Loop (Sequence (Set 0 (Load Word 0 (Local 1))) (Set 2 (Load Word 0 (Local 2)))))))
+    ≡ Sequence (Set 1 (Constant 2)) (Sequence (Set 2 (Constant 2)) (Loop (Sequence (Set 0 (Load Word 0 (Local 1))) (Sequence (stop_from (Constant 3) (Local 2)) (Set 2 (Load Word 0 (Local 2)))))))
+kept_in_loop = refl

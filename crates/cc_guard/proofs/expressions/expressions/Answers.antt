@@ -33,4 +33,5 @@ loop-e-preserved c =
           ∙ ap (λ (k : GuardedAll). ss ++ codes b (g.before ++ k.before)) same
           ∙ sym (ap (λ (l : List expression.Expression). ss ++ codes b (guarded_all objects old.known.items old.next (expressions_of l)).before) left) ∙ c.loop-e.invariant.before;
       next = ap (λ (k : GuardedAll). k.next) same ∙ sym (ap (λ (l : List expression.Expression). (guarded_all objects old.known.items old.next (expressions_of l)).next) left) ∙ c.loop-e.invariant.next;
+      known = ap (λ (k : GuardedAll). k.known) same ∙ sym (ap (λ (l : List expression.Expression). (guarded_all objects old.known.items old.next (expressions_of l)).known) left) ∙ c.loop-e.invariant.known;
     }

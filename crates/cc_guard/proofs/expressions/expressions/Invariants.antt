@@ -14,4 +14,5 @@ invariant-loop-e l =
       values : expressions_of l.all.items ++ rest.values ≡ whole.values;
       before : statements_of l.guards.before.items ++ codes l.blocks rest.before ≡ statements_of l.fn.guards.before.items ++ codes l.blocks whole.before;
       next : rest.next ≡ whole.next;
+      known : rest.known ≡ whole.known;
     }

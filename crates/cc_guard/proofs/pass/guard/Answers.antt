@@ -1,9 +1,8 @@
 -- What the pair's type keeps: of the pair that was handed in, and that guarded code keeps up.
-use Rattle.std.proofs.Common.{refl, sym, subst}
+use Rattle.std.proofs.Common.{refl}
 use Rattle.std.specs.Arc.{arc_value}
-use Rattle.cc_ast.specs.declared.unit.Unit as parsed
 use Rattle.cc_c_laws.specs.declared.mode.Mode.TheVariants.{Checked}
-use Rattle.cc_cminor.specs.Pair.{Pair, IsPair}
+use Rattle.cc_cminor.specs.Pair.{IsPair}
 use Rattle.cc_guard.proofs.Lowered.{guarded_is_pair}
 use Rattle.cc_guard.proofs.pass.guard.Goals as goal
 

@@ -9,6 +9,6 @@ use Rattle.cc_guard.proofs.statements.+statements.Given as goal
 -- with those that are left the code is whole, and what is seen of them is seen of all
 abbrev pub invariant-statements-loop-s : goal.invariant-statements-loop-s
 invariant-statements-loop-s l = record {
-  code : statements_of l.codes.items ++ all_code (sizes_of l.sizes) l.first l.blocks (statements_of (drop l.s-index l.all)) ≡ all_code (sizes_of l.sizes) l.first l.blocks (statements_of l.all);
-  seen : (last : Seen) → SeesStatement (sizes_of l.sizes) l.first (in_sequence (statements_of (drop l.s-index l.all))) l.seen last → SeesStatement (sizes_of l.sizes) l.first (in_sequence (statements_of l.all)) l.fn.seen last;
+  code : statements_of l.codes.items ++ all_code (sizes_of l.sizes) l.first l.blocks l.limits.items (statements_of (drop l.s-index l.all)) ≡ all_code (sizes_of l.sizes) l.first l.blocks l.known (statements_of l.all);
+  seen : (last : Seen) → SeesStatement (sizes_of l.sizes) l.first l.limits.items (in_sequence (statements_of (drop l.s-index l.all))) l.seen last → SeesStatement (sizes_of l.sizes) l.first l.known (in_sequence (statements_of l.all)) l.fn.seen last;
 }
