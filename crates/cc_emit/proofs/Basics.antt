@@ -34,6 +34,13 @@ set_same f d w le =
 pub set_other : (f : ℕ → ℕ) (d w r : ℕ) → (r ≡ d → ⊥) → with_register f d w r ≡ f r
 set_other f d w r e = ap (λ b. if b && not (d == 0) then w else f r) (eqb_not r d e)
 
+pub set_twice : (f : ℕ → ℕ) (d v w : ℕ) → with_register (with_register f d v) d w ≡ with_register f d w
+set_twice f d v w = λ i r. at r ((r == d) && not (d == 0)) i
+  where
+    at : (r : ℕ) (b : Bool) → (if b then w else (if b then v else f r)) ≡ (if b then w else f r)
+    at r true = refl
+    at r false = refl
+
 cond_below : (b : Bool) (w v n : ℕ) → w < n → v < n → (if b then w else v) < n
 cond_below true w v n p q = p
 cond_below false w v n p q = q

@@ -44,9 +44,9 @@ use Rattle.cc_emit.specs.declared.recipe.Recipe.TheVariants.{Direct, NonzeroOf, 
 use Rattle.cc_emit.specs.declared.addressed.Remembered.{Remembered}
 use Rattle.cc_emit.specs.declared.addressed.Remembered.TheVariants.{Nothing, Upper, Element, ByPointer, ElementByPointer}
 use Rattle.cc_emit.specs.declared.scratch.Scratch.{Scratch}
-use Rattle.cc_emit.specs.Scratch.{nothing, known_of, address_of, sum_base, without, without_address, behind_const, behind_recipe, behind_element, behind_at}
+use Rattle.cc_emit.specs.Scratch.{nothing, known_of, address_of, sum_base, without, without_address, behind_recipe, behind_element, behind_at}
 use Rattle.cc_emit.proofs.Fine.{IsTarget}
-use Rattle.cc_emit.proofs.Basics.{in_stack, high_low, high_word, first_word, eqb_yes, eqb_says, same_first, set_same, set_other}
+use Rattle.cc_emit.proofs.Basics.{in_stack, high_low, high_word, first_word, eqb_yes, eqb_says, same_first, set_same, set_other, set_twice}
 use Rattle.cc_emit.proofs.Bytes.{load_accessible, loaded_word, store_accessible}
 use Rattle.cc_emit.proofs.Elements.{element_tells, holds, placed}
 use Rattle.cc_emit.proofs.Places.{DistanceIs, Nears, close_nears, distance_is, stays_near}
@@ -231,8 +231,8 @@ behind_2 place a = omega arith
 
 -- a word, by the parts that are not zero
 const_walks_by : (x : Site) {held : Scratch} (a to word : ℕ) (no_high no_low : Bool) (l : Locations) (h : World) (s : State) → s.pc ≡ x.place + 4 * a → Within x held l h s → IsTarget x.frame to → word < 2 ^ 32 → (no_high ≡ true → high word ≡ 0) → (no_low ≡ true → low word ≡ 0)
-    → Stands x (x.place + 4 * a) (if no_high then addi to 0 (low word) ∷ [] else if no_low then Plain (Lui to (high word)) ∷ [] else Plain (Lui 5 (high word)) ∷ addi to 5 (low word) ∷ [])
-    → Walked x (if no_high then without to held else if no_low then without to held else without to (without_address held)) (put (Register to) word l) h s (a + (if no_high then 1 else if no_low then 1 else 2))
+    → Stands x (x.place + 4 * a) (if no_high then addi to 0 (low word) ∷ [] else if no_low then Plain (Lui to (high word)) ∷ [] else Plain (Lui to (high word)) ∷ addi to to (low word) ∷ [])
+    → Walked x (without to held) (put (Register to) word l) h s (a + (if no_high then 1 else if no_low then 1 else 2))
 const_walks_by x a to word true no_low l h s e inside u lt is_high is_low f =
     let zero = inside.sound.zero in
     let none = is_high refl in
@@ -245,14 +245,17 @@ const_walks_by x a to word false true l h s e inside u lt is_high is_low f =
     let small = high_word word in
     let value : high word * 2 ^ 12 ≡ word = omega arith in
     walk_set x l h s (x.place + 4 * a) (a + 1) to word (Lui to (high word)) e f.0 (behind_1 x.place a) (ap (λ n. puts to n s) value) u lt inside
-const_walks_by x a to word false false l h s e inside u lt is_high is_low f =
+const_walks_by x {held} a to word false false l h s e inside u lt is_high is_low f =
     let up = high word * 2 ^ 12 in
-    let s5 : State = record s { pc = s.pc + 4; registers = with_register s.registers 5 up } in
-    let w5 = within_5 x l h s (s.pc + 4) up (high_word word) inside in
-    walk_more x (put (Register to) word l) h s s5 (a + 2) (step_at x.code s (x.place + 4 * a) (Lui 5 (high word)) e f.0)
-    (walk_set x l h s5 (x.place + 4 * a + 4) (a + 2) to word (OpImm Addi to 5 (low word)) (ap (λ n. n + 4) e) f.1.0 (behind_2 x.place a) (ap (λ n. puts to n s5) (high_low word lt)) u lt w5)
+    let lo = u.0.0 in
+    let t : State = record s { pc = s.pc + 4; registers = with_register s.registers to up } in
+    let sum : add (t.registers to) (low word) ≡ word = ap (λ n. add n (low word)) (set_same s.registers to up (omega arith)) ∙ high_low word lt in
+    walk_more x (put (Register to) word l) h s t (a + 2) (step_at x.code s (x.place + 4 * a) (Lui to (high word)) e f.0)
+    (walk_by x (put (Register to) word l) h t (record t { pc = t.pc + 4; registers = with_register t.registers to word }) (a + 2)
+    (step_at x.code t (x.place + 4 * a + 4) (OpImm Addi to to (low word)) (ap (λ n. n + 4) e) f.1.0 ∙ ap (λ n. puts to n t) sum) (ap (λ n. n + 4 + 4) e ∙ behind_2 x.place a)
+    (subst (λ (g : ℕ → ℕ). Within x (without to held) (put (Register to) word l) h (record s { pc = s.pc + 4 + 4; registers = g })) (sym (set_twice s.registers to up word)) (within_set x l h s (s.pc + 4 + 4) to word u lt inside)))
 
-pub const_walks : (x : Site) {held : Scratch} (a to word : ℕ) (l : Locations) (h : World) (s : State) → s.pc ≡ x.place + 4 * a → Within x held l h s → IsTarget x.frame to → word < 2 ^ 32 → Stands x (x.place + 4 * a) (const_items to word) → Walked x (behind_const to word held) (put (Register to) word l) h s (a + const_size word)
+pub const_walks : (x : Site) {held : Scratch} (a to word : ℕ) (l : Locations) (h : World) (s : State) → s.pc ≡ x.place + 4 * a → Within x held l h s → IsTarget x.frame to → word < 2 ^ 32 → Stands x (x.place + 4 * a) (const_items to word) → Walked x (without to held) (put (Register to) word l) h s (a + const_size word)
 const_walks x a to word l h s e inside u lt f = const_walks_by x a to word (high word == 0) (low word == 0) l h s e inside u lt (eqb_says (high word) 0) (eqb_says (low word) 0) f
 
 pub const_case : (x : Site) {held : Scratch} (w a to word : ℕ) (rest : List Step) (l : Locations) (h : World) (s : State) → Given x held w a (One (Const to word) ∷ rest) l h s → Stepped x (One (Const to word) ∷ rest) l h s

@@ -157,10 +157,10 @@ module _ (functions long : ℕ) where
   unary_encodable Complement to a t p = (t, p, (omega arith, omega arith))
   unary_encodable IsZero to a t p = (t, p, (omega arith, omega arith))
 
-  const_fit : (no_high no_low : Bool) (to w : ℕ) → to < 32 → Fit (if no_high then addi to 0 (low w) ∷ [] else if no_low then Plain (Lui to (high w)) ∷ [] else Plain (Lui 5 (high w)) ∷ addi to 5 (low w) ∷ [])
+  const_fit : (no_high no_low : Bool) (to w : ℕ) → to < 32 → Fit (if no_high then addi to 0 (low w) ∷ [] else if no_low then Plain (Lui to (high w)) ∷ [] else Plain (Lui to (high w)) ∷ addi to to (low w) ∷ [])
   const_fit true no_low to w t = ((t, omega arith, low_fits w), tt)
   const_fit false true to w t = ((t, omega arith), tt)
-  const_fit false false to w t = ((omega arith, omega arith), ((t, omega arith, low_fits w), tt))
+  const_fit false false to w t = ((t, omega arith), ((t, t, low_fits w), tt))
 
   branch_fit : (near : Bool) (c : Condition) (a to : ℕ) → AreRegisters c → (near ≡ true → Nears a to) → to ≤ long → Fit (branch_items near c a to)
   branch_fit true c a to u n le = ((u.0, u.1, near_offset a to (n refl)), tt)

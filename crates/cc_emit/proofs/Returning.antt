@@ -23,7 +23,7 @@ use Rattle.cc_emit.specs.declared.scratch.Scratch.{Scratch}
 use Rattle.cc_emit.specs.Scratch.{nothing}
 use Rattle.cc_emit.proofs.Holding.{IsPointer, pointer_behind, pointer_given, holds_nothing}
 use Rattle.cc_emit.proofs.Fine.{AreSavable, IsSavable, Member}
-use Rattle.cc_emit.proofs.Basics.{high_low, set_same, set_other, set_word, eqb_yes, put_register, with_zero, survives_tells, listed, listed_at}
+use Rattle.cc_emit.proofs.Basics.{high_low, set_same, set_other, set_twice, set_word, eqb_yes, put_register, with_zero, survives_tells, listed, listed_at}
 use Rattle.cc_emit.proofs.Places.{length_pointer_items, length_restoring, length_stack_moved}
 use Rattle.cc_emit.proofs.Bytes.{loaded_word}
 use Rattle.cc_emit.proofs.Elements.{elements_stay}
@@ -235,13 +235,6 @@ begun f s = record s { pc = s.pc + 4 * pointer_size f.sets_pointer; registers = 
 pointer_path : (code : Code) (places : ℕ → ℕ) (place : ℕ) (f : Frame) (s : State) → Placed code places place s.pc (pointer_items f) → Path code (pointer_size f.sets_pointer) s (begun f s)
 pointer_path code places place f s p = by f.sets_pointer p
   where
-    twice : (g : ℕ → ℕ) (v w : ℕ) → with_register (with_register g 3 v) 3 w ≡ with_register g 3 w
-    twice g v w = λ i r. at r ((r == 3) && not (3 == 0)) i
-      where
-        at : (r : ℕ) (b : Bool) → (if b then w else (if b then v else g r)) ≡ (if b then w else g r)
-        at r true = refl
-        at r false = refl
-
     by : (b : Bool) → Placed code places place s.pc (if b then Plain (Lui 3 (high global_pointer)) ∷ addi 3 3 (low global_pointer) ∷ [] else [])
         → Path code (if b then 2 else 0) s (record s { pc = s.pc + 4 * (if b then 2 else 0); registers = begun_registers b s.registers })
     by true p =
@@ -253,7 +246,7 @@ pointer_path code places place f s p = by f.sets_pointer p
         let sum : add (u.registers 3) (low global_pointer) ≡ global_pointer = ap (λ n. add n (low global_pointer)) u3 ∙ high_low global_pointer (omega arith) in
         let two : machine_step code u ≡ Continues v = step_at code u (s.pc + 4) (OpImm Addi 3 3 (low global_pointer)) refl p.1.0 ∙ ap (λ n. puts 3 n u) sum in
         let at : s.pc + 4 + 4 ≡ s.pc + 4 * 2 = omega arith in
-        (u, one, (v, two, ap₂ (λ (k : ℕ) (g : ℕ → ℕ). record s { pc = k; registers = g }) at (twice s.registers up global_pointer)))
+        (u, one, (v, two, ap₂ (λ (k : ℕ) (g : ℕ → ℕ). record s { pc = k; registers = g }) at (set_twice s.registers 3 up global_pointer)))
     by false p = ap (λ k. record s { pc = k }) (let e : s.pc ≡ s.pc + 4 * 0 = omega arith in e)
 
 -- behind it

@@ -102,7 +102,7 @@ abbrev pub const_items : (to word : ℕ) → List PieceItem
 const_items to w =
     if high w == 0 then addi to 0 (low w) ∷ []
     else if low w == 0 then Plain (instr.Lui to (high w)) ∷ []
-    else Plain (instr.Lui 5 (high w)) ∷ addi to 5 (low w) ∷ []
+    else Plain (instr.Lui to (high w)) ∷ addi to to (low w) ∷ []
 
 -- an operator on one word
 abbrev pub unary_instr : unary.Unary → (to from : ℕ) → Instr
@@ -362,6 +362,11 @@ long_size f s = size f (λ label. false) s
 abbrev pub is_label_step : (label : ℕ) → Step → Bool
 is_label_step label (One (Label other)) = other == label
 is_label_step label step = false
+
+-- the label that a step is
+abbrev pub label_of_step : Step → Option ℕ
+label_of_step (One (Label label)) = Some label
+label_of_step step = None
 
 abbrev pub is_label : (label : ℕ) → Addressed → Bool
 is_label label s = is_label_step label s.step

@@ -3,9 +3,9 @@
 -- x3. So the next access to an object near by needs no upper part, and one to elements of the same number, in any object that is reached the same
 -- way, is one instruction.
 -- A function sets x3 to the global pointer where its accesses take fewer instructions so, those that set it counted: from there an access reaches
--- the first 4 KiB of the globals.
+-- the first 4 KiB of the globals. An access in a loop counts as eight.
 -- Which accesses are so is told of each step: its size follows from that alone.
-use Rattle.std.specs.Prelude.{ℕ, ◌*◌, ◌+◌, ◌^◌, Bool, true, false, ◌&&◌, ◌==◌, nat_le, nat_lt, if◌then◌else◌, Option, Some, None, List, [], ◌∷◌}
+use Rattle.std.specs.Prelude.{ℕ, ◌*◌, ◌+◌, ◌^◌, Bool, true, false, ◌&&◌, ◌||◌, ◌==◌, nat_le, nat_lt, if◌then◌else◌, Option, Some, None, List, [], ◌∷◌}
 use Rattle.cc_words.specs.declared.operators.Width.{Width}
 use Rattle.cc_words.specs.Widths.{same_width}
 use Rattle.cc_ltl.specs.declared.operation.Move.{Move}
@@ -27,7 +27,7 @@ use Rattle.cc_emit.specs.declared.scratch.ElementAddress.{ElementAddress}
 use Rattle.cc_emit.specs.declared.scratch.Scratch.{Scratch}
 use Rattle.cc_emit.specs.Branches.{against_zero}
 use Rattle.cc_emit.specs.Contract.{global_pointer}
-use Rattle.cc_emit.specs.Emission.{access_size, high, known_access_size, known_place, low, pointer_size, recipe, word_recipe}
+use Rattle.cc_emit.specs.Emission.{access_size, high, known_access_size, known_place, label_of_step, pointer_size, recipe, word_recipe}
 
 -- ---- what the registers hold
 
@@ -95,10 +95,6 @@ behind_move (Between to from) k = without to k
 behind_move (Reload to slot) k = without to k
 behind_move (Spill slot from) k = k
 
--- a word of two parts goes through x5
-abbrev pub behind_const : (to word : ℕ) → Scratch → Scratch
-behind_const to w k = if high w == 0 then without to k else if low w == 0 then without to k else without to (without_address k)
-
 abbrev pub behind_recipe : Recipe → (to : ℕ) → Scratch → Scratch
 behind_recipe (Direct o) to k = without to k
 behind_recipe recipe to k = without to (without_address k)
@@ -140,7 +136,7 @@ behind_one base sets_pointer (Jump to) k = nothing
 behind_one base sets_pointer (IfNonzero from to) k = k
 behind_one base sets_pointer (IfZero from to) k = k
 behind_one base sets_pointer (Copy m) k = behind_move m k
-behind_one base sets_pointer (Const to word) k = behind_const to word k
+behind_one base sets_pointer (Const to word) k = without to k
 behind_one base sets_pointer (Unary operator to from) k = without to k
 behind_one base sets_pointer (Binary operator to left right) k = behind_recipe (recipe operator) to k
 behind_one base sets_pointer (Load width object to index) k = without to (behind_element (known_of sets_pointer k width (base object) index) k width (base object) index)
@@ -178,10 +174,48 @@ step_access_size known (LoadAt width object to number) = known_access_size known
 step_access_size known (StoreAt width object number from) = known_access_size known
 step_access_size known step = 0
 
-abbrev pub accesses_size : List Addressed → ℕ
-accesses_size [] = 0
-accesses_size (s ∷ steps) = step_access_size s.known s.step + accesses_size steps
+-- the label to which a step may lead
+abbrev pub led_to : Step → Option ℕ
+led_to (One (Jump to)) = Some to
+led_to (One (IfNonzero from to)) = Some to
+led_to (One (IfZero from to)) = Some to
+led_to (Branch operator nonzero left right to) = Some to
+led_to (BranchImmediate operator nonzero from word to) = Some to
+led_to step = None
 
--- the accesses take fewer instructions with x3, those that set it counted; so the function is shorter, but for branches that are near or far by it
+abbrev pub is_led : Option ℕ → (label : ℕ) → Bool
+is_led None label = false
+is_led (Some to) label = to == label
+
+-- one of these steps may lead to the label
+abbrev pub lead_to : (label : ℕ) → List Step → Bool
+lead_to label [] = false
+lead_to label (step ∷ steps) = is_led (led_to step) label || lead_to label steps
+
+-- to one of the labels
+abbrev pub lead_back : (labels : List ℕ) → List Step → Bool
+lead_back [] steps = false
+lead_back (label ∷ labels) steps = lead_to label steps || lead_back labels steps
+
+-- how often an access counts, by the labels before it and the steps from it on: eight times in a loop, which is between a label and a later step
+-- that leads back to it
+abbrev pub loop_weight : ℕ
+loop_weight = 8
+
+abbrev pub weight : (labels : List ℕ) → List Step → ℕ
+weight labels steps = if lead_back labels steps then loop_weight else 1
+
+-- the labels before what is behind a step
+abbrev pub labels_past : Option ℕ → List ℕ → List ℕ
+labels_past None labels = labels
+labels_past (Some label) labels = label ∷ labels
+
+-- how many instructions the accesses of these steps take, each as often as it counts
+abbrev pub accesses_size : (base : ℕ → ℕ) → (sets_pointer : Bool) → Scratch → (labels : List ℕ) → List Step → ℕ
+accesses_size base sets_pointer k labels [] = 0
+accesses_size base sets_pointer k labels (step ∷ steps) =
+    weight labels (step ∷ steps) * step_access_size (remembered base sets_pointer k step) step + accesses_size base sets_pointer (behind_step base sets_pointer step k) (labels_past (label_of_step step) labels) steps
+
+-- the accesses take fewer instructions with x3, those that set it counted
 abbrev pub gains : (base : ℕ → ℕ) → List Step → Bool
-gains base steps = nat_lt (pointer_size true + accesses_size (addressed base true nothing steps)) (accesses_size (addressed base false nothing steps))
+gains base steps = nat_lt (pointer_size true + accesses_size base true nothing [] steps) (accesses_size base false nothing [] steps)

@@ -378,12 +378,13 @@ pub(crate) fn function_items(
 ) -> Result<Vec<PieceItem>, AllocError>
     requires slots { slots ≤ most_slots }
     requires fit { (functions : ℕ) × AllByRecursion (IsStep slots functions (labels code.now)) code.now }
-    requires few { length code.now ≤ 2 ^ 59 }
+    requires few { length code.now ≤ 2 ^ 56 }
     ensures { IfOk result (λ items. items.items ≡ function_items (base_in bases.now) slots code.now) }
 {
-    let (steps, sets_pointer) = addressed(alloc, bases, code)?;
+    let count = label_count(code);
+    let (steps, sets_pointer) = addressed(alloc, bases, code, count)?;
     let frame = Frame::new(alloc, sets_pointer, slots, code)?;
-    let places = Places::new(alloc, &frame, steps.as_slice(), label_count(code))?;
+    let places = Places::new(alloc, &frame, steps.as_slice(), count)?;
     let mut items = Vec::with_capacity(alloc, places.end())?;
     frame.put_prologue(&mut items)?;
     put_code(&mut items, &frame, &places, bases, steps.as_slice())?;

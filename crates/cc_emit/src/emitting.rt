@@ -13,7 +13,7 @@ use std::alloc::{AllocError, Global};
 use std::sync::Arc;
 
 /// The most steps that are emitted. No memory holds more.
-const MOST_STEPS: usize = 1 << 59;
+const MOST_STEPS: usize = 1 << 56;
 
 /// The code of a function of a unit, as its items: those of `specs/Function.antt`, at most 15 for a step.
 /// That the machine does with them what the function does belongs to the answer's type. The LTL is kept beside them.

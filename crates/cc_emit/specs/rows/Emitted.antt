@@ -150,9 +150,13 @@ number_written = refl
 own_number : function_items near_by 0 (One (Load Word 0 7 7) ∷ One (Load Word 0 7 7) ∷ []) ≡ whole (load_word 7 5 0) (with_upper (load_word 7 5 0) [])
 own_number = refl
 
--- and where x5 is used, for a word of two parts
-between : function_items near_by 0 (One (Load Word 0 10 7) ∷ One (Const 11 0x12345678) ∷ One (Load Word 0 12 7) ∷ []) ≡ whole (load_word 10 5 0) (Plain (Lui 5 0x12345) ∷ addi 11 5 0x678 ∷ with_upper (load_word 12 5 0) [])
+-- and where x5 is used, to ask whether a register's word is another than 7
+between : function_items near_by 0 (One (Load Word 0 10 7) ∷ Immediate immediate.Ne 11 10 7 ∷ One (Load Word 0 12 7) ∷ []) ≡ whole (load_word 10 5 0) (addi 5 10 0xfffffff9 ∷ Plain (Op operation.Sltu 11 0 5) ∷ with_upper (load_word 12 5 0) [])
 between = refl
+
+-- a word of two parts goes into its own register, and x5 stays as it is
+word_between : function_items near_by 0 (One (Load Word 0 10 7) ∷ One (Const 11 0x12345678) ∷ One (Load Word 0 12 7) ∷ []) ≡ whole (load_word 10 5 0) (Plain (Lui 11 0x12345) ∷ addi 11 11 0x678 ∷ load_word 12 5 0 ∷ [])
+word_between = refl
 
 -- a label and a call forget both; a branch that is not taken leaves them
 label_between : function_items near_by 0 (One (Load Word 0 10 7) ∷ One (Label 1) ∷ One (Load Word 0 11 7) ∷ []) ≡ whole (load_word 10 5 0) (whole (load_word 11 5 0) [])
@@ -187,6 +191,13 @@ known_by_x3 = refl
 -- two save no more than setting x3 takes; nor do three of which one finds the upper part in x6
 two_alone : function_items near_by 0 (LoadAt Word 1 10 0 ∷ One (Label 1) ∷ LoadAt Word 1 11 0 ∷ LoadAt Word 2 12 0 ∷ []) ≡ Plain (Lui 6 0x200) ∷ load_word 10 6 16 ∷ Plain (Lui 6 0x200) ∷ load_word 11 6 16 ∷ load_word 12 6 32 ∷ []
 two_alone = refl
+
+-- one in a loop counts as eight; one between a branch and the label to which it goes on does not
+in_loop : function_items near_by 0 (One (Label 1) ∷ LoadAt Word 1 10 0 ∷ One (IfZero 10 1) ∷ []) ≡ with_pointer (load_word 10 3 0xfffff810 ∷ Plain (instr.Branch Beq 10 0 0xfffffffc) ∷ [])
+in_loop = refl
+
+passed_over : function_items near_by 0 (One (IfZero 10 1) ∷ LoadAt Word 1 10 0 ∷ One (Label 1) ∷ []) ≡ Plain (instr.Branch Beq 10 0 12) ∷ Plain (Lui 6 0x200) ∷ load_word 10 6 16 ∷ []
+passed_over = refl
 
 -- elements: slli x5, x7, 2; add x5, x5, x3; the access; one of another object of the same number; of a byte add x5, x7, x3
 elements_by_x3 : items_with near_by true 0 (One (Load Word 0 10 7) ∷ One (Store Word 1 7 10) ∷ One (Load Byte 1 11 7) ∷ [])
