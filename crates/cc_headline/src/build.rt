@@ -9,7 +9,7 @@ use crate::refusal::refusal;
 use cc_core::build::Build;
 use cc_core::fault::BuildRefusal;
 use cc_emit::Piece;
-use cc_link::{link_lent, linked_units_agree, typed_unit};
+use cc_link::{link_in, linked_units_follow, typed_unit};
 use cc_unit::StoredUnit;
 use std::alloc::Global;
 use std::sync::Arc;
@@ -43,7 +43,7 @@ impl Build for CcBuild {
 
     fn names(&self, piece: &Piece, source: &[u8], part: u32) -> bool {
         // What the type of a piece and that of its unit keep, and what linking promises, is what a piece keeps.
-        linked_units_agree();
+        linked_units_follow();
         let _kept = piece.items();
         let _kept = piece.unit().externals();
         piece.function() == part as usize && piece.unit().text() == source
@@ -61,7 +61,7 @@ impl Build for CcBuild {
         if first.unit().text() != source {
             return Err(BuildRefusal::Refused(28));
         }
-        match link_lent(alloc, first.unit(), pieces) {
+        match link_in(alloc, first.mode(), first.unit(), pieces) {
             Ok(compiled) => Ok(Arc::try_clone(compiled.stored())?),
             Err(fault) => Err(refusal(fault.number())),
         }

@@ -89,11 +89,8 @@ fn stored(
     Ok(Arc::new(alloc, unit)?)
 }
 
-/// Links the pieces of a unit in a mode, lent in any order: its source is the unit's text, on every input the run of its image follows what
-/// the program shows in the mode, so that it agrees with the text, and its certificate has the LTL of each function.
-///
-/// Refusals: those of `link_lent`, and 28 also for a piece in another mode.
-pub fn link_in(
+// The unit that the pieces of a unit in a mode make, lent in any order.
+fn made_in(
     alloc: Global,
     mode: Mode,
     unit: &Arc<TypedUnit>,
@@ -130,7 +127,28 @@ pub fn link_in(
     Ok(made?)
 }
 
-/// Links the pieces of a unit, lent in any order: its source is the unit's text, its image agrees with it, and its certificate has the LTL
+/// Links the pieces of a unit in a mode, lent in any order: its source is the unit's text, on every input the run of its image follows what
+/// the program shows in the mode, so that it agrees with the text, and its certificate has the LTL of each function.
+///
+/// Refusals: those of `link_lent`, and 28 also for a piece in another mode.
+pub fn link_in(
+    alloc: Global,
+    mode: Mode,
+    unit: &Arc<TypedUnit>,
+    pieces: &[&Piece],
+) -> Result<CompiledUnit, LinkFault>
+    ensures answer { IfOk result (λ unit'. linked_in mode (source (arc_value unit.now)) (lent_pieces pieces.now) ≡ Ok unit') }
+    ensures follows { IfOk result (λ unit'. AgreeIn mode unit'.source unit'.image) }
+    ensures made { IfOk result (IsMadeIn mode) }
+    ensures refused { IfErr result (λ fault. (fault ≡ OutOfMemory) ⊎ (linked_in mode (source (arc_value unit.now)) (lent_pieces pieces.now) ≡ Err fault)) }
+{
+    match made_in(alloc, mode, unit, pieces) {
+        Ok(made) => Ok(CompiledUnit::new(made)),
+        Err(fault) => Err(fault),
+    }
+}
+
+/// Links plain pieces of a unit, lent in any order: its source is the unit's text, its image agrees with it, and its certificate has the LTL
 /// of each function.
 ///
 /// Refusals, in this order: 28 for the first piece whose unit has another text; 27 for the first piece whose function came before; 26
@@ -143,13 +161,10 @@ pub fn link_lent(
     ensures answer { IfOk result (λ unit'. linked (source (arc_value unit.now)) (lent_pieces pieces.now) ≡ Ok unit') }
     ensures refused { IfErr result (λ fault. (fault ≡ OutOfMemory) ⊎ (linked (source (arc_value unit.now)) (lent_pieces pieces.now) ≡ Err fault)) }
 {
-    match link_in(alloc, Mode::Plain, unit, pieces) {
-        Ok(made) => Ok(CompiledUnit::new(made)),
-        Err(fault) => Err(fault),
-    }
+    link_in(alloc, Mode::Plain, unit, pieces)
 }
 
-/// Links the pieces of a unit, given up in any order. It answers what `link_lent` does.
+/// Links plain pieces of a unit, given up in any order. It answers what `link_lent` does.
 pub fn link(
     alloc: Global,
     unit: &Arc<TypedUnit>,
@@ -158,11 +173,26 @@ pub fn link(
     ensures answer { IfOk result (λ unit'. linked (source (arc_value unit.now)) pieces.items ≡ Ok unit') }
     ensures refused { IfErr result (λ fault. (fault ≡ OutOfMemory) ⊎ (linked (source (arc_value unit.now)) pieces.items ≡ Err fault)) }
 {
+    link_pieces_in(alloc, Mode::Plain, unit, pieces)
+}
+
+/// Links the pieces of a unit in a mode, given up in any order. It answers what `link_in` does.
+pub fn link_pieces_in(
+    alloc: Global,
+    mode: Mode,
+    unit: &Arc<TypedUnit>,
+    pieces: Vec<Piece>,
+) -> Result<CompiledUnit, LinkFault>
+    ensures answer { IfOk result (λ unit'. linked_in mode (source (arc_value unit.now)) pieces.items ≡ Ok unit') }
+    ensures follows { IfOk result (λ unit'. AgreeIn mode unit'.source unit'.image) }
+    ensures made { IfOk result (IsMadeIn mode) }
+    ensures refused { IfErr result (λ fault. (fault ≡ OutOfMemory) ⊎ (linked_in mode (source (arc_value unit.now)) pieces.items ≡ Err fault)) }
+{
     let lent = match lent(alloc, pieces.as_slice()) {
         Ok(lent) => lent,
         Err(_) => return Err(LinkFault::OutOfMemory),
     };
-    link_lent(alloc, unit, lent.as_slice())
+    link_in(alloc, mode, unit, lent.as_slice())
 }
 
 // References to pieces, in their order.

@@ -25,7 +25,7 @@ has_piece text from g [] own all low high = absurd (omega arith)
 has_piece text from g (p ∷ ps) own all low high =
     elim (cases_lt from g) [
       | inl lt ↦ has_piece text (suc from) g ps own.2 (All-tail IsCompiled p ps all) lt (omega (arith, high))
-      | inr le ↦ record { piece = p; compiled = All-head IsCompiled p ps all; text_is = own.0.1; function_is = own.1 ∙ omega (arith, low, le) }
+      | inr le ↦ record { piece = p; compiled = All-head IsCompiled p ps all; mode_is = own.0.0; text_is = own.0.1; function_is = own.1 ∙ omega (arith, low, le) }
     ]
 
 -- the reason of the function behind them is that of the first function that has none

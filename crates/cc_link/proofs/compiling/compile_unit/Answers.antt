@@ -8,6 +8,7 @@ use Rattle.cc_link.proofs.compiling.compile_unit.Goals as goal
 
 pub returns-in-Err-link-clause-refused : goal.returns-in-Err-link-clause-refused
 returns-in-Err-link-clause-refused c =
+    let mode = c.args.mode in
     let s = source (arc_value c.args.unit.now) in
     let ps = c.in-Ok.pieces.items in
     let own = c.in-Ok.ensures.own in
@@ -15,7 +16,7 @@ returns-in-Err-link-clause-refused c =
     elim c.in-Err-link.ensures.refused [
       | inl e ↦ inl e
       | inr e ↦ inr (
-        only_large s ps c.in-Err-link.fault own count e,
+        only_large mode s ps c.in-Err-link.fault own count e,
         record {
           tree = s.externals;
           is = c.requires;
@@ -23,7 +24,7 @@ returns-in-Err-link-clause-refused c =
           compiled = c.in-Ok.ensures.compiled;
           own = own;
           count = count;
-          refused = e ∙ ap (λ (f : LinkFault). Err f) (only_large s ps c.in-Err-link.fault own count e);
+          refused = e ∙ ap (λ (f : LinkFault). Err f) (only_large mode s ps c.in-Err-link.fault own count e);
         },
       )
     ]

@@ -17,7 +17,7 @@ use Rattle.cc_service.proofs.compiling.linked.Goals as goal
 one_of_two : (s : Source) (ps : List Piece) (f : LinkFault) → AreFrom s.text 0 ps → length ps ≡ length (functions s.externals) → (f ≡ OutOfMemory) ⊎ (linked s ps ≡ Err f)
     → (f ≡ OutOfMemory) ⊎ (f ≡ ImageTooLarge)
 one_of_two s ps f own count (inl e) = inl e
-one_of_two s ps f own count (inr e) = inr (only_large s ps f own count e)
+one_of_two s ps f own count (inr e) = inr (only_large _ s ps f own count e)
 
 pub unreachable-requires : goal.unreachable-requires
 unreachable-requires c =

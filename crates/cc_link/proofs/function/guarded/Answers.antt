@@ -1,0 +1,13 @@
+use Rattle.std.proofs.Common.{◌<◌, ap, subst, sym, ◌∙◌}
+use Rattle.cc_c_laws.specs.Numbered.{objects_in}
+use Rattle.cc_cminor.specs.Cminor.{Statement}
+use Rattle.cc_cminor.specs.Pair.{tree_of, code_of}
+use Rattle.cc_cminor.specs.Variables.{above_statement}
+use Rattle.cc_rtl.specs.Size.{function_nodes}
+use Rattle.cc_link.proofs.Guarding.{nodes_long, variables_long}
+use Rattle.cc_link.proofs.function.guarded.Goals as goal
+
+pub returns-in-Err-FunctionTooLarge-clause-large : goal.returns-in-Err-FunctionTooLarge-clause-large
+returns-in-Err-FunctionTooLarge-clause-large c = λ _.
+    let p = c.args.pair in
+    variables_long (tree_of p) p.function (code_of p) (objects_in (tree_of p)) c.requires.operations c.guards_set_few.ensures c.requires.lowered (c.in-Err-FunctionTooLarge.ensures.large refl)
