@@ -17,8 +17,8 @@ use std::sync::Arc;
 /// The build that compiles: a piece is the code of one function, and pieces are linked.
 ///
 /// A source is refused with the number of its fault, 1 to 7 or 11 to 21, as `typed_unit` answers. Pieces are refused as linking
-/// refuses them: with 28 where one is of another source, with 27 where one comes twice, with 26 where one is missing, with 25 where the
-/// image would be too large.
+/// refuses them in the first one's mode: with 28 where one is of another source or mode, with 27 where one comes twice, with 26 where one is
+/// missing, with 25 where the image would be too large.
 #[derive(Drop)]
 pub struct CcBuild {}
 

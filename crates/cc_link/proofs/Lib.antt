@@ -6,10 +6,7 @@ pub mod Laying
 pub mod CallsMeet
 pub mod Placing
 pub mod Image
-pub mod GuardedNodes
-pub mod Guarding
 pub mod Enough
-pub mod Needs
 pub mod Sizes
 pub mod Agreeing
 pub mod Linked

@@ -3,13 +3,12 @@ use Rattle.std.specs.Prelude.{◌≡◌, ℕ, ◌<◌, ◌⊎◌, List, length, 
 use Rattle.cc_tokens.specs.declared.place.Place.{Place}
 use Rattle.cc_ast.specs.Tree.{Name, External}
 use Rattle.cc_ast.specs.Source.{source}
-use Rattle.cc_ast.specs.Grammar.{Measured, SpellsExternal}
 use Rattle.cc_types.specs.Limits.{function_names}
-use Rattle.cc_types.specs.Typed.{definitions}
 use Rattle.cc_types.specs.Verdict.{source_with}
 use Rattle.cc_c_laws.specs.Meaning.{functions}
 use Rattle.cc_c_laws.specs.declared.mode.Mode.{Mode}
-use Rattle.cc_c_laws.specs.declared.mode.Mode.TheVariants.{Plain, Checked}
+use Rattle.cc_c_laws.specs.declared.mode.Mode.TheVariants.{Plain}
+use Rattle.cc_mode.specs.Long.{IsLongIn}
 use Rattle.cc_emit.specs.Piece as emit
 use Rattle.cc_link.specs.Fault.{link_fault_number}
 use Rattle.cc_link.specs.Linked.{linked_in}
@@ -45,15 +44,6 @@ build_fault_place (Link f) = None
 abbrev pub IsNameAt : List External → (function at count : ℕ) → Type 0
 IsNameAt unit f at count = (name : Name) × (slice_get (function_names unit) f ≡ Some name) × (at ≡ name.at) × (count ≡ length name.text)
 
--- a definition of at most so many tokens is never too large: guards take nodes and variables
-abbrev pub surely_small : Mode → ℕ
-surely_small Plain = 256
-surely_small Checked = 177
-
--- its definition has more tokens
-abbrev pub IsLongIn : Mode → List External → (function : ℕ) → Type 0
-IsLongIn mode unit f = (definition : External) → slice_get (definitions unit) f ≡ Some definition → (tokens : List Measured) → SpellsExternal tokens definition → surely_small mode < length tokens
-
 abbrev pub IsPieceRefusalIn : Mode → List External → (function : ℕ) → PieceFault → Type 0
 IsPieceRefusalIn mode unit f (piece.FunctionTooLarge at count) = IsNameAt unit f at count × IsLongIn mode unit f
 IsPieceRefusalIn mode unit f (piece.Unvalidated at count label) = IsNameAt unit f at count
@@ -72,9 +62,6 @@ pub record IsBlamedIn (mode : Mode) (text : List ℕ) (function : ℕ) (fault : 
   pub defined : function < length (functions tree)
   pub refused : IsPieceRefusalIn mode tree function fault
 
-abbrev pub IsBlamed : (text : List ℕ) (function : ℕ) → PieceFault → Type 0
-IsBlamed text function fault = IsBlamedIn Plain text function fault
-
 -- this function of the text has a piece in the mode, with what its type and that of its unit keep
 pub record HasPieceIn (mode : Mode) (text : List ℕ) (function : ℕ) : Type 0 where
   pub piece : emit.Piece
@@ -82,9 +69,6 @@ pub record HasPieceIn (mode : Mode) (text : List ℕ) (function : ℕ) : Type 0 
   pub mode_is : piece.mode ≡ mode
   pub text_is : (source piece.unit).text ≡ text
   pub function_is : piece.function ≡ function
-
-abbrev pub HasPiece : (text : List ℕ) (function : ℕ) → Type 0
-HasPiece text function = HasPieceIn Plain text function
 
 -- the text is a program's; the fault names one of its functions, and each function before it, in the order of their definitions, has a piece
 pub record IsFirstWithoutIn (mode : Mode) (text : List ℕ) (fault : PieceFault) : Type 0 where
@@ -101,9 +85,6 @@ pub record IsTooLargeIn (mode : Mode) (text : List ℕ) : Type 0 where
   pub own : AreFromIn mode text 0 pieces
   pub count : length pieces ≡ length (functions tree)
   pub refused : linked_in mode (source_with text tree) pieces ≡ Err link.ImageTooLarge
-
-abbrev pub IsTooLarge : (text : List ℕ) → Type 0
-IsTooLarge text = IsTooLargeIn Plain text
 
 -- A text that is no program's is refused as one. Only a program has another fault: that of the first function without a piece; or, of
 -- linking's refusals, 25 alone, where pieces of all functions are refused so.

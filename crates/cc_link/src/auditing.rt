@@ -11,15 +11,16 @@ ghost use Rattle.std.specs.Option.{option_map};
 ghost use Rattle.cc_ast.specs.Source.{source};
 ghost use Rattle.cc_types.specs.Typed.{defined_names};
 ghost use Rattle.cc_link.specs.Audit.{AuditSays, AuditSaysIn};
-ghost use Rattle.cc_link.specs.Made.{IsMadeIn};
+ghost use Rattle.cc_link.specs.Text.{IsProgramText};
+ghost use Rattle.cc_link.specs.Whole.{IsWholeIn};
 
 use crate::audit_answer::Audit;
 use crate::certificate::{first_ltl, number_at};
-use crate::compiled::CompiledUnit;
+use crate::compiled::Compilation;
 use crate::fault::LinkFault;
 use crate::function::{emitted, prepared};
 use crate::laws::linked_units_follow;
-use crate::linking::link_pieces_in;
+use crate::linking::link_all_in;
 use crate::text::typed_unit;
 use cc_c_laws::Mode;
 use cc_emit::Piece;
@@ -61,14 +62,32 @@ pub fn audit_in(
     let Some(certificate) = certificate else {
         return Ok(Audit::NoCertificate);
     };
-    let Some(made) = made_again(alloc, mode, source, certificate)? else {
+    linked_units_follow();
+    let Some(_made) = compile_along_in(alloc, mode, source, certificate, image)? else {
         return Ok(Audit::Unconfirmed);
     };
-    linked_units_follow();
-    if is_of(made.stored(), source, certificate, image) {
-        Ok(Audit::Confirmed)
+    Ok(Audit::Confirmed)
+}
+
+/// What a text compiles to in a mode along a certificate, with the pieces, if that is the unit of these three parts: just where `audit_in`
+/// confirms it. It fails only where memory ran out.
+pub fn compile_along_in(
+    alloc: Global,
+    mode: Mode,
+    source: &[u8],
+    certificate: &[u8],
+    image: &Image,
+) -> Result<Option<Compilation>, AllocError>
+    ensures whole { IfOk result (λ made. IfSome made (IsWholeIn mode source.now)) }
+    ensures answer { IfOk result (λ made. IfSome made (λ it. it.unit ≡ record { source = source.now; image = image.now; certificate = Some certificate.now })) }
+{
+    let Some(made) = made_again(alloc, mode, source, certificate)? else {
+        return Ok(None);
+    };
+    if is_of(made.unit.stored(), source, certificate, image) {
+        Ok(Some(made))
     } else {
-        Ok(Audit::Unconfirmed)
+        Ok(None)
     }
 }
 
@@ -85,37 +104,42 @@ fn is_of(unit: &StoredUnit, source: &[u8], certificate: &[u8], image: &Image) ->
         && kept.bytes() == certificate
 }
 
-// The unit that is made of a text along a certificate; none where the text is no program's, or the certificate has no LTL for a function
-// of it that the validator accepts.
+// What is made of a text along a certificate; nothing where the text is no program's, or the certificate has no LTL for a function of it
+// that the validator accepts.
 fn made_again(
     alloc: Global,
     mode: Mode,
     source: &[u8],
     certificate: &[u8],
-) -> Result<Option<CompiledUnit>, AllocError>
-    ensures { IfOk result (λ made. IfSome made (IsMadeIn mode)) }
+) -> Result<Option<Compilation>, AllocError>
+    ensures { IfOk result (λ made. IfSome made (IsWholeIn mode source.now)) }
 {
     match typed_unit(alloc, source) {
-        Ok(unit) => linked(alloc, mode, &unit, certificate),
+        Ok(typed) => linked(alloc, mode, typed, certificate),
         Err(fault) if fault.number() == 40 => Err(AllocError),
         Err(_) => Ok(None),
     }
 }
 
-// The unit that the pieces along a certificate link to.
+// What the pieces along a certificate link to.
 fn linked(
     alloc: Global,
     mode: Mode,
-    unit: &Arc<TypedUnit>,
+    typed: Arc<TypedUnit>,
     certificate: &[u8],
-) -> Result<Option<CompiledUnit>, AllocError>
-    ensures { IfOk result (λ made. IfSome made (IsMadeIn mode)) }
+) -> Result<Option<Compilation>, AllocError>
+    requires { IsProgramText (source (arc_value typed)).text (source (arc_value typed)).externals }
+    ensures { IfOk result (λ made. IfSome made (IsWholeIn mode (source (arc_value typed)).text)) }
 {
-    let Some(pieces) = pieces(alloc, mode, unit, certificate)? else {
+    let Some(pieces) = pieces(alloc, mode, &typed, certificate)? else {
         return Ok(None);
     };
-    match link_pieces_in(alloc, mode, unit, pieces) {
-        Ok(made) => Ok(Some(made)),
+    match link_all_in(alloc, mode, &typed, pieces.as_slice()) {
+        Ok(unit) => Ok(Some(Compilation {
+            typed,
+            pieces,
+            unit,
+        })),
         Err(LinkFault::OutOfMemory) => Err(AllocError),
         Err(_) => Ok(None),
     }

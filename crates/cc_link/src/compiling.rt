@@ -11,11 +11,13 @@ ghost use Rattle.cc_link.specs.Compile.{IsPieceRefusalIn, IsBuildRefusal, IsBuil
 ghost use Rattle.cc_link.specs.Made.{IsCompiled, IsMadeIn};
 ghost use Rattle.cc_link.specs.Pieces.{AreFromIn};
 ghost use Rattle.cc_link.specs.Text.{IsProgramText};
+ghost use Rattle.cc_link.specs.Whole.{IsWholeIn};
 
 use crate::build_fault::BuildFault;
-use crate::compiled::CompiledUnit;
+use crate::compiled::{Compilation, CompiledUnit};
 use crate::function::compile_function_in;
-use crate::linking::link_pieces_in;
+use crate::laws::linked_units_follow;
+use crate::linking::link_all_in;
 use crate::piece_fault::PieceFault;
 use crate::text::typed_unit;
 use cc_c_laws::Mode;
@@ -24,12 +26,15 @@ use cc_types::TypedUnit;
 use std::alloc::Global;
 use std::sync::Arc;
 
-// The pieces of a unit's functions in a mode, in their order.
-fn pieces(alloc: Global, mode: Mode, unit: &Arc<TypedUnit>) -> Result<Vec<Piece>, PieceFault>
+/// The pieces of a unit's functions in a mode, in their order: `compile_function_in` of each. The fault is that of the first one that has none.
+pub fn compile_functions_in(
+    alloc: Global,
+    mode: Mode,
+    unit: &Arc<TypedUnit>,
+) -> Result<Vec<Piece>, PieceFault>
     ensures count { IfOk result (λ pieces. length pieces.items ≡ length (functions (source (arc_value unit.now)).externals)) }
     ensures own { IfOk result (λ pieces. AreFromIn mode (source (arc_value unit.now)).text 0 pieces.items) }
     ensures compiled { IfOk result (λ pieces. All IsCompiled pieces.items) }
-    // The fault is that of the first function without a piece.
     ensures refused { IfErr result (λ fault. (f : ℕ) × (f < length (functions (source (arc_value unit.now)).externals)) × IsPieceRefusalIn mode (source (arc_value unit.now)).externals f fault
         × ((g : ℕ) → g < f → HasPieceIn mode (source (arc_value unit.now)).text g)) }
 {
@@ -49,25 +54,34 @@ fn pieces(alloc: Global, mode: Mode, unit: &Arc<TypedUnit>) -> Result<Vec<Piece>
     Ok(pieces)
 }
 
-// A program compiled in a mode.
-fn compile_unit(
-    alloc: Global,
-    mode: Mode,
-    unit: &Arc<TypedUnit>,
-) -> Result<CompiledUnit, BuildFault>
-    requires { IsProgramText (source (arc_value unit.now)).text (source (arc_value unit.now)).externals }
-    ensures source { IfOk result (λ made. made.source ≡ (source (arc_value unit.now)).text) }
-    ensures follows { IfOk result (λ made. AgreeIn mode made.source made.image) }
-    ensures made { IfOk result (IsMadeIn mode) }
-    ensures refused { IfErr result (λ fault. IsBuildRefusalIn mode (source (arc_value unit.now)).text fault) }
+// A program compiled in a mode, whose tree this is.
+fn compile_unit(alloc: Global, mode: Mode, typed: Arc<TypedUnit>) -> Result<Compilation, BuildFault>
+    requires { IsProgramText (source (arc_value typed)).text (source (arc_value typed)).externals }
+    ensures whole { IfOk result (IsWholeIn mode (source (arc_value typed)).text) }
+    ensures refused { IfErr result (λ fault. IsBuildRefusalIn mode (source (arc_value typed)).text fault) }
 {
-    let pieces = match pieces(alloc, mode, unit) {
+    let pieces = match compile_functions_in(alloc, mode, &typed) {
         Ok(pieces) => pieces,
         Err(fault) => return Err(BuildFault::Piece(fault)),
     };
-    match link_pieces_in(alloc, mode, unit, pieces) {
-        Ok(made) => Ok(made),
+    match link_all_in(alloc, mode, &typed, pieces.as_slice()) {
+        Ok(unit) => Ok(Compilation {
+            typed,
+            pieces,
+            unit,
+        }),
         Err(fault) => Err(BuildFault::Link(fault)),
+    }
+}
+
+/// Compiles a text in a mode, and hands out with the unit what it was made of. It answers what `compile_in` does.
+pub fn compile_whole_in(alloc: Global, mode: Mode, text: &[u8]) -> Result<Compilation, BuildFault>
+    ensures whole { IfOk result (IsWholeIn mode text.now) }
+    ensures refused { IfErr result (λ fault. IsBuildRefusalIn mode text.now fault) }
+{
+    match typed_unit(alloc, text) {
+        Ok(typed) => compile_unit(alloc, mode, typed),
+        Err(fault) => Err(BuildFault::Text(fault)),
     }
 }
 
@@ -84,9 +98,10 @@ pub fn compile_in(alloc: Global, mode: Mode, text: &[u8]) -> Result<CompiledUnit
     ensures program { IfOk result (λ _. (tree : List External) × IsProgramText text.now tree) }
     ensures refused { IfErr result (λ fault. IsBuildRefusalIn mode text.now fault) }
 {
-    match typed_unit(alloc, text) {
-        Ok(unit) => compile_unit(alloc, mode, &unit),
-        Err(fault) => Err(BuildFault::Text(fault)),
+    linked_units_follow();
+    match compile_whole_in(alloc, mode, text) {
+        Ok(made) => Ok(made.into_unit()),
+        Err(fault) => Err(fault),
     }
 }
 

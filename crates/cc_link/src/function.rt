@@ -4,25 +4,20 @@ ghost use Rattle.std.specs.Prelude.{◌≡◌, ◌<◌, length, IfOk, IfErr};
 ghost use Rattle.std.specs.Arc.{arc_value};
 ghost use Rattle.cc_ast.specs.Source.{source};
 ghost use Rattle.cc_types.specs.Typed.{defined_names};
-ghost use Rattle.cc_cminor.specs.Exits.{ExitsFit};
-ghost use Rattle.cc_cminor.specs.Numbers.{most_lowered, StatementBelow};
-ghost use Rattle.cc_cminor.specs.Pair.{tree_of, code_of, FailsAlike};
-ghost use Rattle.cc_cminor.specs.Size.{AtMostTwelveAToken, AtMostOnePartialAToken};
-ghost use Rattle.cc_c_laws.specs.declared.mode.Mode.TheVariants.{Plain, Checked};
-ghost use Rattle.cc_rtl.specs.declared.fault.RtlFault.TheVariants.{FunctionTooLarge};
-ghost use Rattle.cc_link.specs.Compile.{IsLongIn, IsNameAt, IsPieceRefusal, IsPieceRefusalIn};
-ghost use Rattle.cc_link.specs.internal.Large.{LargeIsLong};
+ghost use Rattle.cc_c_laws.specs.declared.mode.Mode.TheVariants.{Plain};
+ghost use Rattle.cc_mode.specs.Long.{IsLongIn};
+ghost use Rattle.cc_rtl.specs.declared.fault.RtlFault.TheVariants.{FunctionTooLarge, OutOfMemory};
+ghost use Rattle.cc_link.specs.Compile.{IsNameAt, IsPieceRefusal, IsPieceRefusalIn};
 
 use crate::piece_fault::PieceFault;
 use cc_c_laws::Mode;
-use cc_cminor::{CminorPair, to_cminor};
 use cc_colour::{colour, spill_all};
 use cc_emit::{Piece, emit};
-use cc_guard::{GuardFault, guard, guards_set_few};
 use cc_linear::linearise;
 use cc_live::{Liveness, drop_faint};
 use cc_ltl::Ltl;
-use cc_rtl::{Rtl, RtlFault, RtlPair, to_rtl};
+use cc_mode::rtl_in;
+use cc_rtl::{Rtl, RtlFault, RtlPair};
 use cc_types::TypedUnit;
 use cc_validate::{LtlPair, Refused, ValidateFault, validate};
 use std::alloc::{AllocError, Global};
@@ -76,69 +71,20 @@ fn with_live_sets(
     ensures function { IfOk result (λ made. made.rtl.function ≡ function) }
     ensures large { IfErr result (λ fault. fault ≡ FunctionTooLarge → IsLongIn mode (source (arc_value unit.now)).externals function) }
 {
-    match cminor_in(alloc, mode, unit, function) {
-        Ok(pair) => pruned(alloc, pair),
+    match rtl_in(alloc, mode, unit, function) {
+        Ok(rtl) => pruned(alloc, rtl),
         Err(fault) => Err(fault),
     }
 }
 
-// The Cminor of a function in a mode.
-fn cminor_in(
-    alloc: Global,
-    mode: Mode,
-    unit: &Arc<TypedUnit>,
-    function: usize,
-) -> Result<CminorPair, RtlFault>
-    requires { function < length (defined_names (source (arc_value unit.now))) }
-    ensures mode { IfOk result (λ pair. pair.mode ≡ mode) }
-    ensures unit { IfOk result (λ pair. pair.unit ≡ arc_value unit.now) }
-    ensures function { IfOk result (λ pair. pair.function ≡ function) }
-    ensures small { IfOk result LargeIsLong }
-    ensures large { IfErr result (λ fault. fault ≡ FunctionTooLarge → IsLongIn mode (source (arc_value unit.now)).externals function) }
-{
-    let pair = match to_cminor(alloc, unit, function) {
-        Ok(pair) => pair,
-        Err(_) => return Err(RtlFault::OutOfMemory),
-    };
-    match mode {
-        Mode::Plain => Ok(pair),
-        Mode::Checked => guarded(alloc, pair),
-    }
-}
-
-// The same code with guards.
-fn guarded(alloc: Global, pair: CminorPair) -> Result<CminorPair, RtlFault>
-    requires exits { ExitsFit 0 (code_of pair) }
-    requires fails_alike { FailsAlike (tree_of pair) pair.function (code_of pair) }
-    requires small { AtMostTwelveAToken (tree_of pair) pair.function (code_of pair) }
-    requires operations { AtMostOnePartialAToken (tree_of pair) pair.function (code_of pair) }
-    requires lowered { StatementBelow most_lowered (code_of pair) }
-    ensures mode { IfOk result (λ made. made.mode ≡ Checked) }
-    ensures unit { IfOk result (λ made. made.unit ≡ pair.unit) }
-    ensures function { IfOk result (λ made. made.function ≡ pair.function) }
-    ensures small { IfOk result LargeIsLong }
-    ensures large { IfErr result (λ fault. fault ≡ FunctionTooLarge → IsLongIn Checked (source pair.unit).externals pair.function) }
-{
-    guards_set_few();
-    match guard(alloc, pair) {
-        Ok(made) => Ok(made),
-        Err(GuardFault::FunctionTooLarge) => Err(RtlFault::FunctionTooLarge),
-        Err(GuardFault::OutOfMemory) => Err(RtlFault::OutOfMemory),
-    }
-}
-
-// The RTL of a function in Cminor.
-fn pruned(alloc: Global, pair: CminorPair) -> Result<Colourable, RtlFault>
-    requires { LargeIsLong pair }
+// The same of a function in RTL. It fails only where memory runs out.
+fn pruned(alloc: Global, pair: RtlPair) -> Result<Colourable, RtlFault>
     ensures mode { IfOk result (λ made. made.rtl.mode ≡ pair.mode) }
     ensures unit { IfOk result (λ made. made.rtl.unit ≡ pair.unit) }
     ensures function { IfOk result (λ made. made.rtl.function ≡ pair.function) }
-    ensures large { IfErr result (λ fault. fault ≡ FunctionTooLarge → IsLongIn pair.mode (source pair.unit).externals pair.function) }
+    ensures memory { IfErr result (λ fault. fault ≡ OutOfMemory) }
 {
-    let mut rtl = match to_rtl(alloc, pair) {
-        Ok(rtl) => rtl,
-        Err(fault) => return Err(fault),
-    };
+    let mut rtl = pair;
     match drop_faint(alloc, &mut rtl) {
         Ok(live) => Ok(Colourable { rtl, live }),
         Err(_) => Err(RtlFault::OutOfMemory),
@@ -225,13 +171,13 @@ fn finished(
     }
 }
 
-/// The piece of the function with a number in a mode, through Cminor, RTL, validated LTL and Linear to its code; checked Cminor has guards.
-/// Functions are numbered from 0 in the order of their definitions. That the code does what the function does in the mode belongs to the
-/// piece's type.
+/// The piece of the function with a number in a mode, through Cminor, which has guards if it is checked, RTL, validated LTL and Linear to its
+/// code. Functions are numbered from 0 in the order of their definitions. That the code does what the function does in the mode belongs to
+/// the piece's type.
 ///
 /// Refusals, the first two with the bytes of the function's name: 22 where it would have more than 4,096 nodes of RTL or its guards would
-/// set too many variables, which needs more than 256 tokens, or 177 for a checked piece; 24 where the validator refuses the allocation; 40
-/// where memory ran out.
+/// set more than 2,048 variables, which needs more than 256 tokens, or 177 for a checked piece; 24 where the validator refuses the
+/// allocation; 40 where memory ran out.
 pub fn compile_function_in(
     alloc: Global,
     mode: Mode,

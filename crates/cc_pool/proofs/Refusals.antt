@@ -6,8 +6,9 @@ use Rattle.cc_ast.specs.Parse.{SpellsText}
 use Rattle.cc_types.specs.Scope.{FileScope, first_file_scope, file_scope_behind}
 use Rattle.cc_types.specs.Limits.{function_names}
 use Rattle.cc_types.specs.Typed.{IsTyped, IsWithinLimits, defined_names}
+use Rattle.cc_c_laws.specs.declared.mode.Mode.TheVariants.{Plain}
 use Rattle.cc_link.specs.Meaning.{functions, functions_from}
-use Rattle.cc_link.specs.Compile.{IsBlamed, IsPieceRefusal}
+use Rattle.cc_link.specs.Compile.{IsBlamedIn, IsPieceRefusal}
 use Rattle.cc_link.specs.declared.piece_fault.PieceFault.{PieceFault}
 
 -- ---- the functions of a source
@@ -22,7 +23,7 @@ defined_long : (s : Source) → length (defined_names s) ≡ length (functions s
 defined_long s = names_long s.externals first_file_scope
 
 pub blames : (s : Source) (function : ℕ) (fault : PieceFault) → ∥ SpellsText s.text s.externals ∥₁ → IsTyped s.externals → IsWithinLimits s.externals → function < length (defined_names s)
-    → IsPieceRefusal s.externals function fault → ∥ IsBlamed s.text function fault ∥₁
+    → IsPieceRefusal s.externals function fault → ∥ IsBlamedIn Plain s.text function fault ∥₁
 blames s function fault spelled typed limits within refused =
     ∥∥₁_map spelled (λ (h : SpellsText s.text s.externals). record {
       tree = s.externals;

@@ -4,8 +4,9 @@
 // function's number: what another text's answer may be stays out.
 
 ghost use Rattle.std.specs.Prelude.{◌≡◌, ◌<◌, length, All, HoldsAt, IfOk, IfErr, IfSome};
+ghost use Rattle.cc_c_laws.specs.declared.mode.Mode.TheVariants.{Plain};
 ghost use Rattle.cc_link.specs.Made.{IsCompiled};
-ghost use Rattle.cc_link.specs.Pieces.{AreFrom};
+ghost use Rattle.cc_link.specs.Pieces.{AreFromIn};
 ghost use Rattle.cc_pool.specs.Fault.{IsJobRefusal};
 ghost use Rattle.cc_pool.specs.internal.Reason.{IsOf, IsReason};
 
@@ -91,7 +92,7 @@ pub(crate) fn in_order(
     came: Came,
 ) -> Result<Vec<Piece>, PoolFault>
     ensures count { IfOk result (λ pieces. length pieces.items ≡ functions) }
-    ensures own { IfOk result (λ pieces. AreFrom text.now 0 pieces.items) }
+    ensures own { IfOk result (λ pieces. AreFromIn Plain text.now 0 pieces.items) }
     ensures compiled { IfOk result (λ pieces. All IsCompiled pieces.items) }
     ensures refused { IfErr result (λ fault. IsJobRefusal text.now fault) }
 {

@@ -4,8 +4,9 @@ ghost use Rattle.std.specs.Prelude.{◌≡◌, ◌≤◌, ◌++◌, [], length, 
 ghost use Rattle.std.specs.Arc.{arc_value};
 ghost use Rattle.cc_ast.specs.Source.{source};
 ghost use Rattle.cc_types.specs.Typed.{defined_names};
+ghost use Rattle.cc_c_laws.specs.declared.mode.Mode.TheVariants.{Plain};
 ghost use Rattle.cc_link.specs.Made.{IsCompiled};
-ghost use Rattle.cc_link.specs.Pieces.{AreFrom};
+ghost use Rattle.cc_link.specs.Pieces.{AreFromIn};
 ghost use Rattle.cc_pool.specs.Fault.{IsJobRefusal};
 ghost use Rattle.cc_pool.specs.Shared.{pieces_of, HasSentSome, IsDrained};
 
@@ -180,7 +181,7 @@ impl<N: Queued + Send + Sync + 'static> Pool<N> {
         ticket: Ticket,
     ) -> Result<Vec<Piece>, PoolFault>
         ensures count { IfOk result (λ pieces. length pieces.items ≡ ticket.functions) }
-        ensures own { IfOk result (λ pieces. AreFrom ticket.text 0 pieces.items) }
+        ensures own { IfOk result (λ pieces. AreFromIn Plain ticket.text 0 pieces.items) }
         ensures compiled { IfOk result (λ pieces. All IsCompiled pieces.items) }
         ensures refused { IfErr result (λ fault. IsJobRefusal ticket.text fault) }
     {

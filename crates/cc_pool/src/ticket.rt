@@ -4,8 +4,9 @@ ghost use Rattle.std.specs.Prelude.{◌≡◌, length, All, IfOk, IfErr};
 ghost use Rattle.std.specs.Arc.{arc_value};
 ghost use Rattle.cc_ast.specs.Source.{source};
 ghost use Rattle.cc_types.specs.Typed.{defined_names};
+ghost use Rattle.cc_c_laws.specs.declared.mode.Mode.TheVariants.{Plain};
 ghost use Rattle.cc_link.specs.Made.{IsCompiled};
-ghost use Rattle.cc_link.specs.Pieces.{AreFrom};
+ghost use Rattle.cc_link.specs.Pieces.{AreFromIn};
 ghost use Rattle.cc_pool.specs.Fault.{IsJobRefusal};
 
 use crate::answer::Answer;
@@ -71,7 +72,7 @@ impl Ticket {
     // Waits for all answers, and puts them in order.
     pub(crate) fn collect<R: Wait>(self, rt: &R, alloc: Global) -> Result<Vec<Piece>, PoolFault>
         ensures count { IfOk result (λ pieces. length pieces.items ≡ self.functions) }
-        ensures own { IfOk result (λ pieces. AreFrom self.text 0 pieces.items) }
+        ensures own { IfOk result (λ pieces. AreFromIn Plain self.text 0 pieces.items) }
         ensures compiled { IfOk result (λ pieces. All IsCompiled pieces.items) }
         ensures refused { IfErr result (λ fault. IsJobRefusal self.text fault) }
     {

@@ -11,7 +11,8 @@ use Rattle.cc_link.specs.declared.fault.LinkFault.TheVariants.{OutOfMemory}
 use Rattle.cc_link.specs.Link.{code_words, most_code}
 use Rattle.cc_link.specs.Linked.{stranger, doubled, in_order, all_items, linked_in, lent_pieces}
 use Rattle.cc_link.specs.internal.Filling.{lent}
-use Rattle.cc_link.proofs.Answering.{order_refused, size_refused, count_is, few_is, stay_is, answer_is, agree_is}
+use Rattle.cc_link.specs.Stack.{IsBackedFrom, stack_of}
+use Rattle.cc_link.proofs.Answering.{order_refused, size_refused, count_is, few_is, stay_is, answer_is, agree_is, backed_is}
 use Rattle.cc_link.proofs.linking.made_in.Goals as goal
 
 pub returns-in-Err-clause-refused : goal.returns-in-Err-clause-refused
@@ -136,3 +137,21 @@ returns-clause-answer c =
 -- it follows in the mode, and so agrees
 pub returns-clause-agrees : goal.returns-clause-agrees
 returns-clause-agrees c = c.linked_units_follow.ensures.agree c.args.mode _ _ (returns-clause-follows c)
+
+pub returns-clause-backed : goal.returns-clause-backed
+returns-clause-backed c =
+    let u = c.deref-unit.result.now in
+    let s = source u in
+    let ps = lent_pieces c.args.pieces.now in
+    let a : stranger c.args.mode s.text 0 ps ≡ None = sym (c.in_default.ensures.answer ∙ ap (λ (t : List ℕ). stranger c.args.mode t 0 ps) c.text.ensures.answer) in
+    let b : doubled [] 0 ps ≡ None = sym c.in_default-doubled.ensures in
+    let fs = c.as_slice-3.result.now in
+    let os = c.as_slice-4.result.now in
+    let o : lent_pieces os ≡ in_order ps 0 c.functions.result = ap (λ (l : List (Bor Piece)). lent_pieces l) c.as_slice-4.ensures.value ∙ c.in-Ok.ensures.ordered in
+    let i : lent fs ≡ all_items (lent_pieces os) = ap (λ (l : List (Bor (List PieceItem))). lent l) c.as_slice-3.ensures.value ∙ c.in-Ok-all_items.ensures ∙ ap (λ (l : List (Bor Piece)). all_items (lent_pieces l)) (c.as_slice.ensures.value ∙ sym c.as_slice-4.ensures.value) in
+    let few : code_words (lent fs) ≤ most_code =
+    subst (λ (l : List (Bor (List PieceItem))). code_words (lent l) ≤ most_code) (c.as_slice-2.ensures.value ∙ sym c.as_slice-3.ensures.value) (c.if-not-fits.ensures.0 refl) in
+    let tree = c.externals-kept.ensures in
+    let made = arc_value c.in_ok-made.field-0 in
+    subst (λ (v : parsed.Unit). IsBackedFrom c.args.mode made.source (stack_of (source v).externals ps) made.image) c.deref-unit.ensures
+    (backed_is c.args.mode s ps c.functions.result a b c.functions.ensures os fs c.in-Ok.ensures.none o i c.linked_units_follow.ensures.follow c.linked_units_are_backed.ensures tree.spelled (record { typed = tree.typed; limits = tree.limits }) c.in_default.ensures.kept made few c.in_ok-made.ensures)

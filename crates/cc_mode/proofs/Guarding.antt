@@ -6,13 +6,13 @@ use Rattle.cc_c_laws.specs.declared.mode.Mode.TheVariants.{Checked}
 use Rattle.cc_simulation.specs.World.{Size}
 use Rattle.cc_cminor.specs.Cminor.{Expression, Constant, Local, Unary, Binary, Load, Statement, Skip, Set, Store, Call, Read, Write, Sequence, If, Loop, Block, Exit, Return}
 use Rattle.cc_cminor.specs.Numbers.{ExpressionBelow, ExpressionsBelow, ResultBelow, StatementBelow}
-use Rattle.cc_cminor.specs.Size.{AtMostTwelveAToken, AtMostOnePartialAToken, code_partials}
+use Rattle.cc_cminor.specs.Size.{AtMostTwelveAToken, AtMostOnePartialAToken}
 use Rattle.cc_cminor.specs.Variables.{above, above_result, above_expression, above_expressions, above_statement}
 use Rattle.cc_guard.specs.Guard.{guarded_function, variables_in}
 use Rattle.cc_guard.specs.Laws.{GuardsSetFew}
 use Rattle.cc_rtl.specs.Size.{function_nodes}
-use Rattle.cc_link.specs.Compile.{IsLongIn}
-use Rattle.cc_link.proofs.GuardedNodes.{guarded_nodes}
+use Rattle.cc_mode.specs.Long.{IsLongIn}
+use Rattle.cc_mode.proofs.GuardedNodes.{guarded_nodes}
 
 -- ---- variables below a number are that many
 
