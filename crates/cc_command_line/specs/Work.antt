@@ -16,7 +16,7 @@ IsWait (Some seconds) = (1 ≤ seconds) × (seconds ≤ 86400)
 
 abbrev pub IsAllowed : Work → Type 0
 IsAllowed (One task) = IsWithinLimits task
-IsAllowed (Stages function) = Unit {0}
+IsAllowed (Stages kind function) = Unit {0}
 IsAllowed (TakeOut wanted) = Unit {0}
 IsAllowed (Library asked) = IsArea asked.area × (1 ≤ asked.workers) × (asked.workers ≤ 8)
 IsAllowed (Serve asked) =

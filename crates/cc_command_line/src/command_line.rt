@@ -8,7 +8,7 @@ use crate::library::{Session, library_command, library_of};
 use crate::numbers::number_in;
 use crate::spool::{Server, Submitter, serve_command, serve_of, submit_command, submit_of};
 use crate::unit::{Wanted, image_command, image_of, source_command, source_of};
-use cc_task::{MOST_STEPS, Task};
+use cc_task::{Kind, MOST_STEPS, Task};
 use clap::error::ErrorKind;
 use clap::{Arg, ArgAction, ArgMatches, Command, Error};
 use std::alloc::{AllocError, Global};
@@ -20,6 +20,8 @@ const QUIET: &str = "quiet";
 
 const FUNCTION: &str = "FUNCTION";
 
+const CHECKED: &str = "checked";
+
 const WORD_RULE: &str =
     "WORD is a decimal number from 0 to 4294967295; a negative number is written as its value modulo 4294967296, \
     for example 4294967295 for -1";
@@ -30,6 +32,7 @@ Examples:
   cclib check < examples/quotient.c
   cclib interpret 1000 < examples/quotient.c
   cclib run 10000 2 104 105 < examples/checksum.c
+  cclib run --checked 10000 7 0 < examples/quotient.c
   cclib asm < examples/quotient.c
   cclib stages main < examples/quotient.c
   cclib image < examples/quotient.c > quotient.hex
@@ -58,8 +61,8 @@ Exit status: 0 for an answer, 1 for a fault, 2 for a command line that is refuse
 pub enum Work {
     /// A task for the text on standard input.
     One(Task),
-    /// Show what the compiler makes of each function of the text on standard input, or of the one of that name.
-    Stages(Option<String>),
+    /// Show what the compiler makes of each function of the text on standard input, or of the one of that name, for an image of this kind.
+    Stages(Kind, Option<String>),
     /// Print a part of a unit of a library.
     TakeOut(Wanted),
     /// The script on standard input, over a library.
@@ -95,6 +98,11 @@ const RUN: Runner = Runner {
     example: "The program comes on standard input: cclib run 1000 < examples/quotient.c",
 };
 
+// The command `run`, which takes a checked image too.
+fn run_command<'a>(alloc: Global) -> Result<Command<'a>, AllocError> {
+    runner_command(alloc, &RUN)?.arg(checked_word(alloc))
+}
+
 // A command that runs a program. Its numbers are read below and not by clap, which takes a sign.
 fn runner_command<'a>(alloc: Global, runner: &Runner) -> Result<Command<'a>, AllocError> {
     let steps = Arg::new(alloc, "STEPS")
@@ -112,6 +120,23 @@ fn runner_command<'a>(alloc: Global, runner: &Runner) -> Result<Command<'a>, All
     begun.arg(words)
 }
 
+/// The word that asks for a checked image.
+pub(crate) fn checked_word<'a>(alloc: Global) -> Arg<'a> {
+    Arg::new(alloc, CHECKED)
+        .long(CHECKED)
+        .action(ArgAction::SetTrue)
+        .help("The image stops in place where the program goes wrong by an index, a division or a shift")
+}
+
+/// Whether a checked image is asked for.
+pub(crate) fn kind_of(given: &ArgMatches<'_>) -> Kind {
+    if given.get_flag(CHECKED) {
+        Kind::Checked
+    } else {
+        Kind::Plain
+    }
+}
+
 // A command without words of its own.
 fn plain_command<'a>(alloc: Global, name: &'static str, about: &'static str) -> Command<'a> {
     Command::new(alloc, name)
@@ -126,7 +151,8 @@ fn stages_command<'a>(alloc: Global) -> Result<Command<'a>, AllocError> {
     Command::new(alloc, "stages")
         .about("Show what the compiler makes of each function, stage by stage")
         .after_help("The program comes on standard input: cclib stages main < examples/quotient.c")
-        .arg(function)
+        .arg(function)?
+        .arg(checked_word(alloc))
 }
 
 // The command with one more part.
@@ -160,9 +186,10 @@ fn command<'a>(alloc: Global) -> Result<Command<'a>, AllocError> {
         .arg(quiet)?
         .subcommand(plain_command(alloc, "check", check))?;
     let whole = with_part(whole, runner_command(alloc, &INTERPRET))?;
-    let whole = with_part(whole, runner_command(alloc, &RUN))?;
+    let whole = with_part(whole, run_command(alloc))?;
     let asm = "Compile the program and list its image";
-    let whole = whole.subcommand(plain_command(alloc, "asm", asm))?;
+    let asm = plain_command(alloc, "asm", asm).arg(checked_word(alloc));
+    let whole = with_part(whole, asm)?;
     let whole = with_part(whole, stages_command(alloc))?;
     let whole = with_part(whole, image_command(alloc))?;
     let whole = with_part(whole, source_command(alloc))?;
@@ -238,9 +265,10 @@ fn task_of(alloc: Global, matches: &ArgMatches<'_>) -> Result<Task, Error>
         }
         Some(("run", given)) => {
             let steps = steps_of(alloc, &RUN, given)?;
-            Ok(Task::Run(steps, input_words(alloc, &RUN, given)?))
+            let words = input_words(alloc, &RUN, given)?;
+            Ok(Task::Run(kind_of(given), steps, words))
         }
-        Some(("asm", _)) => Ok(Task::Asm),
+        Some(("asm", given)) => Ok(Task::Asm(kind_of(given))),
         _ => Ok(Task::Check),
     }
 }
@@ -250,8 +278,11 @@ fn stages_of(alloc: Global, given: &ArgMatches<'_>) -> Result<Work, AllocError>
     ensures { IfOk result IsAllowed }
 {
     match given.get_str(FUNCTION) {
-        Some(name) => Ok(Work::Stages(Some(String::from_str(alloc, name)?))),
-        None => Ok(Work::Stages(None)),
+        Some(name) => {
+            let name = String::from_str(alloc, name)?;
+            Ok(Work::Stages(kind_of(given), Some(name)))
+        }
+        None => Ok(Work::Stages(kind_of(given), None)),
     }
 }
 

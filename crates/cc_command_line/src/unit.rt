@@ -3,9 +3,9 @@
 ghost use Rattle.std.specs.Prelude.{IfOk};
 ghost use Rattle.cc_command_line.specs.Work.{IsAllowed};
 
-use crate::command_line::Work;
+use crate::command_line::{Work, checked_word, kind_of};
 use crate::library::{PATH_RULE, path_of};
-use cc_task::{Part, Task};
+use cc_task::{Kind, Part, Task};
 use clap::error::ErrorKind;
 use clap::{Arg, ArgMatches, Command, Error};
 use std::alloc::{AllocError, Global};
@@ -16,6 +16,9 @@ const NAME: &str = "NAME";
 
 const BOTH_RULE: &str =
     "DISK and NAME go together; without both, the program comes on standard input: cclib image < FILE";
+
+const CHECKED_RULE: &str =
+    "--checked is for a program on standard input; the image of a unit is printed as it was stored";
 
 // What a person reads below the words of `image`.
 const IMAGE_HELP: &str = "\
@@ -66,7 +69,8 @@ pub(crate) fn image_command<'a>(alloc: Global) -> Result<Command<'a>, AllocError
         .about(
             "Compile the program and print its image as Intel HEX, or print that of a unit of a library",
         )
-        .after_help(IMAGE_HELP);
+        .after_help(IMAGE_HELP)
+        .arg(checked_word(alloc))?;
     with_unit(alloc, begun, false)
 }
 
@@ -108,8 +112,12 @@ fn wanted_of(
 pub(crate) fn image_of(alloc: Global, given: &ArgMatches<'_>) -> Result<Work, Error>
     ensures { IfOk result IsAllowed }
 {
+    let kind = kind_of(given);
     if given.get_str(DISK).is_none() {
-        return Ok(Work::One(Task::Image));
+        return Ok(Work::One(Task::Image(kind)));
+    }
+    if kind == Kind::Checked {
+        return Err(refused_image(alloc, CHECKED_RULE)?);
     }
     let Some(name) = given.get_str(NAME) else {
         return Err(refused_image(alloc, BOTH_RULE)?);

@@ -1,4 +1,4 @@
--- What `link_lent` answers, from what its steps have said. a, b, m, n, o, i: no stranger, none doubled, none missing, how many functions, their
+-- What `made_in` answers, from what its steps have said. a, b, m, n, o, i: no stranger, none doubled, none missing, how many functions, their
 -- pieces, and their items.
 use Rattle.std.proofs.Common.{◌≡◌, ℕ, ◌<◌, ◌≤◌, ◌^◌, ◌⊎◌, inl, inr, List, [], length, Some, None, Ok, Err, sym, ap, ◌∙◌, subst, arith}
 use Rattle.std.proofs.lemmas.List.{length-map}
@@ -24,6 +24,7 @@ use Rattle.cc_link.specs.Link.{code_words, most_code}
 use Rattle.cc_link.specs.Certificate.{certificate_of}
 use Rattle.cc_link.specs.Linked.{stranger, doubled, missing, in_order, ordered, all_items, all_ltl, bodies, image_of, lent_pieces, linked_in, unit_of}
 use Rattle.cc_link.specs.Laws.{LinkedUnitsFollow}
+use Rattle.cc_link.specs.Stack.{IsBackedFrom, LinkedUnitsAreBacked, stack_of}
 use Rattle.cc_link.specs.internal.Filling.{lent, AllStayIn}
 use Rattle.cc_link.proofs.Few.{few_functions}
 use Rattle.cc_link.proofs.Linked.{order_long, bodies_long}
@@ -80,3 +81,10 @@ module _ (mode : Mode) (s : Source) (ps : List Piece) (count : ℕ) (a : strange
         → u ≡ record { source = s.text; image = image_of s.externals (lent fs); certificate = Some (certificate_of (all_ltl (lent_pieces os))) } → AgreeIn mode u.source u.image
     agree_is law spelled checked all u few e =
         let h = law mode s ps u spelled checked all (answer_is u few e) in subst (λ t. AgreeIn mode t u.image) (sym h.0) h.1
+
+    -- returns-clause-backed
+    pub backed_is : LinkedUnitsFollow → LinkedUnitsAreBacked → ∥ SpellsText s.text s.externals ∥₁ → IsChecked s → All IsPieceOfUnit ps → (u : StoredUnit) → code_words (lent fs) ≤ most_code
+        → u ≡ record { source = s.text; image = image_of s.externals (lent fs); certificate = Some (certificate_of (all_ltl (lent_pieces os))) } → IsBackedFrom mode u.source (stack_of s.externals ps) u.image
+    backed_is follow law spelled checked all u few e =
+        let is = answer_is u few e in
+        let h = follow mode s ps u spelled checked all is in subst (λ t. IsBackedFrom mode t (stack_of s.externals ps) u.image) (sym h.0) (law mode s ps u spelled checked all is)

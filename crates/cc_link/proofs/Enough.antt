@@ -31,6 +31,7 @@ one_less_left : (d : ℕ) → d < 1024 → 1024 - d ≡ suc (1024 - suc d)
 one_less_left d below = omega arith
 
 pub need_enough : (frames : List ℕ) (bodies : List (List PieceItem)) (f : ℕ) → IsEnough (need_opened frames bodies) f (get_or frames f 0) (get_or bodies f [])
+unfolding need
 need_enough frames bodies f = record {
   own = λ d below. (let e : need frames bodies (1024 - d) f ≡ get_or frames f 0 + most_called (need frames bodies (1024 - suc d)) (get_or bodies f []) = ap (λ k. need frames bodies k f) (one_less_left d below) in omega arith);
   calls = λ d below.

@@ -7,7 +7,6 @@ use Rattle.cc_ltl.specs.Bytes.{word_bytes, ltl_bytes}
 use Rattle.cc_ast.specs.Tree.{External}
 use Rattle.cc_linear_language.specs.Pair.{LtlKeepsUp}
 use Rattle.cc_c_laws.specs.declared.mode.Mode.{Mode}
-use Rattle.cc_c_laws.specs.declared.mode.Mode.TheVariants.{Plain}
 
 -- how many bytes the LTL of a function takes, and these
 abbrev pub ltl_field : Ltl → List ℕ
@@ -32,6 +31,3 @@ pub record SpellsAll (bytes : List ℕ) (functions : ℕ) : Type 0 where
 -- the run of each of these functions of LTL keeps up with the function of the unit that has its number
 abbrev pub EachKeepsUpIn : Mode → List External → List Ltl → Type 0
 EachKeepsUpIn mode unit ltls = (f : ℕ) (ltl : Ltl) → slice_get ltls f ≡ Some ltl → LtlKeepsUp mode unit f ltl
-
-abbrev pub EachKeepsUp : List External → List Ltl → Type 0
-EachKeepsUp unit ltls = EachKeepsUpIn Plain unit ltls

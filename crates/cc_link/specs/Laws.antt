@@ -11,7 +11,7 @@ use Rattle.cc_emit.specs.Piece.{Piece, IsPieceOfUnit}
 use Rattle.cc_link.specs.Agree.{Agree, AgreeIn}
 use Rattle.cc_link.specs.Certificate.{SpellsAll, EachKeepsUpIn}
 use Rattle.cc_link.specs.Linked.{linked, linked_in}
-use Rattle.cc_link.specs.Made.{IsMade, IsMadeIn}
+use Rattle.cc_link.specs.Made.{IsMadeIn}
 use Rattle.cc_rv32.specs.declared.image.Image.{Image}
 
 -- the unit that pieces make for a checked unit has its text, and its image agrees with it
@@ -45,4 +45,4 @@ abbrev pub UnitsAreCertifiedIn : Type 0
 UnitsAreCertifiedIn = (mode : Mode) (u : StoredUnit) → IsMadeIn mode u → IsCertifiedIn mode u
 
 abbrev pub MadeUnitsAreCertified : Type 0
-MadeUnitsAreCertified = (u : StoredUnit) → IsMade u → IsCertified u
+MadeUnitsAreCertified = (u : StoredUnit) → IsMadeIn Plain u → IsCertified u

@@ -18,6 +18,8 @@ pub mod Laws
 pub mod Pieces
 -- what a compiled unit was made of
 pub mod Made
+-- what a text was compiled to, with what it was made of
+pub mod Whole
 -- what an audit says
 pub mod Audit
 -- the numbers of the faults

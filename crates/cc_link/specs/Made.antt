@@ -5,7 +5,6 @@ use Rattle.cc_ast.specs.Source.{source}
 use Rattle.cc_ast.specs.Parse.{SpellsText}
 use Rattle.cc_types.specs.Checked.{IsChecked}
 use Rattle.cc_c_laws.specs.declared.mode.Mode.{Mode}
-use Rattle.cc_c_laws.specs.declared.mode.Mode.TheVariants.{Plain}
 use Rattle.cc_unit.specs.declared.unit.StoredUnit.{StoredUnit}
 use Rattle.cc_emit.specs.Piece.{Piece, IsPieceOfUnit}
 use Rattle.cc_link.specs.Linked.{linked_in}
@@ -25,6 +24,6 @@ pub record IsMadeIn (mode : Mode) (unit : StoredUnit) : Type 0 where
   pub compiled : All IsCompiled pieces
   pub linked_is : linked_in mode of pieces ≡ Ok unit
 
--- plain ones
+-- in some mode
 abbrev pub IsMade : StoredUnit → Type 0
-IsMade unit = IsMadeIn Plain unit
+IsMade unit = (mode : Mode) × IsMadeIn mode unit

@@ -30,7 +30,7 @@ most_called n (Call g ∷ items) = larger (n g) (most_called n items)
 most_called n (Go k ∷ items) = most_called n items
 
 -- how many bytes of stack a call of function f takes, if so many calls may be open, that one counted
-abbrev pub need : (frames : List ℕ) (bodies : List (List PieceItem)) → (calls f : ℕ) → ℕ
+unfoldable pub need : (frames : List ℕ) (bodies : List (List PieceItem)) → (calls f : ℕ) → ℕ
 need frames bodies zero f = 0
 need frames bodies (suc calls) f = get_or frames f 0 + most_called (need frames bodies calls) (get_or bodies f [])
 
@@ -53,7 +53,11 @@ pub record BackedAgreement (mode : Mode) (text : List ℕ) (bytes : ℕ) (image 
   pub typed : IsTyped tree
   pub follows : (input : List ℕ) → AreWords input → Follows (behavior_in mode (source_with text tree) input) (backed_image_behavior bytes image input)
 
+-- it follows its program so on each board that backs at least this many bytes of stack
+abbrev pub IsBackedFrom : Mode → (text : List ℕ) (least : ℕ) → Image → Type 0
+IsBackedFrom mode text least image = (bytes : ℕ) → least ≤ bytes → bytes ≤ stack_to - stack_from → ∥ BackedAgreement mode text bytes image ∥₁
+
 -- in each mode the image that pieces make follows its program on each board with at least the stack that it takes
 abbrev pub LinkedUnitsAreBacked : Type 0
 LinkedUnitsAreBacked = (mode : Mode) (s : Source) (pieces : List Piece) (u : StoredUnit) → ∥ SpellsText s.text s.externals ∥₁ → IsChecked s → All IsPieceOfUnit pieces → linked_in mode s pieces ≡ Ok u
-    → (bytes : ℕ) → stack_of s.externals pieces ≤ bytes → bytes ≤ stack_to - stack_from → ∥ BackedAgreement mode s.text bytes u.image ∥₁
+    → IsBackedFrom mode s.text (stack_of s.externals pieces) u.image

@@ -100,7 +100,7 @@ fn piece_of<'a>(pieces: &'a [&'a Piece], function: usize) -> Option<&'a Piece>
 }
 
 /// The first pieces of this many functions in their order, and 26 for the least without one.
-pub(crate) fn in_order<'a>(
+pub fn in_order<'a>(
     alloc: Global,
     functions: usize,
     pieces: &'a [&'a Piece],

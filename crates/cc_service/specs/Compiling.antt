@@ -1,8 +1,9 @@
 -- Why a text is not compiled by the workers.
 use Rattle.std.specs.Prelude.{◌≡◌, ◌⊎◌, ◌++◌, ℕ, List, length}
 use Rattle.cc_ast.specs.Tree.{External}
+use Rattle.cc_c_laws.specs.declared.mode.Mode.TheVariants.{Plain}
 use Rattle.cc_link.specs.Meaning.{functions}
-use Rattle.cc_link.specs.Compile.{IsTooLarge}
+use Rattle.cc_link.specs.Compile.{IsTooLargeIn}
 use Rattle.cc_link.specs.Text.{IsProgramText, IsTextRefusal}
 use Rattle.cc_pool.specs.Fault.{IsJobRefusal}
 use Rattle.cc_pool.specs.Shared.{HasSentSome, pieces_of}
@@ -46,7 +47,7 @@ abbrev pub IsCompileRefusal : List ℕ → ServiceFault → Type 0
 IsCompileRefusal text (Text f) = IsTextRefusal text f
 IsCompileRefusal text (Piece function f) = IsProgram text × IsJobRefusal text (pool.Piece function f)
 IsCompileRefusal text WorkersGone = IsProgram text
-IsCompileRefusal text ImageTooLarge = IsTooLarge text
+IsCompileRefusal text ImageTooLarge = IsTooLargeIn Plain text
 IsCompileRefusal text OutOfMemory = Unit {0}
 IsCompileRefusal text (Opening f) = ⊥
 IsCompileRefusal text TooManyClients = ⊥

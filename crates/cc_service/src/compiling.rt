@@ -5,10 +5,11 @@ ghost use Rattle.std.specs.Arc.{arc_value};
 ghost use Rattle.cc_ast.specs.Source.{source};
 ghost use Rattle.cc_ast.specs.Tree.{External};
 ghost use Rattle.cc_types.specs.Typed.{defined_names};
+ghost use Rattle.cc_c_laws.specs.declared.mode.Mode.TheVariants.{Plain};
 ghost use Rattle.cc_link.specs.Agree.{Agree};
 ghost use Rattle.cc_link.specs.Made.{IsCompiled};
 ghost use Rattle.cc_link.specs.Meaning.{functions};
-ghost use Rattle.cc_link.specs.Pieces.{AreFrom};
+ghost use Rattle.cc_link.specs.Pieces.{AreFromIn};
 ghost use Rattle.cc_link.specs.Text.{IsProgramText};
 ghost use Rattle.cc_service.specs.Compiling.{HasHandedIn, HasSentFor, IsCompileRefusal, IsNotPrepared, IsPastText, IsProgram};
 
@@ -154,7 +155,7 @@ fn collected<N: Named + Send + Sync + 'static, R: Wait>(
 ) -> Result<Vec<Piece>, ServiceFault>
     requires program { IsProgram ticket.text }
     ensures count { IfOk result (λ pieces. length pieces.items ≡ ticket.functions) }
-    ensures own { IfOk result (λ pieces. AreFrom ticket.text 0 pieces.items) }
+    ensures own { IfOk result (λ pieces. AreFromIn Plain ticket.text 0 pieces.items) }
     ensures compiled { IfOk result (λ pieces. All IsCompiled pieces.items) }
     ensures refused { IfErr result (λ fault. IsCompileRefusal ticket.text fault) }
     ensures past_text { IfErr result (λ fault. IsPastText fault) }
@@ -175,7 +176,7 @@ fn linked(
 ) -> Result<CompiledUnit, ServiceFault>
     requires program { IsProgramText (source (arc_value unit.now)).text (source (arc_value unit.now)).externals }
     requires count { length pieces.items ≡ length (defined_names (source (arc_value unit.now))) }
-    requires own { AreFrom (source (arc_value unit.now)).text 0 pieces.items }
+    requires own { AreFromIn Plain (source (arc_value unit.now)).text 0 pieces.items }
     requires compiled { All IsCompiled pieces.items }
     ensures source { IfOk result (λ made. made.source ≡ (source (arc_value unit.now)).text) }
     ensures agrees { IfOk result (λ made. Agree made.source made.image) }

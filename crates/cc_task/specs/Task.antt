@@ -10,6 +10,6 @@ most_steps = 1000000000
 abbrev pub IsWithinLimits : Task → Type 0
 IsWithinLimits Check = Unit {0}
 IsWithinLimits (Interpret steps words) = steps ≤ most_steps
-IsWithinLimits (Run steps words) = steps ≤ most_steps
-IsWithinLimits Asm = Unit {0}
-IsWithinLimits Image = Unit {0}
+IsWithinLimits (Run kind steps words) = steps ≤ most_steps
+IsWithinLimits (Asm kind) = Unit {0}
+IsWithinLimits (Image kind) = Unit {0}

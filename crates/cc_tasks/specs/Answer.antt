@@ -2,16 +2,20 @@
 use Rattle.std.specs.Prelude.{ℕ, ◌≡◌, List}
 use Rattle.cc_ast.specs.Tree.{Source}
 use Rattle.cc_c_laws.specs.Meaning.{source_behavior}
+use Rattle.cc_c_laws.specs.declared.mode.Mode.{Mode}
+use Rattle.cc_c_laws.specs.declared.mode.Mode.TheVariants as mode
 use Rattle.cc_meaning.specs.Erase.{outcome_tree}
 use Rattle.cc_rv32.specs.declared.image.Image.{Image}
 use Rattle.cc_rv32.specs.Listing.{listing}
 use Rattle.cc_answers.specs.Run.{IsRunOf}
 use Rattle.cc_hex.specs.Contents.{Holds, Says}
 use Rattle.cc_hex.specs.Layout.{image_text}
-use Rattle.cc_link.specs.Agree.{Agree}
-use Rattle.cc_link.specs.Compile.{IsBuildRefusal}
+use Rattle.cc_link.specs.Agree.{Agree, AgreeIn}
+use Rattle.cc_link.specs.Compile.{IsBuildRefusalIn}
 use Rattle.cc_link.specs.Text.{IsProgramText, IsTextRefusal}
 use Rattle.cc_link.specs.declared.build_fault.BuildFault.TheVariants as build
+use Rattle.cc_task.specs.declared.task.Kind.{Kind}
+use Rattle.cc_task.specs.declared.task.Kind.TheVariants.{Plain, Checked}
 use Rattle.cc_task.specs.declared.task.Task.{Task}
 use Rattle.cc_task.specs.declared.task.Task.TheVariants.{Check, Interpret, Run, Asm, Image as ImageTask}
 use Rattle.cc_tasks.specs.declared.answer.Answer.{Answer}
@@ -35,15 +39,27 @@ abbrev pub IsRan : (steps : ℕ) → (words text : List ℕ) → Answer → Type
 IsRan steps words text (Ran o) = (p : ProgramOf text) × (outcome_tree o ≡ source_behavior p.program words steps)
 IsRan steps words text answer = ⊥
 
--- what `run` answers: what an image that agrees with the text does
-abbrev pub IsExecuted : (steps : ℕ) → (words text : List ℕ) → Answer → Type 0
-IsExecuted steps words text (Executed done) = (image : Image) × Agree text image × IsRunOf image steps words done
-IsExecuted steps words text answer = ⊥
+-- the mode of an image, and of a task
+abbrev pub mode_of : Kind → Mode
+mode_of Plain = mode.Plain
+mode_of Checked = mode.Checked
 
--- what `asm` answers: the listing of an image that agrees with the text
-abbrev pub IsListed : (text : List ℕ) → Answer → Type 0
-IsListed text (Listed lines) = (image : Image) × Agree text image × (lines.items ≡ listing image)
-IsListed text answer = ⊥
+abbrev pub mode_for : Task → Mode
+mode_for Check = mode.Plain
+mode_for (Interpret steps words) = mode.Plain
+mode_for (Run kind steps words) = mode_of kind
+mode_for (Asm kind) = mode_of kind
+mode_for (ImageTask kind) = mode_of kind
+
+-- what `run` answers: what an image does that agrees with the text, and follows what its program shows in the mode
+abbrev pub IsExecuted : Mode → (steps : ℕ) → (words text : List ℕ) → Answer → Type 0
+IsExecuted m steps words text (Executed done) = (image : Image) × Agree text image × AgreeIn m text image × IsRunOf image steps words done
+IsExecuted m steps words text answer = ⊥
+
+-- what `asm` answers: the listing of such an image
+abbrev pub IsListed : Mode → (text : List ℕ) → Answer → Type 0
+IsListed m text (Listed lines) = (image : Image) × Agree text image × AgreeIn m text image × (lines.items ≡ listing image)
+IsListed m text answer = ⊥
 
 -- a text is an image as Intel HEX: its bytes at each address and nothing else, in order of address, and laid out so
 pub record IsHex (text : List ℕ) (image : Image) : Type 0 where
@@ -51,26 +67,26 @@ pub record IsHex (text : List ℕ) (image : Image) : Type 0 where
   pub says : Says text image
   pub laid_out : text ≡ image_text image
 
--- what `image` answers: an image that agrees with the text, as Intel HEX
-abbrev pub IsImage : (text : List ℕ) → Answer → Type 0
-IsImage text (InHex lines) = (image : Image) × Agree text image × IsHex lines.items image
-IsImage text answer = ⊥
+-- what `image` answers: such an image, as Intel HEX
+abbrev pub IsImage : Mode → (text : List ℕ) → Answer → Type 0
+IsImage m text (InHex lines) = (image : Image) × Agree text image × AgreeIn m text image × IsHex lines.items image
+IsImage m text answer = ⊥
 
 -- the answer to a task for a text
 abbrev pub Answers : Task → (text : List ℕ) → Answer → Type 0
 Answers Check text answer = IsAccepted text answer
 Answers (Interpret steps words) text answer = IsRan steps words.items text answer
-Answers (Run steps words) text answer = IsExecuted steps words.items text answer
-Answers Asm text answer = IsListed text answer
-Answers ImageTask text answer = IsImage text answer
+Answers (Run kind steps words) text answer = IsExecuted (mode_of kind) steps words.items text answer
+Answers (Asm kind) text answer = IsListed (mode_of kind) text answer
+Answers (ImageTask kind) text answer = IsImage (mode_of kind) text answer
 
--- why a text gets no answer: it is no program's, it has no image, or memory was refused
-abbrev pub IsRefused : List ℕ → Fault → Type 0
-IsRefused text (Text f) = IsTextRefusal text f
-IsRefused text (Meaning f) = Unit {0}
-IsRefused text (Piece f) = IsBuildRefusal text (build.Piece f)
-IsRefused text (Link f) = IsBuildRefusal text (build.Link f)
-IsRefused text UnknownFunction = ⊥
-IsRefused text OutOfMemory = Unit {0}
-IsRefused text Read = ⊥
-IsRefused text Write = ⊥
+-- why a text gets no answer: it is no program's, it has no image in the mode, or memory was refused
+abbrev pub IsRefused : Mode → List ℕ → Fault → Type 0
+IsRefused m text (Text f) = IsTextRefusal text f
+IsRefused m text (Meaning f) = Unit {0}
+IsRefused m text (Piece f) = IsBuildRefusalIn m text (build.Piece f)
+IsRefused m text (Link f) = IsBuildRefusalIn m text (build.Link f)
+IsRefused m text UnknownFunction = ⊥
+IsRefused m text OutOfMemory = Unit {0}
+IsRefused m text Read = ⊥
+IsRefused m text Write = ⊥

@@ -3,6 +3,7 @@ use Rattle.std.specs.Prelude.{◌≡◌, ◌⊎◌, ℕ, List, [], ◌++◌, tak
 use Rattle.std.specs.declared.alloc.Global.{Global}
 use Rattle.std.specs.Io.KnownBytes.{Appends}
 use Rattle.cc_c_laws.specs.declared.cause.Cause.{Cause}
+use Rattle.cc_c_laws.specs.declared.mode.Mode.{Mode}
 use Rattle.cc_c_laws.specs.declared.cause.Cause.TheVariants.{Division, Shift, Index, Depth}
 use Rattle.cc_meaning.specs.declared.outcome.Stop.{Stop}
 use Rattle.cc_meaning.specs.declared.outcome.Stop.TheVariants.{Going, Ended, Wrong}
@@ -11,7 +12,7 @@ use Rattle.cc_rv32.specs.Listing.{signed_text}
 use Rattle.cc_link.specs.Text.{text_fault_place}
 use Rattle.cc_answers.specs.Text.{line, words_text, run_text, fault_line, place_text, function_text}
 use Rattle.cc_task.specs.declared.task.Task.{Task}
-use Rattle.cc_tasks.specs.Answer.{Answers, IsRefused}
+use Rattle.cc_tasks.specs.Answer.{Answers, IsRefused, mode_for}
 use Rattle.cc_tasks.specs.Fault.{fault_number}
 use Rattle.cc_tasks.specs.Part.{part_fault_number}
 use Rattle.cc_tasks.specs.declared.answer.Answer.{Answer}
@@ -83,19 +84,19 @@ pub record IsAnswered (task : Task) (input old new : Option (List ℕ)) : Type 0
   pub answers : Answers task text answer
   pub written : Appends old new (answer_text answer)
 
--- the reader's text has this fault, and the fault's line was written
-pub record IsTurnedDown (input old new : Option (List ℕ)) (fault : Fault) : Type 0 where
+-- the reader's text has this fault in the mode, and the fault's line was written
+pub record IsTurnedDown (mode : Mode) (input old new : Option (List ℕ)) (fault : Fault) : Type 0 where
   pub text : List ℕ
   pub read : IsTextOf input text
-  pub refused : IsRefused text fault
+  pub refused : IsRefused mode text fault
   pub written : Appends old new (fault_text text fault)
 
 -- Why there is no answer: something could not be written, 54, and nothing is known of what was; or the text could not be read, 53, and its line was
 -- written; or the text has this fault.
-abbrev pub HasNoAnswer : (input old new : Option (List ℕ)) → Fault → Type 0
-HasNoAnswer input old new fault = (fault ≡ Write) ⊎ (((fault ≡ Read) × Appends old new (fault_text [] Read)) ⊎ IsTurnedDown input old new fault)
+abbrev pub HasNoAnswer : Mode → (input old new : Option (List ℕ)) → Fault → Type 0
+HasNoAnswer mode input old new fault = (fault ≡ Write) ⊎ (((fault ≡ Read) × Appends old new (fault_text [] Read)) ⊎ IsTurnedDown mode input old new fault)
 
 -- a task was done with this status: 0 for an answer, 1 for a fault
 abbrev pub IsPerformed : Task → (input old new : Option (List ℕ)) → (status : ℕ) → Type 0
 IsPerformed task input old new status =
-    ((status ≡ 0) × IsAnswered task input old new) ⊎ ((status ≡ 1) × ((fault : Fault) × HasNoAnswer input old new fault))
+    ((status ≡ 0) × IsAnswered task input old new) ⊎ ((status ≡ 1) × ((fault : Fault) × HasNoAnswer (mode_for task) input old new fault))

@@ -2,6 +2,7 @@
 
 ghost use Rattle.std.specs.Prelude.{◌≡◌, IfOk, IfErr, OnOk};
 ghost use Rattle.std.specs.Io.KnownBytes.{Appends};
+ghost use Rattle.cc_c_laws.specs.declared.mode.Mode.{Mode};
 ghost use Rattle.cc_tasks.specs.Written.{answer_text, cause_name, outcome_text, stop_text, HasNoAnswer, IsPerformed, IsTextOf, Writes};
 ghost use Rattle.cc_tasks.specs.internal.Working.{Flushes, IsDoneFor, RefusesBy, TellsOf, status_of};
 
@@ -139,7 +140,7 @@ pub(crate) fn read_text<R: Read, W: Write>(
 ) -> Result<Vec<u8>, Fault>
     ensures text { IfOk result (λ text. IsTextOf (R.remaining reader.old) text.items) }
     ensures kept { OnOk result (W.contents writer.new ≡ W.contents writer.old) }
-    ensures unread { IfErr result (HasNoAnswer (R.remaining reader.old) (W.contents writer.old) (W.contents writer.new)) }
+    ensures unread { IfErr result (λ fault. (mode : Mode) → HasNoAnswer mode (R.remaining reader.old) (W.contents writer.old) (W.contents writer.new) fault) }
 {
     match read_source(alloc, reader) {
         Ok(text) => Ok(text),

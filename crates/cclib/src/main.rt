@@ -15,7 +15,7 @@ use cc_command_line::{Invocation, NoRequest, Work, read_or_tell, tell_bytes};
 use cc_descriptors::{System, take_free};
 use cc_filing::take_out_of_file;
 use cc_submit::submit_script;
-use cc_task::Task;
+use cc_task::{Kind, Task};
 use cc_tasks::{Fault, perform, perform_and_explain, perform_and_explain_stages, perform_stages};
 use library::library_session;
 use serving::serve_folder;
@@ -76,6 +76,7 @@ fn start<R: AllocGlobal + Input + Print, E: Write + Drop>(
 // Shows what the compiler makes of a text; the error is lack of memory before it began.
 fn start_stages<R: AllocGlobal + Input + Print, E: Write + Drop>(
     rt: &R,
+    kind: Kind,
     function: Option<String>,
     is_quiet: bool,
     errors: E,
@@ -93,9 +94,9 @@ fn start_stages<R: AllocGlobal + Input + Print, E: Write + Drop>(
     };
     let mut reader = rt.reader();
     let status = if is_quiet {
-        perform_stages(rt, name, &mut reader, &mut writer)
+        perform_stages(rt, kind, name, &mut reader, &mut writer)
     } else {
-        perform_and_explain_stages(rt, name, &mut reader, &mut writer, &mut errors)
+        perform_and_explain_stages(rt, kind, name, &mut reader, &mut writer, &mut errors)
     };
     drop(function);
     Ok(status)
@@ -187,7 +188,7 @@ where
 {
     match work {
         Work::One(task) => start(rt, task, persons.is_quiet, errors),
-        Work::Stages(function) => start_stages(rt, function, persons.is_quiet, errors),
+        Work::Stages(kind, function) => start_stages(rt, kind, function, persons.is_quiet, errors),
         Work::TakeOut(wanted) => take_out_of_file(rt, files, &wanted, persons.is_quiet, errors),
         Work::Library(asked) => library_session(rt, files, &asked, persons, errors),
         Work::Serve(asked) => serve_folder(rt, files, &asked, persons.is_quiet, errors),

@@ -5,7 +5,7 @@
 #[cfg(test)]
 mod row;
 
-use cc_link::{compile, typed_unit};
+use cc_link::{Mode, compile, typed_unit};
 use cc_rv32::listing::list;
 use cc_stages::{StagesFault, stages};
 use row::ROW;
@@ -53,7 +53,7 @@ struct Written {
 fn shown(alloc: Global, text: &[u8], function: Option<&[u8]>) -> Result<Written, Fail> {
     let unit = typed_unit(alloc, text)?;
     let mut written = Vec::new(alloc);
-    let number = match stages(alloc, &unit, function, &mut written) {
+    let number = match stages(alloc, Mode::Plain, &unit, function, &mut written) {
         Ok(()) => 0,
         Err(fault) => {
             let number = fault.number();
@@ -295,7 +295,7 @@ fn a_writer_that_fails(rt: HostRuntime) -> Result<(), Fail> {
     let unit = typed_unit(rt.alloc(), FORMS.as_bytes())?;
     let mut room = [0u8; 300];
     let mut writer = room.as_mut_slice();
-    let told = stages(rt.alloc(), &unit, None, &mut writer);
+    let told = stages(rt.alloc(), Mode::Plain, &unit, None, &mut writer);
     let right = matches!(told, Err(StagesFault::Write));
     drop(told);
     drop(unit);

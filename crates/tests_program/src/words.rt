@@ -3,7 +3,7 @@
 use cc_command_line::{
     Invocation, Session, Work, line, read_invocation, read_or_tell, refused_bytes,
 };
-use cc_task::Task;
+use cc_task::{Kind, Task};
 use std::alloc::Global;
 
 fn asks_to_check(alloc: Global, words: &'static [&'static str]) -> bool {
@@ -27,7 +27,7 @@ fn asks_to_interpret(
 
 fn asks_to_run(alloc: Global, words: &'static [&'static str], steps: u64, input: &[u32]) -> bool {
     match line(alloc, words) {
-        Ok(Work::One(Task::Run(found, given))) => { found == steps && given.as_slice() == input }
+        Ok(Work::One(Task::Run(Kind::Plain, found, given))) => { found == steps && given.as_slice() == input }
         other => {
             drop(other);
             false
@@ -36,7 +36,7 @@ fn asks_to_run(alloc: Global, words: &'static [&'static str], steps: u64, input:
 }
 
 fn asks_for_listing(alloc: Global, words: &'static [&'static str]) -> bool {
-    matches!(line(alloc, words), Ok(Work::One(Task::Asm)))
+    matches!(line(alloc, words), Ok(Work::One(Task::Asm(Kind::Plain))))
 }
 
 fn asks_for_library(
@@ -99,6 +99,25 @@ fn tasks(rt: HostRuntime) {
         )
     );
     assert!(rt; asks_for_listing(rt.alloc(), &["cclib", "asm"]));
+}
+
+fn asks_for_checked_run(alloc: Global, words: &'static [&'static str]) -> bool {
+    matches!(line(alloc, words), Ok(Work::One(Task::Run(Kind::Checked, 5, _))))
+}
+
+#[test]
+fn checked_images(rt: HostRuntime) {
+    let alloc = rt.alloc();
+    assert!(rt; asks_for_checked_run(alloc, &["cclib", "run", "--checked", "5", "7"]));
+    assert!(rt; asks_for_checked_run(alloc, &["cclib", "run", "5", "--checked"]));
+    let asked = line(alloc, &["cclib", "asm", "--checked"]);
+    assert!(rt; matches!(asked, Ok(Work::One(Task::Asm(Kind::Checked)))));
+    let asked = line(alloc, &["cclib", "image", "--checked"]);
+    assert!(rt; matches!(asked, Ok(Work::One(Task::Image(Kind::Checked)))));
+    let asked = line(alloc, &["cclib", "stages", "--checked"]);
+    assert!(rt; matches!(asked, Ok(Work::Stages(Kind::Checked, None))));
+    assert!(rt; is_refused(alloc, &["cclib", "image", "units.disk", "a", "--checked"]));
+    assert!(rt; is_refused(alloc, &["cclib", "check", "--checked"]));
 }
 
 // Refused with status 2, the text on standard error.

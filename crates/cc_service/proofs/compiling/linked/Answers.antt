@@ -3,21 +3,22 @@ use Rattle.std.proofs.Common.{◌≡◌, ◌⊎◌, inl, inr, length, List, Resu
 use Rattle.std.specs.Arc.{arc_value}
 use Rattle.cc_ast.specs.Source.{source}
 use Rattle.cc_ast.specs.Tree.{Source}
+use Rattle.cc_c_laws.specs.declared.mode.Mode.TheVariants.{Plain}
 use Rattle.cc_link.specs.Meaning.{functions}
 use Rattle.cc_library.specs.unit.StoredUnit.{StoredUnit}
 use Rattle.cc_emit.specs.Piece.{Piece}
 use Rattle.cc_link.specs.Linked.{linked}
-use Rattle.cc_link.specs.Pieces.{AreFrom}
+use Rattle.cc_link.specs.Pieces.{AreFromIn}
 use Rattle.cc_link.specs.declared.fault.LinkFault.{LinkFault}
 use Rattle.cc_link.specs.declared.fault.LinkFault.TheVariants.{ImageTooLarge, Missing, Doubled, Stranger, OutOfMemory}
 use Rattle.cc_link.proofs.Deciding.{defined_long}
 use Rattle.cc_link.proofs.Own.{only_large}
 use Rattle.cc_service.proofs.compiling.linked.Goals as goal
 
-one_of_two : (s : Source) (ps : List Piece) (f : LinkFault) → AreFrom s.text 0 ps → length ps ≡ length (functions s.externals) → (f ≡ OutOfMemory) ⊎ (linked s ps ≡ Err f)
+one_of_two : (s : Source) (ps : List Piece) (f : LinkFault) → AreFromIn Plain s.text 0 ps → length ps ≡ length (functions s.externals) → (f ≡ OutOfMemory) ⊎ (linked s ps ≡ Err f)
     → (f ≡ OutOfMemory) ⊎ (f ≡ ImageTooLarge)
 one_of_two s ps f own count (inl e) = inl e
-one_of_two s ps f own count (inr e) = inr (only_large s ps f own count e)
+one_of_two s ps f own count (inr e) = inr (only_large _ s ps f own count e)
 
 pub unreachable-requires : goal.unreachable-requires
 unreachable-requires c =

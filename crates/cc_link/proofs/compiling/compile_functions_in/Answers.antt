@@ -11,11 +11,11 @@ use Rattle.cc_types.specs.Typed.{defined_names}
 use Rattle.cc_c_laws.specs.Meaning.{functions}
 use Rattle.cc_emit.specs.Piece.{Piece}
 use Rattle.cc_link.specs.Made.{IsCompiled}
-use Rattle.cc_link.specs.Pieces.{AreFrom}
+use Rattle.cc_link.specs.Pieces.{AreFromIn}
 use Rattle.cc_link.proofs.Deciding.{defined_long}
 use Rattle.cc_link.proofs.Own.{one_from}
 use Rattle.cc_link.proofs.Ordering.{compiled_of}
-use Rattle.cc_link.proofs.compiling.pieces.Goals as goal
+use Rattle.cc_link.proofs.compiling.compile_functions_in.Goals as goal
 
 pub returns-in-Err-clause-refused : goal.returns-in-Err-clause-refused
 returns-in-Err-clause-refused c =
@@ -41,7 +41,7 @@ loop-function-preserved c =
     (subst (λ (u : Unit). IsChecked (source u)) c.deref-2.ensures (record { typed = c.externals-kept.ensures.typed; limits = c.externals-kept.ensures.limits })) c.items-kept.ensures.piece in
     let which : c.in-Ok.piece.function ≡ 0 + length c.loop-function.pieces.items = let f = c.in-Ok.ensures.function in let n = c.loop-function.invariant.count in omega (arith, f, n) in
     record {
-      own = subst (λ (ps : List Piece). AreFrom text 0 ps) (sym items) (one_from text 0 c.loop-function.pieces.items c.in-Ok.piece c.loop-function.invariant.own c.in-Ok.ensures.mode whose which);
+      own = subst (λ (ps : List Piece). AreFromIn c.args.mode text 0 ps) (sym items) (one_from c.args.mode text 0 c.loop-function.pieces.items c.in-Ok.piece c.loop-function.invariant.own c.in-Ok.ensures.mode whose which);
       count = search rules;
       compiled = subst (λ (ps : List Piece). All IsCompiled ps) (sym items) (All-push IsCompiled c.loop-function.pieces.items c.in-Ok.piece c.loop-function.invariant.compiled compiled);
       made = λ g less. elim (cases_lt g c.loop-function.function) [
@@ -49,6 +49,7 @@ loop-function-preserved c =
         | inr here ↦ record {
           piece = c.in-Ok.piece;
           compiled = compiled;
+          mode_is = c.in-Ok.ensures.mode;
           text_is = whose;
           function_is = c.in-Ok.ensures.function ∙ omega (arith, here, less);
         }
