@@ -1,10 +1,13 @@
 // A script that is left for a server, and what became of it.
 
-ghost use Rattle.std.specs.Prelude.{◌≡◌, ◌≢◌, ◌++◌, ◌∷◌, [], None, Ok, IfOk};
+ghost use Rattle.std.specs.Prelude.{◌≡◌, ◌++◌, ◌∷◌, [], IfOk, IfSome, IsTrue, Option, string_bytes};
+ghost use Rattle.std.specs.Option.{option_map};
 ghost use Rattle.cc_script.specs.Line.{asked_of};
-ghost use Rattle.cc_spool.specs.declared.submission.Submission.TheVariants.{Answered};
+ghost use Rattle.cc_spool.specs.Submitted.{HasWrittenIfOk};
 ghost use Rattle.cc_script.specs.declared.command.Dialect.TheVariants.{Served};
-ghost use Rattle.cc_submit.specs.internal.Sent.{asks_source, has_source, is_whole};
+ghost use Rattle.cc_submit.specs.Printed.{Prints, Submits, asks_source, fetches};
+ghost use Rattle.cc_submit.specs.internal.Finished.{Finishes, FinishesSource, WritesSource, came_of};
+ghost use Rattle.cc_submit.specs.internal.Sent.{has_source, is_fetch, is_whole};
 
 use cc_answers::{Persons, Telling, explain_bad_line, explain_no_command, explain_words, words_of};
 use cc_command_line::Submitter;
@@ -93,12 +96,18 @@ fn source<R: Input>(rt: &R, alloc: Global) -> io::Result<Vec<u8>> {
 }
 
 // What is sent for a line; none where it is no command.
-fn sent_of<R: Input>(rt: &R, alloc: Global, line: Option<&String>) -> io::Result<Option<Sent>> {
+fn sent_of<R: Input>(rt: &R, alloc: Global, line: Option<&str>) -> io::Result<Option<Sent>>
+    ensures fetch { IfOk result (λ sent. IfSome sent (λ s. is_fetch s ≡ fetches (option_map (λ l. l.now) line.entry))) }
+{
     let Some(line) = line else {
         return Ok(Some(Sent::Script));
     };
-    let line = line.as_str();
     let mut bytes = Vec::new(alloc);
+    if asks_source(line) {
+        bytes.extend_from_slice(line.as_bytes())?;
+        bytes.push(b'\n')?;
+        return Ok(Some(Sent::Fetch(bytes)));
+    }
     if takes_source(alloc, line)? {
         let source = source(rt, alloc)?;
         let text = format!(in alloc; "{line} {}\n", source.len())?;
@@ -113,11 +122,7 @@ fn sent_of<R: Input>(rt: &R, alloc: Global, line: Option<&String>) -> io::Result
     }
     bytes.extend_from_slice(line.as_bytes())?;
     bytes.push(b'\n')?;
-    Ok(Some(if asks_source(line) {
-        Sent::Fetch(bytes)
-    } else {
-        Sent::Line(bytes)
-    }))
+    Ok(Some(Sent::Line(bytes)))
 }
 
 // Leaves what is sent in the folder, and writes the answer.
@@ -129,7 +134,9 @@ fn send<R: Input, W: Write, E: Write>(
     sent: &Sent,
     writer: &mut W,
     watched: &mut E,
-) -> io::Result<Submission> {
+) -> io::Result<Submission>
+    ensures { HasWrittenIfOk (W.contents writer.old) (W.contents writer.new) result }
+{
     match sent {
         Sent::Script => submit(
             layout,
@@ -253,8 +260,7 @@ fn finish<R: AllocGlobal, W: Write, E: Write>(
     writer: &mut W,
     told: &mut E,
 ) -> u8
-    ensures well { done ≡ Ok (Answered None) → result ≡ 0 }
-    ensures fault { done ≢ Ok (Answered None) → result ≡ 1 }
+    ensures { Finishes (came_of done) (W.contents writer.old) (W.contents writer.new) result }
 {
     let folder = asked.folder.as_str();
     match &done {
@@ -294,7 +300,9 @@ fn finish<R: AllocGlobal, W: Write, E: Write>(
 }
 
 // Writes the source that an answer is, and nothing else; or the lines of the faults that it tells. Whether it is a source.
-fn write_source<W: Write>(alloc: Global, answer: &[u8], writer: &mut W) -> io::Result<bool> {
+fn write_source<W: Write>(alloc: Global, answer: &[u8], writer: &mut W) -> io::Result<bool>
+    ensures { IfOk result (λ is_source. IsTrue is_source → WritesSource answer.now (W.contents writer.old) (W.contents writer.new)) }
+{
     let is_source = match source_in(alloc, answer)? {
         Some(source) => {
             writer.write_all(source)?;
@@ -320,7 +328,7 @@ fn finish_source<R: AllocGlobal, W: Write, E: Write>(
     writer: &mut W,
     told: &mut E,
 ) -> u8
-    ensures { done ≢ Ok (Answered None) → result ≡ 1 }
+    ensures { FinishesSource answer.now (came_of done) (W.contents writer.old) (W.contents writer.new) result }
 {
     let done = match done {
         Ok(Submission::Answered(number)) => match write_source(rt.alloc(), answer, writer) {
@@ -355,7 +363,9 @@ fn leave<R: AllocGlobal + Input, W: Write, E: Write + Drop>(
     persons: Persons,
     writer: &mut W,
     told: &mut Telling<E>,
-) -> u8 {
+) -> u8
+    ensures { (came : Option Submission) × Prints (is_fetch sent.now) came (W.contents writer.old) (W.contents writer.new) result }
+{
     let wait = asked.wait;
     // That it waits is told to who sees it, and not to a file.
     told.is_quiet = persons.is_quiet || !persons.is_watched;
@@ -370,8 +380,43 @@ fn leave<R: AllocGlobal + Input, W: Write, E: Write + Drop>(
     finish(rt, done, asked, sent, writer, told)
 }
 
-/// Leaves a script for the server of a folder, and prints its answer; the status. On a terminal control bytes of the answer are shown as `?`.
-/// The error is lack of memory before it began.
+/// Leaves a script for the server of a folder, and writes its answer; the status: 0 if an answer came, was written whole and tells no fault,
+/// 2 if the line is no command, else 1. Of an answer that is a source its bytes alone are written. The error is lack of memory before it began.
+pub fn submit_to<R: AllocGlobal + Input, W: Write, E: Write + Drop>(
+    rt: &R,
+    layout: &FolderLayout,
+    process: u32,
+    asked: &Submitter,
+    persons: Persons,
+    writer: &mut W,
+    told: &mut Telling<E>,
+) -> Result<u8, AllocError>
+    ensures { IfOk result (λ status. Submits (option_map string_bytes asked.now.line) (W.contents writer.old) (W.contents writer.new) status) }
+{
+    let line = match &asked.line {
+        Some(line) => Some(line.as_str()),
+        None => None,
+    };
+    let sent = match sent_of(rt, rt.alloc(), line) {
+        Ok(Some(sent)) => sent,
+        Ok(None) => {
+            let _ = explain_no_command(&mut told.errors);
+            return Ok(2);
+        }
+        Err(why) if why.kind() == io::ErrorKind::OutOfMemory => return Err(AllocError),
+        Err(_) => {
+            let _ = writer.write_all(READ_FAULT);
+            let _ = writer.flush();
+            return Ok(1);
+        }
+    };
+    let status = leave(rt, layout, process, asked, &sent, persons, writer, told);
+    drop(sent);
+    Ok(status)
+}
+
+/// Leaves a script for the server of a folder, and prints its answer, as `submit_to` does; the status. On a terminal control bytes of the
+/// answer are shown as `?`. The error is lack of memory before it began.
 pub fn submit_script<R: AllocGlobal + Input + Print, E: Write + Drop>(
     rt: &R,
     files: &HostRuntime,
@@ -393,29 +438,13 @@ pub fn submit_script<R: AllocGlobal + Input + Print, E: Write + Drop>(
         is_quiet: persons.is_quiet,
     };
     let layout = FolderLayout::new(*files, alloc, asked.folder.as_str())?;
-    let sent = match sent_of(rt, alloc, asked.line.as_ref()) {
-        Ok(Some(sent)) => sent,
-        Ok(None) => {
-            let _ = explain_no_command(&mut told.errors);
-            return Ok(2);
-        }
-        Err(why) if why.kind() == io::ErrorKind::OutOfMemory => return Err(AllocError),
-        Err(_) => {
-            let _ = writer.write_all(READ_FAULT);
-            let _ = writer.flush();
-            return Ok(1);
-        }
-    };
-    let status = leave(
+    submit_to(
         rt,
         &layout,
         process,
         asked,
-        &sent,
         persons,
         &mut writer,
         &mut told,
-    );
-    drop(sent);
-    Ok(status)
+    )
 }

@@ -1,5 +1,7 @@
 -- What stands behind the line of a command.
 use Rattle.std.specs.Prelude.{Bool, true, false, Option, Some, None}
+use Rattle.cc_submit.specs.declared.submitting.Sent.{Sent}
+use Rattle.cc_submit.specs.declared.submitting.Sent.TheVariants.{Fetch}
 use Rattle.cc_script.specs.Line.{ScriptRequest, Add, Replace, Withdraw, Names, Run, Compact, Audit, Image, Source}
 
 -- a line that has a source behind it
@@ -28,7 +30,7 @@ is_whole (Some Audit) = true
 is_whole (Some (Image name)) = true
 is_whole (Some (Source name)) = true
 
--- a line whose answer is a source
-abbrev pub asks_source : Option ScriptRequest → Bool
-asks_source (Some (Source name)) = true
-asks_source asked = false
+-- what is sent is a line whose answer is a source
+abbrev pub is_fetch : Sent → Bool
+is_fetch (Fetch bytes) = true
+is_fetch sent = false
