@@ -32,7 +32,7 @@ Examples:
   cclib check < examples/quotient.c
   cclib interpret 1000 < examples/quotient.c
   cclib run 10000 2 104 105 < examples/checksum.c
-  cclib run --checked 10000 7 0 < examples/quotient.c
+  cclib run --checked 10000 2 104 105 < examples/checksum.c
   cclib asm < examples/quotient.c
   cclib stages main < examples/quotient.c
   cclib image < examples/quotient.c > quotient.hex
@@ -125,7 +125,9 @@ pub(crate) fn checked_word<'a>(alloc: Global) -> Arg<'a> {
     Arg::new(alloc, CHECKED)
         .long(CHECKED)
         .action(ArgAction::SetTrue)
-        .help("The image stops in place where the program goes wrong by an index, a division or a shift")
+        .help(
+            "The image stops in place where the program goes wrong by an index, a division or a shift",
+        )
 }
 
 /// Whether a checked image is asked for.

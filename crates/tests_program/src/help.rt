@@ -33,6 +33,7 @@ Examples:
   cclib check < examples/quotient.c
   cclib interpret 1000 < examples/quotient.c
   cclib run 10000 2 104 105 < examples/checksum.c
+  cclib run --checked 10000 2 104 105 < examples/checksum.c
   cclib asm < examples/quotient.c
   cclib stages main < examples/quotient.c
   cclib image < examples/quotient.c > quotient.hex
