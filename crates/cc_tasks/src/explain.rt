@@ -84,7 +84,7 @@ pub fn explain_wrong<W: Write>(
             let told = of_wrong(alloc, text, words.as_slice(), *steps, cause);
             write_told(told, text, writer)
         }
-        Task::Check | Task::Run(_, _, _) | Task::Asm(_) | Task::Image(_) => Ok(()),
+        Task::Check | Task::Run(_, _, _) | Task::Asm(_) | Task::Image(_) | Task::Size(_) => Ok(()),
     }
 }
 

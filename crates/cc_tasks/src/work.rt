@@ -9,6 +9,7 @@ ghost use Rattle.cc_tasks.specs.internal.Working.{Flushes, IsDoneFor, RefusesBy,
 use super::answer::{Answer, answer_for};
 use super::explain::{Matter, explain_fault, explain_going, explain_program, explain_wrong};
 use super::fault::Fault;
+use super::measure::write_measure;
 use super::source::read_source;
 use cc_answers::{write_run, write_words};
 use cc_meaning::{Cause, Outcome, Stop};
@@ -56,6 +57,7 @@ fn write_answer<W: Write>(answer: &Answer, writer: &mut W) -> io::Result<()>
         Answer::Executed(run) => write_run(run, writer),
         Answer::Listed(lines) => writer.write_all(lines.as_slice()),
         Answer::Image(lines) => writer.write_all(lines.as_slice()),
+        Answer::Sized(it) => write_measure(it, writer),
     }
 }
 
@@ -83,7 +85,7 @@ fn matter_of(answer: &Answer) -> Matter {
             MachineOutcome::Going => Matter::Going,
             MachineOutcome::Exited(_) | MachineOutcome::Trapped => Matter::Text,
         },
-        Answer::Accepted | Answer::Listed(_) | Answer::Image(_) => Matter::Text,
+        Answer::Accepted | Answer::Listed(_) | Answer::Image(_) | Answer::Sized(_) => Matter::Text,
     }
 }
 

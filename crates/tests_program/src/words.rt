@@ -117,6 +117,10 @@ fn checked_images(rt: HostRuntime) {
     assert!(rt; asks_for_checked_run(alloc, &["cclib", "run", "5", "--checked"]));
     let asked = line(alloc, &["cclib", "asm", "--checked"]);
     assert!(rt; matches!(asked, Ok(Work::One(Task::Asm(Kind::Checked)))));
+    let asked = line(alloc, &["cclib", "size", "--checked"]);
+    assert!(rt; matches!(asked, Ok(Work::One(Task::Size(Kind::Checked)))));
+    let asked = line(alloc, &["cclib", "size"]);
+    assert!(rt; matches!(asked, Ok(Work::One(Task::Size(Kind::Plain)))));
     let asked = line(alloc, &["cclib", "image", "--checked"]);
     assert!(rt; matches!(asked, Ok(Work::One(Task::Image(Kind::Checked)))));
     let asked = line(alloc, &["cclib", "stages", "--checked"]);
