@@ -88,12 +88,15 @@ pub fn explain_wrong<W: Write>(
     }
 }
 
+/// How many steps the program is interpreted at most to find where its image has stopped.
+const MOST_EXPLAINED: u64 = 100_000_000;
+
 // Why a program goes wrong on the input words within the steps; nothing if it does not, or for too many open calls, by which no image stops.
 fn stopping_cause(alloc: Global, text: &[u8], words: &[u32], steps: u64) -> Option<Cause> {
     let Ok(unit) = typed_unit(alloc, text) else {
         return None;
     };
-    match interpret(alloc, &unit, words, steps) {
+    match interpret(alloc, &unit, words, steps.min(MOST_EXPLAINED)) {
         Ok(outcome) => match outcome.stop {
             Stop::Wrong(cause) if cause != Cause::Depth => Some(cause),
             _ => None,
@@ -103,7 +106,7 @@ fn stopping_cause(alloc: Global, text: &[u8], words: &[u32], steps: u64) -> Opti
 }
 
 /// Writes what is told of a run of an image that goes on: of a checked one where it has stopped in place, if the program goes wrong within as
-/// many steps; else what is warned of in the text. The program is interpreted for that.
+/// many steps, 100,000,000 at most; else what is warned of in the text. The program is interpreted for that.
 pub(crate) fn explain_going<W: Write>(
     alloc: Global,
     task: &Task,
