@@ -21,6 +21,7 @@ use Rattle.cc_tasks.specs.Fault.{fault_number}
 use Rattle.cc_tasks.specs.Part.{part_fault_number}
 use Rattle.cc_tasks.specs.declared.answer.Answer.{Answer}
 use Rattle.cc_tasks.specs.declared.answer.Answer.TheVariants.{Accepted, Ran, Executed, Listed, Image, Sized}
+use Rattle.cc_tasks.specs.declared.measure.CyclicCall.{CyclicCall}
 use Rattle.cc_tasks.specs.declared.measure.Measure.{Measure}
 use Rattle.cc_tasks.specs.declared.measure.SizedFunction.{SizedFunction}
 use Rattle.cc_tasks.specs.declared.fault.Fault.{Fault}
@@ -60,9 +61,13 @@ function_size_text it = name_text it.name.items ++ hexadecimal 8 it.address ++ t
 abbrev pub whole_size_text : UnitSize → List ℕ
 whole_size_text size = codes "code " ++ decimal size.code ++ codes "\nglobals " ++ decimal size.globals ++ codes "\nopen " ++ decimal size.calls ++ codes "\nstack " ++ decimal size.stack ++ codes "\n"
 
--- each function, and then the whole
+-- a call that is part of a cycle
+abbrev pub cycle_text : CyclicCall → List ℕ
+cycle_text it = codes "recursion " ++ name_text it.caller.items ++ line it.called.items
+
+-- each function, then the whole, then the calls that are part of a cycle
 abbrev pub measure_text : Measure → List ℕ
-measure_text it = flat_map function_size_text it.functions.items ++ whole_size_text it.sized.size
+measure_text it = flat_map function_size_text it.functions.items ++ whole_size_text it.sized.size ++ flat_map cycle_text it.cycles.items
 
 abbrev pub answer_text : Answer → List ℕ
 answer_text Accepted = line (codes "ok")

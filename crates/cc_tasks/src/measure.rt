@@ -6,9 +6,12 @@ ghost use Rattle.std.specs.Arc.{arc_value};
 ghost use Rattle.std.specs.Io.KnownBytes.{Appends};
 ghost use Rattle.cc_ast.specs.Source.{source};
 ghost use Rattle.cc_rv32.specs.Listing.{hexadecimal, hexadecimal_digit};
+ghost use Rattle.cc_answers.specs.Text.{line};
 ghost use Rattle.cc_tasks.specs.Answer.{AreFunctions};
-ghost use Rattle.cc_tasks.specs.Written.{function_size_text, measure_text, name_text, takes_text, whole_size_text};
+ghost use Rattle.cc_tasks.specs.Written.{cycle_text, function_size_text, measure_text, name_text, takes_text, whole_size_text};
 
+use crate::recursion::recursions;
+use cc_emit::Piece;
 use cc_rv32::map::CODE_FROM;
 use cc_size::{FunctionSize, Sized, UnitSize};
 use cc_types::TypedUnit;
@@ -25,11 +28,20 @@ pub struct SizedFunction {
     pub size: FunctionSize,
 }
 
+/// A call by which a function calls itself, at once or through others: the name of the function that calls, and of the one that is called.
+#[derive(Drop)]
+pub struct CyclicCall {
+    pub caller: Vec<u8>,
+    pub called: Vec<u8>,
+}
+
 /// What an image takes: the whole, and each function with its name and its place, in the order of definitions.
 #[derive(Drop)]
 pub struct Measure {
     pub functions: Vec<SizedFunction>,
     pub sized: Sized,
+    /// The calls that are part of a cycle of calls.
+    pub cycles: Vec<CyclicCall>,
 }
 
 // The address behind so many words from an address on; none past the last address.
@@ -69,13 +81,44 @@ fn functions(
     Ok(functions)
 }
 
+// The name of a function; of a number that no function has nothing.
+fn name_of(alloc: Global, unit: &TypedUnit, function: usize) -> Result<Vec<u8>, AllocError> {
+    if function < unit.functions() {
+        Ok(Vec::from_slice(alloc, unit.function_name(function))?)
+    } else {
+        Ok(Vec::new(alloc))
+    }
+}
+
+// The calls that are part of a cycle, by names.
+fn cycles(
+    alloc: Global,
+    unit: &TypedUnit,
+    pieces: &[Piece],
+) -> Result<Vec<CyclicCall>, AllocError> {
+    let recursions = recursions(alloc, pieces)?;
+    let mut cycles = Vec::with_capacity(alloc, recursions.len())?;
+    for recursion in recursions.as_slice() {
+        let caller = name_of(alloc, unit, recursion.caller)?;
+        let called = name_of(alloc, unit, recursion.called)?;
+        cycles.push(CyclicCall { caller, called })?;
+    }
+    Ok(cycles)
+}
+
 /// What an image takes, with the names and places of its functions.
 pub(crate) fn measure(alloc: Global, sized: Sized) -> Result<Measure, AllocError>
     ensures sized { IfOk result (λ it. it.sized ≡ sized) }
     ensures functions { IfOk result (λ it. AreFunctions (source (arc_value sized.made.typed)) sized.size.functions.items it.functions.items) }
 {
-    let functions = functions(alloc, &sized.made.typed, sized.size.functions.as_slice())?;
-    Ok(Measure { functions, sized })
+    let unit: &TypedUnit = &sized.made.typed;
+    let functions = functions(alloc, unit, sized.size.functions.as_slice())?;
+    let cycles = cycles(alloc, unit, sized.made.pieces.as_slice())?;
+    Ok(Measure {
+        functions,
+        sized,
+        cycles,
+    })
 }
 
 // A digit of base 16.
@@ -137,6 +180,7 @@ fn write_function<W: Write>(function: &SizedFunction, writer: &mut W) -> io::Res
     write_takes(&function.size, writer)
 }
 
+#[tactic(auto, using(cc_answers::proofs::Writing::one_more))]
 fn write_functions<W: Write>(functions: &[SizedFunction], writer: &mut W) -> io::Result<()>
     ensures { OnOk result (Appends (W.contents writer.old) (W.contents writer.new) (flat_map function_size_text functions.now)) }
 {
@@ -150,14 +194,45 @@ fn write_whole<W: Write>(size: &UnitSize, writer: &mut W) -> io::Result<()>
     ensures { OnOk result (Appends (W.contents writer.old) (W.contents writer.new) (whole_size_text size.now)) }
 {
     let (code, globals, open, stack) = (size.code, size.globals, size.calls, size.stack);
-    writeln!(writer, "code {code}\nglobals {globals}\nopen {open}\nstack {stack}")
+    writeln!(
+        writer,
+        "code {code}\nglobals {globals}\nopen {open}\nstack {stack}"
+    )
 }
 
-/// Writes what an image takes: a line for each function, and then the whole.
+#[tactic(auto, using(cc_answers::proofs::Writing::written_third))]
+fn write_cycle<W: Write>(cycle: &CyclicCall, writer: &mut W) -> io::Result<()>
+    ensures { OnOk result (Appends (W.contents writer.old) (W.contents writer.new) (cycle_text cycle.now)) }
+{
+    writer.write_all(b"recursion ")?;
+    write_name(cycle.caller.as_slice(), writer)?;
+    write_last(cycle.called.as_slice(), writer)
+}
+
 #[tactic(auto, using(cc_answers::proofs::Writing::written_on))]
+fn write_last<W: Write>(name: &[u8], writer: &mut W) -> io::Result<()>
+    ensures { OnOk result (Appends (W.contents writer.old) (W.contents writer.new) (line name.now)) }
+{
+    writer.write_all(name)?;
+    writer.write_all(b"\n")
+}
+
+#[tactic(auto, using(cc_answers::proofs::Writing::one_more))]
+fn write_cycles<W: Write>(cycles: &[CyclicCall], writer: &mut W) -> io::Result<()>
+    ensures { OnOk result (Appends (W.contents writer.old) (W.contents writer.new) (flat_map cycle_text cycles.now)) }
+{
+    for cycle in cycles {
+        write_cycle(cycle, writer)?;
+    }
+    Ok(())
+}
+
+/// Writes what an image takes: a line for each function, then the whole, then the calls that are part of a cycle.
+#[tactic(auto, using(cc_answers::proofs::Writing::written_third))]
 pub(crate) fn write_measure<W: Write>(measure: &Measure, writer: &mut W) -> io::Result<()>
     ensures { OnOk result (Appends (W.contents writer.old) (W.contents writer.new) (measure_text measure.now)) }
 {
     write_functions(measure.functions.as_slice(), writer)?;
-    write_whole(&measure.sized.size, writer)
+    write_whole(&measure.sized.size, writer)?;
+    write_cycles(measure.cycles.as_slice(), writer)
 }
