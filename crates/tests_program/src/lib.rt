@@ -30,6 +30,8 @@ mod refusals;
 #[cfg(test)]
 mod screens;
 #[cfg(test)]
+mod sizes;
+#[cfg(test)]
 mod spools;
 #[cfg(test)]
 mod stages;
