@@ -32,9 +32,10 @@ Examples:
   cclib check < examples/quotient.c
   cclib interpret 1000 < examples/quotient.c
   cclib run 10000 2 104 105 < examples/checksum.c
-  cclib run --checked 10000 7 0 < examples/quotient.c
+  cclib run --checked 10000 2 104 105 < examples/checksum.c
   cclib asm < examples/quotient.c
   cclib stages main < examples/quotient.c
+  cclib size < examples/quotient.c
   cclib image < examples/quotient.c > quotient.hex
   cclib library units.disk --format 65536 < examples/units.script
   cclib image units.disk sum > sum.hex
@@ -125,7 +126,9 @@ pub(crate) fn checked_word<'a>(alloc: Global) -> Arg<'a> {
     Arg::new(alloc, CHECKED)
         .long(CHECKED)
         .action(ArgAction::SetTrue)
-        .help("The image stops in place where the program goes wrong by an index, a division or a shift")
+        .help(
+            "The image stops in place where the program goes wrong by an index, a division or a shift",
+        )
 }
 
 /// Whether a checked image is asked for.
@@ -153,6 +156,11 @@ fn stages_command<'a>(alloc: Global) -> Result<Command<'a>, AllocError> {
         .after_help("The program comes on standard input: cclib stages main < examples/quotient.c")
         .arg(function)?
         .arg(checked_word(alloc))
+}
+
+fn size_command<'a>(alloc: Global) -> Result<Command<'a>, AllocError> {
+    let about = "Say how much the program's image takes: its code, its globals, and a stack that is enough";
+    plain_command(alloc, "size", about).arg(checked_word(alloc))
 }
 
 // The command with one more part.
@@ -191,6 +199,7 @@ fn command<'a>(alloc: Global) -> Result<Command<'a>, AllocError> {
     let asm = plain_command(alloc, "asm", asm).arg(checked_word(alloc));
     let whole = with_part(whole, asm)?;
     let whole = with_part(whole, stages_command(alloc))?;
+    let whole = with_part(whole, size_command(alloc))?;
     let whole = with_part(whole, image_command(alloc))?;
     let whole = with_part(whole, source_command(alloc))?;
     let whole = with_part(whole, library_command(alloc))?;
@@ -269,6 +278,7 @@ fn task_of(alloc: Global, matches: &ArgMatches<'_>) -> Result<Task, Error>
             Ok(Task::Run(kind_of(given), steps, words))
         }
         Some(("asm", given)) => Ok(Task::Asm(kind_of(given))),
+        Some(("size", given)) => Ok(Task::Size(kind_of(given))),
         _ => Ok(Task::Check),
     }
 }

@@ -25,4 +25,6 @@ pub enum Task {
     Asm(Kind),
     /// Compile the program and write its image as Intel HEX.
     Image(Kind),
+    /// Compile the program and say what its image takes.
+    Size(Kind),
 }

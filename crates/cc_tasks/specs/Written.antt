@@ -1,6 +1,8 @@
 -- What the program writes of a text, byte for byte, and what it has then done.
 use Rattle.std.specs.Prelude.{◌≡◌, ◌⊎◌, ℕ, List, [], ◌++◌, take, Option, IfSome, Result, Ok, Err, Vec, codes}
 use Rattle.std.specs.declared.alloc.Global.{Global}
+use Rattle.std.specs.Fmt.{decimal}
+use Rattle.std.specs.List.{flat_map}
 use Rattle.std.specs.Io.KnownBytes.{Appends}
 use Rattle.cc_c_laws.specs.declared.cause.Cause.{Cause}
 use Rattle.cc_c_laws.specs.declared.mode.Mode.{Mode}
@@ -8,15 +10,20 @@ use Rattle.cc_c_laws.specs.declared.cause.Cause.TheVariants.{Division, Shift, In
 use Rattle.cc_meaning.specs.declared.outcome.Stop.{Stop}
 use Rattle.cc_meaning.specs.declared.outcome.Stop.TheVariants.{Going, Ended, Wrong}
 use Rattle.cc_meaning.specs.declared.outcome.Outcome.{Outcome}
-use Rattle.cc_rv32.specs.Listing.{signed_text}
+use Rattle.cc_rv32.specs.Listing.{hexadecimal, signed_text}
 use Rattle.cc_link.specs.Text.{text_fault_place}
 use Rattle.cc_answers.specs.Text.{line, words_text, run_text, fault_line, place_text, function_text}
+use Rattle.cc_size.specs.declared.size.FunctionSize.{FunctionSize}
+use Rattle.cc_size.specs.declared.size.UnitSize.{UnitSize}
 use Rattle.cc_task.specs.declared.task.Task.{Task}
 use Rattle.cc_tasks.specs.Answer.{Answers, IsRefused, mode_for}
 use Rattle.cc_tasks.specs.Fault.{fault_number}
 use Rattle.cc_tasks.specs.Part.{part_fault_number}
 use Rattle.cc_tasks.specs.declared.answer.Answer.{Answer}
-use Rattle.cc_tasks.specs.declared.answer.Answer.TheVariants.{Accepted, Ran, Executed, Listed, Image}
+use Rattle.cc_tasks.specs.declared.answer.Answer.TheVariants.{Accepted, Ran, Executed, Listed, Image, Sized}
+use Rattle.cc_tasks.specs.declared.measure.CyclicCall.{CyclicCall}
+use Rattle.cc_tasks.specs.declared.measure.Measure.{Measure}
+use Rattle.cc_tasks.specs.declared.measure.SizedFunction.{SizedFunction}
 use Rattle.cc_tasks.specs.declared.fault.Fault.{Fault}
 use Rattle.cc_tasks.specs.declared.part.PartFault.{PartFault}
 use Rattle.cc_tasks.specs.declared.fault.Fault.TheVariants.{Text, Meaning, Piece, Link, UnknownFunction, OutOfMemory, Read, Write}
@@ -40,12 +47,35 @@ stop_text (Wrong c) = line (codes "wrong " ++ cause_name c)
 abbrev pub outcome_text : Outcome → List ℕ
 outcome_text o = words_text o.output ++ stop_text o.stop
 
+-- what a function of an image takes, behind its name and its place
+abbrev pub name_text : List ℕ → List ℕ
+name_text name = name ++ codes " "
+
+abbrev pub takes_text : FunctionSize → List ℕ
+takes_text size = codes " " ++ decimal size.words ++ codes " words frame " ++ decimal size.frame ++ codes " calls " ++ decimal size.calls ++ codes "\n"
+
+abbrev pub function_size_text : SizedFunction → List ℕ
+function_size_text it = name_text it.name.items ++ hexadecimal 8 it.address ++ takes_text it.size
+
+-- what the whole takes
+abbrev pub whole_size_text : UnitSize → List ℕ
+whole_size_text size = codes "code " ++ decimal size.code ++ codes "\nglobals " ++ decimal size.globals ++ codes "\nopen " ++ decimal size.calls ++ codes "\nstack " ++ decimal size.stack ++ codes "\n"
+
+-- a call that is part of a cycle
+abbrev pub cycle_text : CyclicCall → List ℕ
+cycle_text it = codes "recursion " ++ name_text it.caller.items ++ line it.called.items
+
+-- each function, then the whole, then the calls that are part of a cycle
+abbrev pub measure_text : Measure → List ℕ
+measure_text it = flat_map function_size_text it.functions.items ++ whole_size_text it.sized.size ++ flat_map cycle_text it.cycles.items
+
 abbrev pub answer_text : Answer → List ℕ
 answer_text Accepted = line (codes "ok")
 answer_text (Ran outcome) = outcome_text outcome
 answer_text (Executed run) = run_text run
 answer_text (Listed lines) = lines.items
 answer_text (Image lines) = lines.items
+answer_text (Sized it) = measure_text it
 
 -- ---- the line of a fault
 

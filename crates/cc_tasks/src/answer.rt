@@ -1,16 +1,20 @@
 // The answer to a task for a text.
 
-ghost use Rattle.std.specs.Prelude.{IfOk, IfErr};
+ghost use Rattle.std.specs.Prelude.{ℕ, List, IfOk, IfErr};
+ghost use Rattle.cc_c_laws.specs.declared.mode.Mode.{Mode};
 ghost use Rattle.cc_c_laws.specs.declared.mode.Mode.TheVariants.{Plain};
 ghost use Rattle.cc_link.specs.Agree.{Agree, AgreeIn};
-ghost use Rattle.cc_tasks.specs.Answer.{IsAccepted, IsRan, IsExecuted, IsListed, IsImage, Answers, IsRefused, mode_of, mode_for};
+ghost use Rattle.cc_link.specs.Compile.{IsBuildRefusalIn};
+ghost use Rattle.cc_tasks.specs.Answer.{IsAccepted, IsRan, IsExecuted, IsListed, IsImage, IsMeasured, Answers, IsRefused, mode_of, mode_for};
 
 use super::fault::Fault;
+use super::measure::{Measure, measure};
 use cc_answers::{ImageRun, run_image};
 use cc_hex::image::write;
 use cc_link::{BuildFault, CompiledUnit, Mode, compile_in, typed_unit};
 use cc_meaning::{Outcome, interpret};
 use cc_rv32::listing::list;
+use cc_size::size_in;
 use cc_task::{Kind, Task};
 use std::alloc::Global;
 
@@ -27,6 +31,8 @@ pub enum Answer {
     Listed(Vec<u8>),
     /// The program's image as Intel HEX.
     Image(Vec<u8>),
+    /// What the program's image takes.
+    Sized(Measure),
 }
 
 // That the text is a program.
@@ -65,6 +71,17 @@ pub(crate) fn mode_of(kind: Kind) -> Mode
     }
 }
 
+// The program's fault for one of compiling.
+fn fault_of_build(fault: BuildFault) -> Fault
+    ensures { (mode : Mode) (text : List ℕ) → IsBuildRefusalIn mode text fault → IsRefused mode text result }
+{
+    match fault {
+        BuildFault::Text(fault) => Fault::Text(fault),
+        BuildFault::Piece(fault) => Fault::Piece(fault),
+        BuildFault::Link(fault) => Fault::Link(fault),
+    }
+}
+
 // The compiled unit of a text in a mode.
 fn compiled(alloc: Global, mode: Mode, text: &[u8]) -> Result<CompiledUnit, Fault>
     ensures agrees { IfOk result (λ unit. Agree text.now unit.image) }
@@ -73,9 +90,7 @@ fn compiled(alloc: Global, mode: Mode, text: &[u8]) -> Result<CompiledUnit, Faul
 {
     match compile_in(alloc, mode, text) {
         Ok(unit) => Ok(unit),
-        Err(BuildFault::Text(fault)) => Err(Fault::Text(fault)),
-        Err(BuildFault::Piece(fault)) => Err(Fault::Piece(fault)),
-        Err(BuildFault::Link(fault)) => Err(Fault::Link(fault)),
+        Err(fault) => Err(fault_of_build(fault)),
     }
 }
 
@@ -128,10 +143,25 @@ fn in_hex(alloc: Global, mode: Mode, text: &[u8]) -> Result<Answer, Fault>
     }
 }
 
-/// The answer to a task for a text: `check` and `interpret` by its tree, `run`, `asm` and `image` by its image, which agrees with it and follows
+// What the program's image takes.
+fn sized(alloc: Global, mode: Mode, text: &[u8]) -> Result<Answer, Fault>
+    ensures answer { IfOk result (λ answer. IsMeasured mode text.now answer) }
+    ensures refused { IfErr result (λ fault. IsRefused mode text.now fault) }
+{
+    let sized = match size_in(alloc, mode, text) {
+        Ok(sized) => sized,
+        Err(fault) => return Err(fault_of_build(fault)),
+    };
+    match measure(alloc, sized) {
+        Ok(measure) => Ok(Answer::Sized(measure)),
+        Err(_) => Err(Fault::OutOfMemory),
+    }
+}
+
+/// The answer to a task for a text: `check` and `interpret` by its tree, `run`, `asm`, `image` and `size` by its image, which agrees with it and follows
 /// what the program shows in its mode.
 ///
-/// Refusals: those of `typed_unit`; for `run`, `asm` and `image` then 22, 24 and 25 of `compile_in`; 40 where memory was
+/// Refusals: those of `typed_unit`; for `run`, `asm`, `image` and `size` then 22, 24 and 25 of `compile_in`; 40 where memory was
 /// refused.
 pub fn answer_for(alloc: Global, task: &Task, text: &[u8]) -> Result<Answer, Fault>
     ensures answer { IfOk result (λ answer. Answers task.now text.now answer) }
@@ -145,5 +175,6 @@ pub fn answer_for(alloc: Global, task: &Task, text: &[u8]) -> Result<Answer, Fau
         }
         Task::Asm(kind) => listed(alloc, mode_of(*kind), text),
         Task::Image(kind) => in_hex(alloc, mode_of(*kind), text),
+        Task::Size(kind) => sized(alloc, mode_of(*kind), text),
     }
 }

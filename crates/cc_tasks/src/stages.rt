@@ -6,7 +6,7 @@ ghost use Rattle.cc_tasks.specs.internal.Stages.{fault_of_stages};
 ghost use Rattle.cc_tasks.specs.declared.fault.Fault.TheVariants.{UnknownFunction};
 
 use super::answer::mode_of;
-use super::explain::{explain_fault, explain_program};
+use super::explain::{Matter, explain_fault, explain_program};
 use super::fault::Fault;
 use super::unknown::explain_unknown;
 use super::work::{Performed, read_text, refused, status};
@@ -80,7 +80,7 @@ fn try_perform<R: Read, W: Write>(
     match read_text(alloc, reader, writer) {
         Ok(text) => {
             let told = match tell(alloc, kind, text.as_slice(), function, writer) {
-                Ok(()) => Ok(None),
+                Ok(()) => Ok(Matter::Text),
                 Err(fault) => Err(fault),
             };
             Performed { text, told }

@@ -7,11 +7,13 @@ ghost use Rattle.cc_tasks.specs.Written.{answer_text, cause_name, outcome_text, 
 ghost use Rattle.cc_tasks.specs.internal.Working.{Flushes, IsDoneFor, RefusesBy, TellsOf, status_of};
 
 use super::answer::{Answer, answer_for};
-use super::explain::{explain_fault, explain_program, explain_wrong};
+use super::explain::{Matter, explain_fault, explain_going, explain_program, explain_wrong};
 use super::fault::Fault;
+use super::measure::write_measure;
 use super::source::read_source;
 use cc_answers::{write_run, write_words};
 use cc_meaning::{Cause, Outcome, Stop};
+use cc_rv32::outcome::MachineOutcome;
 use cc_task::Task;
 use std::alloc::Global;
 use std::io::{self, Read, Write};
@@ -55,6 +57,7 @@ fn write_answer<W: Write>(answer: &Answer, writer: &mut W) -> io::Result<()>
         Answer::Executed(run) => write_run(run, writer),
         Answer::Listed(lines) => writer.write_all(lines.as_slice()),
         Answer::Image(lines) => writer.write_all(lines.as_slice()),
+        Answer::Sized(it) => write_measure(it, writer),
     }
 }
 
@@ -71,14 +74,18 @@ pub(crate) fn flushed<W: Write>(write: io::Result<()>, writer: &mut W) -> Result
     }
 }
 
-// Why the run went wrong that an answer tells of, where it did.
-fn cause_of(answer: &Answer) -> Option<Cause> {
+// What an answer leaves to be explained.
+fn matter_of(answer: &Answer) -> Matter {
     match answer {
         Answer::Ran(outcome) => match outcome.stop {
-            Stop::Wrong(cause) => Some(cause),
-            Stop::Going | Stop::Ended(_) => None,
+            Stop::Wrong(cause) => Matter::Wrong(cause),
+            Stop::Going | Stop::Ended(_) => Matter::Text,
         },
-        Answer::Accepted | Answer::Executed(_) | Answer::Listed(_) | Answer::Image(_) => None,
+        Answer::Executed(run) => match run.outcome {
+            MachineOutcome::Going => Matter::Going,
+            MachineOutcome::Exited(_) | MachineOutcome::Trapped => Matter::Text,
+        },
+        Answer::Accepted | Answer::Listed(_) | Answer::Image(_) | Answer::Sized(_) => Matter::Text,
     }
 }
 
@@ -97,26 +104,21 @@ pub(crate) fn refused<W: Write>(fault: Fault, text: &[u8], writer: &mut W) -> Fa
     }
 }
 
-// Writes an answer. The result is why its run went wrong, if it did.
+// Writes an answer. The result is what it leaves to be explained.
 #[tactic(auto, using(crate::proofs::Working::written))]
-fn tell_answer<W: Write>(answer: &Answer, writer: &mut W) -> Result<Option<Cause>, Fault>
+fn tell_answer<W: Write>(answer: &Answer, writer: &mut W) -> Result<Matter, Fault>
     ensures { Writes (W.contents writer.old) (W.contents writer.new) (answer_text answer.now) result }
 {
     let write = write_answer(answer, writer);
     match flushed(write, writer) {
-        Ok(()) => Ok(cause_of(answer)),
+        Ok(()) => Ok(matter_of(answer)),
         Err(fault) => Err(fault),
     }
 }
 
-// Does a task for a text: writes the answer, or the fault's line, and answers why the run went wrong, where it did.
+// Does a task for a text: writes the answer, or the fault's line, and answers what is left to be explained.
 #[tactic(auto, using(crate::proofs::Working::told_answer, crate::proofs::Working::told_fault))]
-fn tell<W: Write>(
-    alloc: Global,
-    task: &Task,
-    text: &[u8],
-    writer: &mut W,
-) -> Result<Option<Cause>, Fault>
+fn tell<W: Write>(alloc: Global, task: &Task, text: &[u8], writer: &mut W) -> Result<Matter, Fault>
     ensures { TellsOf task.now text.now (W.contents writer.old) (W.contents writer.new) result }
 {
     match answer_for(alloc, task, text) {
@@ -125,11 +127,11 @@ fn tell<W: Write>(
     }
 }
 
-/// A text as far as it was read, and what a task told of it: the fault, or why the run went wrong, where it did.
+/// A text as far as it was read, and what a task told of it: the fault, or what is left to be explained.
 #[derive(Drop)]
 pub(crate) struct Performed {
     pub(crate) text: Vec<u8>,
-    pub(crate) told: Result<Option<Cause>, Fault>,
+    pub(crate) told: Result<Matter, Fault>,
 }
 
 /// The text of a reader; where it can't be read, the fault's line is written.
@@ -174,8 +176,9 @@ fn try_perform<R: Read, W: Write>(
 fn explain<W: Write>(alloc: Global, task: &Task, performed: &Performed, writer: &mut W) {
     let text = performed.text.as_slice();
     let written = match &performed.told {
-        Ok(None) => explain_program(alloc, text, writer),
-        Ok(Some(cause)) => explain_wrong(alloc, task, text, *cause, writer),
+        Ok(Matter::Text) => explain_program(alloc, text, writer),
+        Ok(Matter::Wrong(cause)) => explain_wrong(alloc, task, text, *cause, writer),
+        Ok(Matter::Going) => explain_going(alloc, task, text, writer),
         Err(fault) => explain_fault(alloc, text, fault, writer),
     };
     let _ = written;
@@ -210,7 +213,8 @@ pub fn perform<H: AllocGlobal, R: Read, W: Write>(
 }
 
 /// Does a task as `perform` does, and writes to `explanations` what helps a person with a fault or with a run that went wrong: the
-/// place, as editors read it, what was found there and what was expected, and the line of the text; of another program what is warned of.
+/// place, as editors read it, what was found there and what was expected, and the line of the text; so of a checked image that has stopped
+/// in place; of another program what is warned of.
 /// Of a write to `writer` that fails it says so. Where memory for an explanation runs out, or it can not be written, there is none; the
 /// status is the same.
 #[tactic(auto, using(crate::proofs::Working::performed))]

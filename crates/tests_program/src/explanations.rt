@@ -95,7 +95,13 @@ fn explains_a_large_function<H: AllocGlobal>(rt: &H) -> bool {
     let mut reader = text.as_slice();
     let mut written = Vec::new(rt.alloc());
     let mut explained = Vec::new(rt.alloc());
-    let status = perform_and_explain(rt, Task::Asm(Kind::Plain), &mut reader, &mut written, &mut explained);
+    let status = perform_and_explain(
+        rt,
+        Task::Asm(Kind::Plain),
+        &mut reader,
+        &mut written,
+        &mut explained,
+    );
     let told = explained
         .as_slice()
         .starts_with(b"-:1:5: 'main' is too large to be compiled".as_slice());

@@ -17,6 +17,7 @@ Commands:
   run        Compile the program and run its image: print the words that it writes, and how it ends
   asm        Compile the program and list its image
   stages     Show what the compiler makes of each function, stage by stage
+  size       Say how much the program's image takes: its code, its globals, and a stack that is enough
   image      Compile the program and print its image as Intel HEX, or print that of a unit of a library
   source     Print the source of a unit of a library
   library    Keep compiled programs in a file that survives a power cut, by the commands of a script
@@ -33,8 +34,10 @@ Examples:
   cclib check < examples/quotient.c
   cclib interpret 1000 < examples/quotient.c
   cclib run 10000 2 104 105 < examples/checksum.c
+  cclib run --checked 10000 2 104 105 < examples/checksum.c
   cclib asm < examples/quotient.c
   cclib stages main < examples/quotient.c
+  cclib size < examples/quotient.c
   cclib image < examples/quotient.c > quotient.hex
   cclib library units.disk --format 65536 < examples/units.script
   cclib image units.disk sum > sum.hex

@@ -72,7 +72,13 @@ static TEXTS: [(&str, &str); 2] = [
 fn texts_of_images(rt: HostRuntime) {
     for (text, lines) in TEXTS.iter() {
         assert!(rt;
-            writes(&rt, Task::Image(Kind::Plain), text.as_bytes(), lines.as_bytes(), 0),
+            writes(
+                &rt,
+                Task::Image(Kind::Plain),
+                text.as_bytes(),
+                lines.as_bytes(),
+                0
+            ),
             "for {text}"
         );
     }

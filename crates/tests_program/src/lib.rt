@@ -4,6 +4,8 @@
 #![tactic(auto)]
 
 #[cfg(test)]
+mod checked;
+#[cfg(test)]
 mod descriptors;
 #[cfg(test)]
 mod explanations;
@@ -27,6 +29,8 @@ mod programs;
 mod refusals;
 #[cfg(test)]
 mod screens;
+#[cfg(test)]
+mod sizes;
 #[cfg(test)]
 mod spools;
 #[cfg(test)]

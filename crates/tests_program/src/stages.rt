@@ -54,7 +54,14 @@ fn show_stages<H: AllocGlobal>(rt: &H, text: &[u8], function: Option<&[u8]>) -> 
     let mut reader = text;
     let mut written = Vec::new(rt.alloc());
     let mut told = Vec::new(rt.alloc());
-    let status = perform_and_explain_stages(rt, Kind::Plain, function, &mut reader, &mut written, &mut told);
+    let status = perform_and_explain_stages(
+        rt,
+        Kind::Plain,
+        function,
+        &mut reader,
+        &mut written,
+        &mut told,
+    );
     Shown {
         status,
         written,

@@ -27,7 +27,9 @@ fn asks_to_interpret(
 
 fn asks_to_run(alloc: Global, words: &'static [&'static str], steps: u64, input: &[u32]) -> bool {
     match line(alloc, words) {
-        Ok(Work::One(Task::Run(Kind::Plain, found, given))) => { found == steps && given.as_slice() == input }
+        Ok(Work::One(Task::Run(Kind::Plain, found, given))) => {
+            found == steps && given.as_slice() == input
+        }
         other => {
             drop(other);
             false
@@ -102,7 +104,10 @@ fn tasks(rt: HostRuntime) {
 }
 
 fn asks_for_checked_run(alloc: Global, words: &'static [&'static str]) -> bool {
-    matches!(line(alloc, words), Ok(Work::One(Task::Run(Kind::Checked, 5, _))))
+    matches!(
+        line(alloc, words),
+        Ok(Work::One(Task::Run(Kind::Checked, 5, _)))
+    )
 }
 
 #[test]
@@ -112,6 +117,10 @@ fn checked_images(rt: HostRuntime) {
     assert!(rt; asks_for_checked_run(alloc, &["cclib", "run", "5", "--checked"]));
     let asked = line(alloc, &["cclib", "asm", "--checked"]);
     assert!(rt; matches!(asked, Ok(Work::One(Task::Asm(Kind::Checked)))));
+    let asked = line(alloc, &["cclib", "size", "--checked"]);
+    assert!(rt; matches!(asked, Ok(Work::One(Task::Size(Kind::Checked)))));
+    let asked = line(alloc, &["cclib", "size"]);
+    assert!(rt; matches!(asked, Ok(Work::One(Task::Size(Kind::Plain)))));
     let asked = line(alloc, &["cclib", "image", "--checked"]);
     assert!(rt; matches!(asked, Ok(Work::One(Task::Image(Kind::Checked)))));
     let asked = line(alloc, &["cclib", "stages", "--checked"]);
