@@ -11,7 +11,7 @@ use Rattle.cc_cminor.specs.Size.{statement_size, partial, partials, all_partials
 use Rattle.cc_rtl.specs.Size.{function_nodes}
 use Rattle.cc_rtl.proofs.Sizes.{nodes_few}
 use Rattle.cc_guard.specs.declared.known.Limit.{Limit}
-use Rattle.cc_guard.specs.Guard.{Guard, Put, Stop, StopBoth, Guarded, most, is_below, always, asked, reads_left, elements_in, waits_as, waiting, waiting_if, with_binary, with_test, bounded, indexed, first_index, stored_word, guards_then, guarded, guarded_all, guarded_code, has_guards, with_loop, guarded_function}
+use Rattle.cc_guard.specs.Guard.{Guard, Put, Stop, StopBoth, Guarded, most, is_below, always, asked, reads_left, elements_in, waits_as, waiting, waiting_if, with_binary, with_test, bounded, indexed, first_index, stored_word, guards_then, guarded, guarded_all, sets, kept, known_after, known_within, code_after, guarded_code, has_guards, with_loop, guarded_function}
 
 -- ---- guards
 
@@ -131,39 +131,39 @@ module _ (objects : List Size) where
       let s = both_nodes g.before (guarded_all objects g.known g.next es).before in
       omega arith
 
-  code_nodes : (n b : ℕ) (s : Statement) → statement_nodes (guarded_code objects n b s) ≤ statement_nodes s + 11 * code_partials s
-  code_nodes n b Skip = omega arith
-  code_nodes n b (Set x e) = let g = guarded objects [] n e in let a = (few e [] n).put in let c = then_nodes b g.before (Set x g.value) in omega arith
-  code_nodes n b (Store w o i e) =
-      let gi = first_index objects n w o i in
+  code_nodes : (n b : ℕ) (ks : List Limit) (s : Statement) → statement_nodes (code_after objects n ks b s) ≤ statement_nodes s + 11 * code_partials s
+  code_nodes n b ks Skip = omega arith
+  code_nodes n b ks (Set x e) = let g = guarded objects ks n e in let a = (few e ks n).put in let c = then_nodes b g.before (Set x g.value) in omega arith
+  code_nodes n b ks (Store w o i e) =
+      let gi = first_index objects ks n w o i in
       let ge = stored_word objects gi e in
-      let a = indexed_few (into_nodes i) (operand_nodes i) (partials i) [] w o i (guarded objects [] n i) (few i [] n) in
+      let a = indexed_few (into_nodes i) (operand_nodes i) (partials i) ks w o i (guarded objects ks n i) (few i ks n) in
       let d = (few e gi.known gi.next).used in
       let c = then_nodes b (gi.before ++ ge.before) (Store w o gi.value ge.value) in
       let s = both_nodes gi.before ge.before in
       omega arith
-  code_nodes n b (Call to f es) = let g = guarded_all objects [] n es in let a = all_few es [] n in let c = then_nodes b g.before (Call to f g.values) in omega arith
-  code_nodes n b (Read to) = omega arith
-  code_nodes n b (Write e) = let g = guarded objects [] n e in let a = (few e [] n).used in let c = then_nodes b g.before (Write g.value) in omega arith
-  code_nodes n b (Sequence s t) = let a = code_nodes n b s in let c = code_nodes n b t in omega arith
-  code_nodes n b (If e s t) =
-      let g = guarded objects [] n e in
-      let a = (few e [] n).used in
-      let c = code_nodes n b s in
-      let f = code_nodes n b t in
-      let d = then_nodes b g.before (If g.value (guarded_code objects n b s) (guarded_code objects n b t)) in
+  code_nodes n b ks (Call to f es) = let g = guarded_all objects ks n es in let a = all_few es ks n in let c = then_nodes b g.before (Call to f g.values) in omega arith
+  code_nodes n b ks (Read to) = omega arith
+  code_nodes n b ks (Write e) = let g = guarded objects ks n e in let a = (few e ks n).used in let c = then_nodes b g.before (Write g.value) in omega arith
+  code_nodes n b ks (Sequence s t) = let a = code_nodes n b ks s in let c = code_nodes n b (known_after objects n ks s) t in omega arith
+  code_nodes n b ks (If e s t) =
+      let g = guarded objects ks n e in
+      let a = (few e ks n).used in
+      let c = code_nodes n b (known_within objects n ks e) s in
+      let f = code_nodes n b (known_within objects n ks e) t in
+      let d = then_nodes b g.before (If g.value (code_after objects n (known_within objects n ks e) b s) (code_after objects n (known_within objects n ks e) b t)) in
       omega arith
-  code_nodes n b (Loop s) = let a = code_nodes n b s in omega arith
-  code_nodes n b (Block s) = code_nodes n (suc b) s
-  code_nodes n b (Exit k) = omega arith
-  code_nodes n b (Return e) = let g = guarded objects [] n e in let a = (few e [] n).used in let c = then_nodes b g.before (Return g.value) in omega arith
+  code_nodes n b ks (Loop s) = let a = code_nodes n b (kept n (sets s) ks) s in omega arith
+  code_nodes n b ks (Block s) = code_nodes n (suc b) ks s
+  code_nodes n b ks (Exit k) = omega arith
+  code_nodes n b ks (Return e) = let g = guarded objects ks n e in let a = (few e ks n).used in let c = then_nodes b g.before (Return g.value) in omega arith
 
   guarded_few : (n : ℕ) (s : Statement) → statement_nodes (guarded_function objects n s) ≤ statement_nodes s + 11 * code_partials s + 1
   guarded_few n s = by (has_guards objects n s)
     where
       by : (r : Bool) → statement_nodes (if r then with_loop (guarded_code objects n 0 s) else guarded_code objects n 0 s) ≤ statement_nodes s + 11 * code_partials s + 1
-      by true = let a = code_nodes n 0 s in omega arith
-      by false = let a = code_nodes n 0 s in omega arith
+      by true = let a = code_nodes n 0 [] s in omega arith
+      by false = let a = code_nodes n 0 [] s in omega arith
 
   -- so of at most t tokens, of which the code has at most 12 t statements and expressions and t operations, it has at most 23 t + 4 nodes
   pub guarded_nodes : (n t : ℕ) (s : Statement) → statement_size s ≤ 12 * t → code_partials s ≤ t → function_nodes (guarded_function objects n s) ≤ 23 * t + 4
