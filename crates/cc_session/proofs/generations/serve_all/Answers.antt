@@ -6,10 +6,13 @@ use Rattle.cc_session.proofs.generations.serve_all.Goals.{in-None, in-Some+then-
 use Rattle.cc_session.proofs.generations.serve_all.Goals as goal
 
 pub returns-then-not-is_well : goal.returns-then-not-is_well
-returns-then-not-is_well g c = record { generations = (zero, c.serve_quietly-left.ensures.answers) }
+returns-then-not-is_well g c = record {
+  generations = (zero, c.serve_quietly-left.ensures.answers);
+  over = λ finished. absurd (c.is_well.ensures.not c.if-not-is_well.true finished);
+}
 
 pub loop-init : goal.loop-init
-loop-init g c = (zero, c.serve_quietly-left.ensures.answers, c.is_well.ensures c.if-not-is_well.false)
+loop-init g c = (zero, c.serve_quietly-left.ensures.answers, c.is_well.ensures.well c.if-not-is_well.false)
 
 pub loop-preserved : goal.loop-preserved
 loop-preserved g c =
@@ -42,5 +45,9 @@ returns g c =
             let now = w.goes_on.new.left in
             rw w.left-is
             (so_far.0, serves_still Ends so_far.0 (map by c.args.spools.items) (map by left.spools.items) (map by now.spools.items) c.args.disk left.disk now.disk left.end now.end looked.spools looked.disk looked.end so_far.1)
+      ];
+      over = elim c.match-next.branch [
+        | in-None w ↦ ?
+        | in-Some+then-not-goes_on w ↦ rw w.left-is (w.goes_on.ensures.over w.if-not-goes_on.true)
       ];
     }
