@@ -3,8 +3,8 @@
 
 printed.py OLD NEW [TEXTS [SCRIPTS [SEED]]]: OLD and NEW are two programs. Of TEXTS texts (5,000) each is checked, interpreted, compiled and run,
 listed, made an image and shown stage by stage; SCRIPTS scripts (2,000) are done over a library in a file, each second one over the file that
-the one before left, and a tenth as many are sent to a server (`submit`), whole or by single lines. A third of the texts are random programs
-whose meaning the standard fixes (compare.py), a third are these with some bytes changed, left out or put in, the rest are rows of tokens.
+the one before left, and a tenth as many are sent to a server (`submit`), whole or by single lines. Half of the texts are random programs
+whose meaning the standard fixes (compare.py), a quarter are these with some bytes changed, left out or put in, the rest are rows of tokens.
 Scripts have all commands, wrong lines, and sources that are cut. What differs on standard output or in the status is printed, and the status
 is 1 then; how many explanations on standard error differ is only counted. TEXTS or SCRIPTS of 0 leave these out."""
 
@@ -56,15 +56,15 @@ class Maker:
         return frame.format(body).encode()
 
     def text(self):
-        way = self.random.randrange(30)
+        way = self.random.randrange(40)
         if way == 0:
             return self.random.choice([b"", b"\0", b"\xff\xfe", b"int main(void){}" + b" " * 65_520, b"int main(void){}" + b" " * 65_521, b"/" * 70_000])
-        if way < 10:
+        if way < 20:
             return self.program(self.random.randrange(1, 20))
-        return self.changed(self.program(self.random.randrange(1, 8))) if way < 20 else self.row()
+        return self.changed(self.program(self.random.randrange(1, 8))) if way < 30 else self.row()
 
     def name(self):
-        return self.random.choice("a b c d unit_1 z9".split() * 4 + ["", "A", "1", "x" * 32, "x" * 33, "a b", "\xe9"])
+        return self.random.choice("a a a b b c unit_1 z9".split() * 6 + ["", "A", "1", "x" * 32, "x" * 33, "a b", "\xe9"])
 
     def small(self):
         return self.random.choice([
@@ -72,18 +72,18 @@ class Maker:
             b"int a[4]={1,2,3};int f(int x){return x*3;}int main(void){int i=0;while(i<4){write_word(f(a[i]));i++;}return f(2);}",
             b"int main(void){return read_word();}", b"int main(void){while(1){}}", b"int main(void){write_word(7/0);return 1;}", b"int main(void){a=1;}", b"fault 1 x\n", b"",
             b"unsigned char c[5]={300};int main(void){c[2]=c[0];return c[2];}",
-        ] + [self.text()[:4000]])
+        ] * 2 + [self.text()[:4000]])
 
     def line(self):
         """A command: its line, and the source that comes after it, if one does."""
-        way = self.random.randrange(16)
-        if way < 6:
+        way = self.random.randrange(18)
+        if way < 8:
             return f"{self.random.choice(['add', 'add', 'replace'])} {self.name()}", self.small()
-        if way == 6:
+        if way == 8:
             return f"withdraw {self.name()}", None
-        if way < 9:
+        if way < 12:
             return f"run {self.name()} {self.random.choice([0, 1, 100, 10000])}", None
-        return self.random.choice(["list", "list", "compact", "audit", f"image {self.name()}", f"source {self.name()}", f"source {self.name()}",
+        return self.random.choice([*["list", "compact", "audit", f"image {self.name()}", f"source {self.name()}"] * 4,
                                    "", "nothing", "add a", "run a", "run a -1", "list a", "add a x", "x" * 130]), None
 
     def script(self):
@@ -133,7 +133,7 @@ def scripts(programs, count, seed, found, work):
         maker = Maker(-seed * 1_000_003 - at)
         text, options = maker.script(), []
         if at % 2 == 0:
-            options = ["--format", str(maker.random.choice([64, 300, 2000, 65536]))]
+            options = ["--format", str(maker.random.choice([64, 300, 5000, 65536, 65536]))]
             for it in (0, 1):
                 if os.path.exists(f"{work}/{it}"):
                     os.remove(f"{work}/{it}")

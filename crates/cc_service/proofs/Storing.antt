@@ -1,5 +1,5 @@
 -- A change that was answered is the newest entry of the book that was under the lock, and on its disk.
-use Rattle.std.proofs.Common.{◌≡◌, ◌⊎◌, inl, inr, ℕ, ◌+◌, ◌-◌, ◌==◌, false, IfOk, IsTrue, List, [], ◌∷◌, ◌++◌, length, None, Option, Some, Result, Ok, Err, refl, sym, ap, ◌∙◌, subst, arith}
+use Rattle.std.proofs.Common.{◌≡◌, ◌⊎◌, inl, inr, ℕ, ◌+◌, ◌-◌, IfOk, List, [], ◌∷◌, ◌++◌, length, None, Some, Result, Ok, Err, refl, ap, ◌∙◌, subst, arith}
 use Rattle.std.specs.Prelude.{cond, slice_get}
 use Rattle.std.proofs.lemmas.Bool.{ne_eqb}
 use Rattle.cc_disk.specs.declared.disk.Disk.{Ghosts}

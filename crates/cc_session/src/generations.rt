@@ -161,7 +161,7 @@ where
     let mut pause = 0;
     for _ in rt.forever() {
         if !goes_on(rt, &mut left, &mut pause, explanations) {
-            break;
+            return left;
         }
         let Served {
             disk,
@@ -180,7 +180,7 @@ where
             steward,
         );
     }
-    left
+    unreachable!()
 }
 
 /// Serves as `serve` does, one generation behind the other, until each spool is over or a service ends by a fault. A generation begins with
