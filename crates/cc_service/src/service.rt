@@ -12,6 +12,7 @@ ghost use Rattle.cc_recorded.specs.Opened.{IsOpened};
 ghost use Rattle.cc_recorded.specs.Promise.{IsGivenUp, IsSound};
 ghost use Rattle.cc_recorded.specs.Since.{IsPast};
 ghost use Rattle.cc_service.specs.Serving.{Adds, GetAnswers, IsNotCompacted, IsNotEnded, IsNotOpened, IsNotStarted, IsOf, IsTurnedAway, ListAnswers, PutAnswers, Puts, Replaces, WithdrawAnswers};
+ghost use Rattle.cc_service.specs.Stored.{IsStored};
 ghost use Rattle.cc_recorded.specs.Answers.{IsLook};
 ghost use Rattle.cc_service.specs.internal.Under.{IsSeen, MakesAnswers};
 ghost use Rattle.cc_recorded.specs.declared.fault.BookFault.{BookFault};
@@ -212,6 +213,7 @@ impl<N: Named + Send + Sync + 'static, D: Disk> Service<N, D> {
         source: &[u8],
     ) -> Result<Receipt, ServiceFault>
         ensures answers { PutAnswers (Puts put name.now source.now) name.now source.now client.old.member client.new.member result }
+        ensures stored { IfOk result (λ receipt. IsStored D.Disk N.base N.from N.left receipt) }
         ensures sent { HasSentFor source.now client.old.sent client.new.sent }
     {
         let Ok(name) = Name::new(name) else {
@@ -260,6 +262,7 @@ impl<N: Named + Send + Sync + 'static, D: Disk> Service<N, D> {
     ) -> Result<Receipt, ServiceFault>
         // Of a `put` of its text.
         ensures answers { PutAnswers (Puts put name.now prepared) name.now prepared client.old.member client.new.member result }
+        ensures stored { IfOk result (λ receipt. IsStored D.Disk N.base N.from N.left receipt) }
         ensures past_text { IfErr result (λ fault. IsPastText fault) }
         ensures sent { client.new.sent ≡ client.old.sent }
     {
@@ -282,6 +285,7 @@ impl<N: Named + Send + Sync + 'static, D: Disk> Service<N, D> {
     ) -> Result<Receipt, ServiceFault>
         requires named { IsTrue (is_name name) }
         ensures answers { PutAnswers (Puts put name prepared) name prepared client.old.member client.new.member result }
+        ensures stored { IfOk result (λ receipt. IsStored D.Disk N.base N.from N.left receipt) }
         ensures past_text { IfErr result (λ fault. IsPastText fault) }
         ensures sent { client.new.sent ≡ client.old.sent }
     {
@@ -303,6 +307,7 @@ impl<N: Named + Send + Sync + 'static, D: Disk> Service<N, D> {
     ) -> Result<Receipt, ServiceFault>
         requires named { IsTrue (is_name name) }
         ensures answers { PutAnswers (Puts put name prepared) name prepared client.old.member client.new.member result }
+        ensures stored { IfOk result (λ receipt. IsStored D.Disk N.base N.from N.left receipt) }
         ensures past_text { IfErr result (λ fault. IsPastText fault) }
         ensures sent { client.new.sent ≡ client.old.sent }
     {
@@ -328,6 +333,7 @@ impl<N: Named + Send + Sync + 'static, D: Disk> Service<N, D> {
         source: &[u8],
     ) -> Result<Receipt, ServiceFault>
         ensures answers { PutAnswers (Adds name.now source.now) name.now source.now client.old.member client.new.member result }
+        ensures stored { IfOk result (λ receipt. IsStored D.Disk N.base N.from N.left receipt) }
         ensures sent { HasSentFor source.now client.old.sent client.new.sent }
     {
         self.put(rt, alloc, client, Put::Add, name, source)
@@ -343,6 +349,7 @@ impl<N: Named + Send + Sync + 'static, D: Disk> Service<N, D> {
         source: &[u8],
     ) -> Result<Receipt, ServiceFault>
         ensures answers { PutAnswers (Replaces name.now source.now) name.now source.now client.old.member client.new.member result }
+        ensures stored { IfOk result (λ receipt. IsStored D.Disk N.base N.from N.left receipt) }
         ensures sent { HasSentFor source.now client.old.sent client.new.sent }
     {
         self.put(rt, alloc, client, Put::Replace, name, source)
@@ -360,6 +367,7 @@ impl<N: Named + Send + Sync + 'static, D: Disk> Service<N, D> {
         name: &[u8],
     ) -> Result<Receipt, ServiceFault>
         ensures answers { WithdrawAnswers name.now client.old.member client.new.member result }
+        ensures stored { IfOk result (λ receipt. IsStored D.Disk N.base N.from N.left receipt) }
         ensures sent { client.new.sent ≡ client.old.sent }
     {
         let Ok(name) = Name::new(name) else {
@@ -377,9 +385,13 @@ impl<N: Named + Send + Sync + 'static, D: Disk> Service<N, D> {
         command: Command,
     ) -> Result<Receipt, ServiceFault>
         ensures answers { MakesAnswers command client.old.member client.new.member result }
+        ensures stored { IfOk result (λ receipt. IsStored D.Disk N.base N.from N.left receipt) }
         ensures sent { client.new.sent ≡ client.old.sent }
     {
-        let answer = client.change(alloc, &mut self.book.lock(rt), command);
+        let mut book = self.book.lock(rt);
+        let answer = client.change(alloc, &mut book, command);
+        book.survives();
+        drop(book);
         match answer {
             Ok(receipt) => Ok(receipt),
             Err(fault) => Err(ServiceFault::Book(fault)),

@@ -1,6 +1,6 @@
 // Serving on and on: each generation is one service, and the next begins with the disk and the spools that it left.
 
-ghost use Rattle.std.specs.Prelude.{◌≡◌, ◌≤◌, ℕ, zero, suc, true, map};
+ghost use Rattle.std.specs.Prelude.{◌≡◌, ◌≢◌, ◌≤◌, ℕ, All, zero, suc, true, false, map};
 ghost use Rattle.cc_session.specs.Generations.{GoesOn, ServesOn};
 ghost use Rattle.cc_session.specs.declared.end.SessionEnd.TheVariants.{Finished};
 ghost use Rattle.cc_session.specs.Spooling.{ServingEnds, given_by};
@@ -27,7 +27,8 @@ const MOST_PAUSE: u64 = 60;
 
 // Whether each spool is over.
 fn are_over<S: Spool>(spools: &mut [S]) -> bool
-    ensures { map (given_by S.taken S.ended) spools.new ≡ map (given_by S.taken S.ended) spools.old }
+    ensures over { result ≡ true → All S.over spools.new }
+    ensures spools { map (given_by S.taken S.ended) spools.new ≡ map (given_by S.taken S.ended) spools.old }
 {
     for i in 0..spools.len() {
         if !spools[i].is_over() {
@@ -39,7 +40,8 @@ fn are_over<S: Spool>(spools: &mut [S]) -> bool
 
 // Waits for so many seconds, or until each spool is over; whether it is.
 fn rest<H: Clock, S: Spool>(rt: &H, seconds: u64, spools: &mut [S]) -> bool
-    ensures { map (given_by S.taken S.ended) spools.new ≡ map (given_by S.taken S.ended) spools.old }
+    ensures over { result ≡ true → All S.over spools.new }
+    ensures spools { map (given_by S.taken S.ended) spools.new ≡ map (given_by S.taken S.ended) spools.old }
 {
     for _ in 0..seconds {
         if are_over(spools) {
@@ -52,7 +54,8 @@ fn rest<H: Clock, S: Spool>(rt: &H, seconds: u64, spools: &mut [S]) -> bool
 
 // Whether the first generation ended so that a next one may begin.
 fn is_well(end: SessionEnd) -> bool
-    ensures { result ≡ true → GoesOn zero end }
+    ensures well { result ≡ true → GoesOn zero end }
+    ensures not { result ≡ false → end ≢ Finished }
 {
     match end {
         SessionEnd::Finished => true,
@@ -62,7 +65,8 @@ fn is_well(end: SessionEnd) -> bool
 
 // Whether a later one did: without a fault, or by one that may pass.
 fn may_pass(end: SessionEnd) -> bool
-    ensures { result ≡ true → GoesOn (suc zero) end }
+    ensures passes { result ≡ true → GoesOn (suc zero) end }
+    ensures not { result ≡ false → end ≢ Finished }
 {
     match end {
         SessionEnd::Finished => true,
@@ -104,6 +108,7 @@ fn goes_on<H: Clock, E: Write, D: Drop, S: Spool + Drop>(
     explanations: &mut E,
 ) -> bool
     ensures may { result ≡ true → GoesOn (suc zero) left.old.end }
+    ensures over { result ≡ false → left.new.end ≡ Finished → All S.over left.new.spools.items }
     ensures end { left.new.end ≡ left.old.end }
     ensures disk { left.new.disk ≡ left.old.disk }
     ensures spools { map (given_by S.taken S.ended) left.new.spools.items ≡ map (given_by S.taken S.ended) left.old.spools.items }
@@ -137,6 +142,7 @@ where
     requires few { workers ≤ 8 }
     ensures generations { (earlier : ℕ) × ServesOn (ServingEnds D.Disk) earlier
         (map (given_by S.taken S.ended) spools.items) (map (given_by S.taken S.ended) result.spools.items) disk result.disk result.end }
+    ensures over { result.end ≡ Finished → All S.over result.spools.items }
 {
     let mut left = serve_quietly(
         rt,
@@ -155,7 +161,7 @@ where
     let mut pause = 0;
     for _ in rt.forever() {
         if !goes_on(rt, &mut left, &mut pause, explanations) {
-            break;
+            return left;
         }
         let Served {
             disk,
@@ -174,7 +180,7 @@ where
             steward,
         );
     }
-    left
+    unreachable!()
 }
 
 /// Serves as `serve` does, one generation behind the other, until each spool is over or a service ends by a fault. A generation begins with
@@ -208,6 +214,8 @@ where
     requires few { workers ≤ 8 }
     ensures generations { (earlier : ℕ) × ServesOn (ServingEnds D.Disk) earlier
         (map (given_by S.taken S.ended) spools.items) (map (given_by S.taken S.ended) result.spools.items) disk result.disk result.end }
+    // If no fault ended it, each spool has said that it is over.
+    ensures over { result.end ≡ Finished → All S.over result.spools.items }
     // Nothing is written where no fault ended it.
     ensures still { result.end ≡ Finished → W.contents writer.new ≡ W.contents writer.old }
 {
