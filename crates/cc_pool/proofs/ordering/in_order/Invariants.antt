@@ -1,6 +1,5 @@
 use Rattle.std.proofs.Common.{◌≡◌, length}
 use Rattle.std.specs.Prelude.{All}
-use Rattle.cc_c_laws.specs.declared.mode.Mode.TheVariants.{Plain}
 use Rattle.cc_link.specs.Made.{IsCompiled}
 use Rattle.cc_link.specs.Pieces.{AreFromIn}
 use Rattle.cc_pool.proofs.ordering.in_order.Given as goal
@@ -9,6 +8,6 @@ use Rattle.cc_pool.proofs.ordering.in_order.Given as goal
 abbrev pub invariant-loop-function : goal.invariant-loop-function
 invariant-loop-function l = record {
   count : length l.pieces.items ≡ l.function;
-  own : AreFromIn Plain l.text 0 l.pieces.items;
+  own : AreFromIn l.mode l.text 0 l.pieces.items;
   compiled : All IsCompiled l.pieces.items;
 }
