@@ -7,11 +7,10 @@ use Rattle.cc_size.specs.declared.size.FunctionSize.{FunctionSize}
 use Rattle.cc_tasks.specs.Answer.{place_by}
 
 -- the place behind a function
-pub place_next : (sizes : List FunctionSize) (k : ℕ) (d : FunctionSize) → k < length sizes → get_or sizes k d ≡ d → place_by sizes (k + 1) ≡ place_by sizes k + 4 * d.words
-place_next sizes k d h e =
-    let more : take (k + 1) sizes ≡ take k sizes ++ d ∷ [] = take_more sizes k d h ∙ ap (λ (x : FunctionSize). take k sizes ++ x ∷ []) e in
-    let sum : sum_by (λ (s : FunctionSize). s.words) (take (k + 1) sizes) ≡ sum_by (λ (s : FunctionSize). s.words) (take k sizes) + d.words =
-    ap (sum_by (λ (s : FunctionSize). s.words)) more ∙ sum_by-append (λ (s : FunctionSize). s.words) (take k sizes) (d ∷ []) ∙ omega arith in
+pub place_next : (sizes : List FunctionSize) (k : ℕ) (d : FunctionSize) → k < length sizes → place_by sizes (k + 1) ≡ place_by sizes k + 4 * (get_or sizes k d).words
+place_next sizes k d h =
+    let sum : sum_by (λ (s : FunctionSize). s.words) (take (k + 1) sizes) ≡ sum_by (λ (s : FunctionSize). s.words) (take k sizes) + (get_or sizes k d).words =
+    ap (sum_by (λ (s : FunctionSize). s.words)) (take_more sizes k d h) ∙ sum_by-append (λ (s : FunctionSize). s.words) (take k sizes) (get_or sizes k d ∷ []) ∙ omega arith in
     omega (arith, sum)
 
 -- what is true of each place of a list, of one place more

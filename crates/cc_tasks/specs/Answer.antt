@@ -25,8 +25,8 @@ use Rattle.cc_task.specs.declared.task.Task.{Task}
 use Rattle.cc_task.specs.declared.task.Task.TheVariants.{Check, Interpret, Run, Asm, Image as ImageTask, Size}
 use Rattle.cc_tasks.specs.declared.answer.Answer.{Answer}
 use Rattle.cc_tasks.specs.declared.answer.Answer.TheVariants.{Accepted, Ran, Executed, Listed, Image as InHex, Sized as Measured}
-use Rattle.cc_tasks.specs.declared.measure.Measure.{Measure}
-use Rattle.cc_tasks.specs.declared.measure.SizedFunction.{SizedFunction}
+use Rattle.cc_tasks.specs.declared.sizing.Measure.{Measure}
+use Rattle.cc_tasks.specs.declared.sizing.SizedFunction.{SizedFunction}
 use Rattle.cc_tasks.specs.declared.fault.Fault.{Fault}
 use Rattle.cc_tasks.specs.declared.fault.Fault.TheVariants.{Text, Meaning, Piece, Link, UnknownFunction, OutOfMemory, Read, Write}
 

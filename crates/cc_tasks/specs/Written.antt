@@ -13,7 +13,6 @@ use Rattle.cc_meaning.specs.declared.outcome.Outcome.{Outcome}
 use Rattle.cc_rv32.specs.Listing.{hexadecimal, signed_text}
 use Rattle.cc_link.specs.Text.{text_fault_place}
 use Rattle.cc_answers.specs.Text.{line, words_text, run_text, fault_line, place_text, function_text}
-use Rattle.cc_size.specs.declared.size.FunctionSize.{FunctionSize}
 use Rattle.cc_size.specs.declared.size.UnitSize.{UnitSize}
 use Rattle.cc_task.specs.declared.task.Task.{Task}
 use Rattle.cc_tasks.specs.Answer.{Answers, IsRefused, mode_for}
@@ -21,9 +20,9 @@ use Rattle.cc_tasks.specs.Fault.{fault_number}
 use Rattle.cc_tasks.specs.Part.{part_fault_number}
 use Rattle.cc_tasks.specs.declared.answer.Answer.{Answer}
 use Rattle.cc_tasks.specs.declared.answer.Answer.TheVariants.{Accepted, Ran, Executed, Listed, Image, Sized}
-use Rattle.cc_tasks.specs.declared.measure.CyclicCall.{CyclicCall}
-use Rattle.cc_tasks.specs.declared.measure.Measure.{Measure}
-use Rattle.cc_tasks.specs.declared.measure.SizedFunction.{SizedFunction}
+use Rattle.cc_tasks.specs.declared.sizing.CyclicCall.{CyclicCall}
+use Rattle.cc_tasks.specs.declared.sizing.Measure.{Measure}
+use Rattle.cc_tasks.specs.declared.sizing.SizedFunction.{SizedFunction}
 use Rattle.cc_tasks.specs.declared.fault.Fault.{Fault}
 use Rattle.cc_tasks.specs.declared.part.PartFault.{PartFault}
 use Rattle.cc_tasks.specs.declared.fault.Fault.TheVariants.{Text, Meaning, Piece, Link, UnknownFunction, OutOfMemory, Read, Write}
@@ -47,15 +46,21 @@ stop_text (Wrong c) = line (codes "wrong " ++ cause_name c)
 abbrev pub outcome_text : Outcome → List ℕ
 outcome_text o = words_text o.output ++ stop_text o.stop
 
--- what a function of an image takes, behind its name and its place
+-- a function of an image: its name and its place; its words; its frame and the longest chain of calls from it
 abbrev pub name_text : List ℕ → List ℕ
 name_text name = name ++ codes " "
 
-abbrev pub takes_text : FunctionSize → List ℕ
-takes_text size = codes " " ++ decimal size.words ++ codes " words frame " ++ decimal size.frame ++ codes " calls " ++ decimal size.calls ++ codes "\n"
+abbrev pub place_of_text : (name : List ℕ) (address : ℕ) → List ℕ
+place_of_text name address = name_text name ++ hexadecimal 8 address
+
+abbrev pub words_of_text : ℕ → List ℕ
+words_of_text words = codes " " ++ decimal words ++ codes " words "
+
+abbrev pub frame_text : (frame calls : ℕ) → List ℕ
+frame_text frame calls = line (codes "frame " ++ decimal frame ++ codes " calls " ++ decimal calls)
 
 abbrev pub function_size_text : SizedFunction → List ℕ
-function_size_text it = name_text it.name.items ++ hexadecimal 8 it.address ++ takes_text it.size
+function_size_text it = place_of_text it.name.items it.address ++ words_of_text it.size.words ++ frame_text it.size.frame it.size.calls
 
 -- what the whole takes
 abbrev pub whole_size_text : UnitSize → List ℕ

@@ -1,6 +1,6 @@
 // The answer to a task for a text.
 
-ghost use Rattle.std.specs.Prelude.{ℕ, List, IfOk, IfErr};
+ghost use Rattle.std.specs.Prelude.{◌≡◌, ℕ, List, IfOk, IfErr};
 ghost use Rattle.cc_c_laws.specs.declared.mode.Mode.{Mode};
 ghost use Rattle.cc_c_laws.specs.declared.mode.Mode.TheVariants.{Plain};
 ghost use Rattle.cc_link.specs.Agree.{Agree, AgreeIn};
@@ -8,7 +8,7 @@ ghost use Rattle.cc_link.specs.Compile.{IsBuildRefusalIn};
 ghost use Rattle.cc_tasks.specs.Answer.{IsAccepted, IsRan, IsExecuted, IsListed, IsImage, IsMeasured, Answers, IsRefused, mode_of, mode_for};
 
 use super::fault::Fault;
-use super::measure::{Measure, measure};
+use super::sizing::{Measure, measured};
 use cc_answers::{ImageRun, run_image};
 use cc_hex::image::write;
 use cc_link::{BuildFault, CompiledUnit, Mode, compile_in, typed_unit};
@@ -152,7 +152,7 @@ fn sized(alloc: Global, mode: Mode, text: &[u8]) -> Result<Answer, Fault>
         Ok(sized) => sized,
         Err(fault) => return Err(fault_of_build(fault)),
     };
-    match measure(alloc, sized) {
+    match measured(alloc, sized) {
         Ok(measure) => Ok(Answer::Sized(measure)),
         Err(_) => Err(Fault::OutOfMemory),
     }

@@ -11,9 +11,9 @@
 mod answer;
 mod explain;
 mod fault;
-mod measure;
 mod part;
 mod recursion;
+mod sizing;
 mod source;
 mod stages;
 mod unknown;
@@ -21,7 +21,7 @@ mod work;
 
 pub use answer::{Answer, answer_for};
 pub use fault::Fault;
-pub use measure::{CyclicCall, Measure, SizedFunction};
 pub use part::{PartFault, part_in, take_out, write_part};
+pub use sizing::{CyclicCall, Measure, SizedFunction};
 pub use stages::{perform_and_explain_stages, perform_stages};
 pub use work::{perform, perform_and_explain};

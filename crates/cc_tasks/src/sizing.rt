@@ -8,7 +8,7 @@ ghost use Rattle.cc_ast.specs.Source.{source};
 ghost use Rattle.cc_rv32.specs.Listing.{hexadecimal, hexadecimal_digit};
 ghost use Rattle.cc_answers.specs.Text.{line};
 ghost use Rattle.cc_tasks.specs.Answer.{AreFunctions};
-ghost use Rattle.cc_tasks.specs.Written.{cycle_text, function_size_text, measure_text, name_text, takes_text, whole_size_text};
+ghost use Rattle.cc_tasks.specs.Written.{cycle_text, frame_text, function_size_text, measure_text, name_text, place_of_text, whole_size_text, words_of_text};
 
 use crate::recursion::recursions;
 use cc_emit::Piece;
@@ -107,7 +107,7 @@ fn cycles(
 }
 
 /// What an image takes, with the names and places of its functions.
-pub(crate) fn measure(alloc: Global, sized: Sized) -> Result<Measure, AllocError>
+pub(crate) fn measured(alloc: Global, sized: Sized) -> Result<Measure, AllocError>
     ensures sized { IfOk result (λ it. it.sized ≡ sized) }
     ensures functions { IfOk result (λ it. AreFunctions (source (arc_value sized.made.typed)) sized.size.functions.items it.functions.items) }
 {
@@ -164,20 +164,33 @@ fn write_name<W: Write>(name: &[u8], writer: &mut W) -> io::Result<()>
     writer.write_all(b" ")
 }
 
-fn write_takes<W: Write>(size: &FunctionSize, writer: &mut W) -> io::Result<()>
-    ensures { OnOk result (Appends (W.contents writer.old) (W.contents writer.new) (takes_text size.now)) }
+#[tactic(auto, using(cc_answers::proofs::Writing::written_on))]
+fn write_place<W: Write>(name: &[u8], address: u32, writer: &mut W) -> io::Result<()>
+    ensures { OnOk result (Appends (W.contents writer.old) (W.contents writer.new) (place_of_text name.now address)) }
 {
-    let (words, frame, calls) = (size.words, size.frame, size.calls);
-    writeln!(writer, " {words} words frame {frame} calls {calls}")
+    write_name(name, writer)?;
+    write_hexadecimal(address, writer)
+}
+
+fn write_words_of<W: Write>(words: usize, writer: &mut W) -> io::Result<()>
+    ensures { OnOk result (Appends (W.contents writer.old) (W.contents writer.new) (words_of_text words)) }
+{
+    write!(writer, " {words} words ")
+}
+
+fn write_frame<W: Write>(frame: u32, calls: u32, writer: &mut W) -> io::Result<()>
+    ensures { OnOk result (Appends (W.contents writer.old) (W.contents writer.new) (frame_text frame calls)) }
+{
+    writeln!(writer, "frame {frame} calls {calls}")
 }
 
 #[tactic(auto, using(cc_answers::proofs::Writing::written_third))]
 fn write_function<W: Write>(function: &SizedFunction, writer: &mut W) -> io::Result<()>
     ensures { OnOk result (Appends (W.contents writer.old) (W.contents writer.new) (function_size_text function.now)) }
 {
-    write_name(function.name.as_slice(), writer)?;
-    write_hexadecimal(function.address, writer)?;
-    write_takes(&function.size, writer)
+    write_place(function.name.as_slice(), function.address, writer)?;
+    write_words_of(function.size.words, writer)?;
+    write_frame(function.size.frame, function.size.calls, writer)
 }
 
 #[tactic(auto, using(cc_answers::proofs::Writing::one_more))]

@@ -9,7 +9,7 @@ ghost use Rattle.cc_tasks.specs.internal.Working.{Flushes, IsDoneFor, RefusesBy,
 use super::answer::{Answer, answer_for};
 use super::explain::{Matter, explain_fault, explain_going, explain_program, explain_wrong};
 use super::fault::Fault;
-use super::measure::write_measure;
+use super::sizing::write_measure;
 use super::source::read_source;
 use cc_answers::{write_run, write_words};
 use cc_meaning::{Cause, Outcome, Stop};
