@@ -17,4 +17,4 @@ pub use folder::{
     AnswerCounts, Keeper, NoFolder, Taken, count_all, no_folder, spools_of, take_to_serve,
     tell_generation, tell_kept,
 };
-pub use taking::take_out_of_file;
+pub use taking::{explain_part, take_out_of_file, write_found};

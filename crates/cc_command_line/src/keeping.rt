@@ -1,0 +1,222 @@
+// The commands that look into libraries in files: `call`, `diff` and `log`.
+
+ghost use Rattle.std.specs.Prelude.{◌≤◌, IfOk, IfSome};
+ghost use Rattle.cc_command_line.specs.Work.{IsAllowed};
+
+use crate::command_line::{STEPS_RULE, WORD_RULE, Work, words_in};
+use crate::library::{PATH_RULE, path_of};
+use crate::numbers::number_in;
+use cc_task::MOST_STEPS;
+use clap::error::ErrorKind;
+use clap::{Arg, ArgAction, ArgMatches, Command, Error};
+use std::alloc::{AllocError, Global};
+
+pub(crate) const COUNT: &str = "count";
+
+const LINES: &str = "lines";
+
+const LINES_RULE: &str = "with `--lines` the words come on standard input";
+
+// What a person reads below the words of `call`.
+const CALL_HELP: &str = "\
+What runs is the image that was stored: nothing is compiled.
+
+Example:
+  cclib call units.disk checksum 10000 2 104 105
+
+With `--lines` each line of standard input is the words of one run, and its answer ends with an empty line.";
+
+// The same of `diff`.
+const DIFF_HELP: &str = "\
+A line for each difference, in the order of the names: `left NAME` or `right NAME` if one library alone has the unit,
+else `source NAME`, `image NAME` and `certificate NAME`. Nothing is printed if both hold the same: status 0, else 1.";
+
+// The same of `log`.
+const LOG_HELP: &str = "\
+A line for each command since the last compaction: `K add NAME 801 120` with the bytes of the source and the words of
+the code, `K replace NAME 812 123` or `K withdraw NAME`. What command K stored: cclib source DISK NAME --at K";
+
+/// A unit of the library in a file, which is to be run.
+#[derive(Drop)]
+pub struct Calling {
+    /// The path of the file.
+    pub disk: String,
+    /// The name that the unit should have, as it was given.
+    pub name: String,
+    /// How many instructions a run may take at most.
+    pub steps: u64,
+    /// The words of the one run.
+    pub words: Vec<u32>,
+    /// Whether the words of one run after the other come on standard input, in place of these.
+    pub is_lines: bool,
+    /// Whether the instructions are counted.
+    pub is_counted: bool,
+}
+
+/// What is to be looked into.
+#[derive(Drop)]
+pub enum Keeping {
+    /// Run a unit.
+    Call(Calling),
+    /// Say where the libraries in two files differ.
+    Diff(String, String),
+    /// Say which commands a library has had, or those about one name.
+    Log(String, Option<String>),
+}
+
+// A word that has to be given.
+fn word<'a>(alloc: Global, name: &'static str, about: &'static str) -> Arg<'a> {
+    Arg::new(alloc, name).required(true).help(about)
+}
+
+// A word of the command line that is there or is not.
+pub(crate) fn flag<'a>(alloc: Global, name: &'static str, about: &'static str) -> Arg<'a> {
+    Arg::new(alloc, name)
+        .long(name)
+        .action(ArgAction::SetTrue)
+        .help(about)
+}
+
+/// The option for counting instructions.
+pub(crate) fn count_flag<'a>(alloc: Global) -> Arg<'a> {
+    flag(
+        alloc,
+        COUNT,
+        "Print the least number of instructions with that end",
+    )
+}
+
+/// The command `call` with its words.
+pub(crate) fn call_command<'a>(alloc: Global) -> Result<Command<'a>, AllocError> {
+    let steps = word(
+        alloc,
+        "STEPS",
+        "The most instructions that a run may take: 0 to 1000000000",
+    );
+    let words = Arg::new(alloc, "WORD")
+        .num_args(0..)
+        .allow_negative_numbers(true)
+        .help("The input words: 0 to 4294967295 each");
+    let lines = flag(
+        alloc,
+        LINES,
+        "Run it for each line of standard input, on the words of the line",
+    );
+    let begun = Command::new(alloc, "call")
+        .about("Run a unit of a library on input words")
+        .after_help(CALL_HELP)
+        .arg(word(alloc, "DISK", "The file that has the library"))?
+        .arg(word(alloc, "NAME", "The name of the unit"))?;
+    begun
+        .arg(steps.allow_negative_numbers(true))?
+        .arg(words)?
+        .arg(lines)?
+        .arg(count_flag(alloc))
+}
+
+/// The command `diff` with its words.
+pub(crate) fn diff_command<'a>(alloc: Global) -> Result<Command<'a>, AllocError> {
+    Command::new(alloc, "diff")
+        .about("Say where two libraries differ")
+        .after_help(DIFF_HELP)
+        .arg(word(alloc, "LEFT", "The file that has the one library"))?
+        .arg(word(alloc, "RIGHT", "The file that has the other"))
+}
+
+/// The command `log` with its words.
+pub(crate) fn log_command<'a>(alloc: Global) -> Result<Command<'a>, AllocError> {
+    let name = Arg::new(alloc, "NAME").help("Only what was done to the unit of this name");
+    Command::new(alloc, "log")
+        .about("Print what was added, replaced and withdrawn since the last compaction")
+        .after_help(LOG_HELP)
+        .arg(word(alloc, "DISK", "The file that has the library"))?
+        .arg(name)
+}
+
+// The error of clap for words of `call` that break this rule.
+fn refused_call(alloc: Global, rule: &'static str) -> Result<Error, AllocError> {
+    let mut part = call_command(alloc)?.bin_name("cclib call")?;
+    part.error(ErrorKind::ValueValidation, rule)
+}
+
+// The same of `diff`.
+fn refused_diff(alloc: Global, rule: &'static str) -> Result<Error, AllocError> {
+    let mut part = diff_command(alloc)?.bin_name("cclib diff")?;
+    part.error(ErrorKind::ValueValidation, rule)
+}
+
+// The same of `log`.
+fn refused_log(alloc: Global, rule: &'static str) -> Result<Error, AllocError> {
+    let mut part = log_command(alloc)?.bin_name("cclib log")?;
+    part.error(ErrorKind::ValueValidation, rule)
+}
+
+// The words of the one run, if they are words.
+fn call_words(alloc: Global, given: &ArgMatches<'_>) -> Result<Option<Vec<u32>>, AllocError> {
+    match given.get_strs("WORD") {
+        Some(texts) => words_in(alloc, texts),
+        None => Ok(Some(Vec::new(alloc))),
+    }
+}
+
+// How many instructions a run may take.
+fn call_steps(given: &ArgMatches<'_>) -> Option<u64>
+    ensures { IfSome result (λ steps. steps ≤ 1000000000) }
+{
+    number_in(given.get_str("STEPS").unwrap_or(""), 0, MOST_STEPS)
+}
+
+/// What `call` asks for.
+pub(crate) fn call_of(alloc: Global, given: &ArgMatches<'_>) -> Result<Work, Error>
+    ensures { IfOk result IsAllowed }
+{
+    let Some(steps) = call_steps(given) else {
+        return Err(refused_call(alloc, STEPS_RULE)?);
+    };
+    let Some(words) = call_words(alloc, given)? else {
+        return Err(refused_call(alloc, WORD_RULE)?);
+    };
+    let is_lines = given.get_flag(LINES);
+    if is_lines && !words.is_empty() {
+        return Err(refused_call(alloc, LINES_RULE)?);
+    }
+    let Some(disk) = path_of(alloc, given, "DISK")? else {
+        return Err(refused_call(alloc, PATH_RULE)?);
+    };
+    let name = String::from_str(alloc, given.get_str("NAME").unwrap_or(""))?;
+    Ok(Work::Keep(Keeping::Call(Calling {
+        disk,
+        name,
+        steps,
+        words,
+        is_lines,
+        is_counted: given.get_flag(COUNT),
+    })))
+}
+
+/// What `diff` asks for.
+pub(crate) fn diff_of(alloc: Global, given: &ArgMatches<'_>) -> Result<Work, Error>
+    ensures { IfOk result IsAllowed }
+{
+    let (Some(left), Some(right)) = (
+        path_of(alloc, given, "LEFT")?,
+        path_of(alloc, given, "RIGHT")?,
+    ) else {
+        return Err(refused_diff(alloc, PATH_RULE)?);
+    };
+    Ok(Work::Keep(Keeping::Diff(left, right)))
+}
+
+/// What `log` asks for.
+pub(crate) fn log_of(alloc: Global, given: &ArgMatches<'_>) -> Result<Work, Error>
+    ensures { IfOk result IsAllowed }
+{
+    let Some(disk) = path_of(alloc, given, "DISK")? else {
+        return Err(refused_log(alloc, PATH_RULE)?);
+    };
+    let name = match given.get_str("NAME") {
+        Some(name) => Some(String::from_str(alloc, name)?),
+        None => None,
+    };
+    Ok(Work::Keep(Keeping::Log(disk, name)))
+}

@@ -1,0 +1,4 @@
+-- Where two libraries differ, and why they are not compared.
+pub mod Diff
+-- What is written of that.
+pub mod Written
