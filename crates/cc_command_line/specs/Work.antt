@@ -4,7 +4,7 @@ use Rattle.cc_task.specs.Task.{IsWithinLimits}
 use Rattle.cc_command_line.specs.declared.command_line.Work.{Work}
 use Rattle.cc_command_line.specs.declared.command_line.Work.TheVariants.{One, Stages, TakeOut, Keep, Library, Serve, Submit}
 use Rattle.cc_command_line.specs.declared.keeping.Keeping.{Keeping}
-use Rattle.cc_command_line.specs.declared.keeping.Keeping.TheVariants.{Call, Diff, Log}
+use Rattle.cc_command_line.specs.declared.keeping.Keeping.TheVariants.{Call, Diff, Log, Restore}
 
 -- how many bytes an area may have, where one is to be made
 abbrev pub IsArea : Option ℕ → Type 0
@@ -21,6 +21,7 @@ abbrev pub IsBoundedLook : Keeping → Type 0
 IsBoundedLook (Call asked) = asked.steps ≤ 1000000000
 IsBoundedLook (Diff left right) = Unit {0}
 IsBoundedLook (Log disk name) = Unit {0}
+IsBoundedLook (Restore asked) = Unit {0}
 
 abbrev pub IsAllowed : Work → Type 0
 IsAllowed (One task) = IsWithinLimits task

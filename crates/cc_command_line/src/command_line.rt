@@ -174,6 +174,7 @@ fn command<'a>(alloc: Global) -> Result<Command<'a>, AllocError> {
     let whole = with_part(whole, call_command(alloc))?;
     let whole = with_part(whole, diff_command(alloc))?;
     let whole = with_part(whole, log_command(alloc))?;
+    let whole = with_part(whole, restore_command(alloc))?;
     let whole = with_part(whole, library_command(alloc))?;
     let whole = with_part(whole, serve_command(alloc))?;
     with_part(whole, submit_command(alloc))
@@ -273,6 +274,7 @@ fn work_of(alloc: Global, matches: &ArgMatches<'_>) -> Result<Work, Error>
         Some(("call", given)) => call_of(alloc, given),
         Some(("diff", given)) => diff_of(alloc, given),
         Some(("log", given)) => log_of(alloc, given),
+        Some(("restore", given)) => restore_of(alloc, given),
         Some(("library", given)) => library_of(alloc, given),
         Some(("serve", given)) => serve_of(alloc, given),
         Some(("submit", given)) => submit_of(alloc, given),

@@ -1,4 +1,4 @@
-// The commands that look into libraries in files: `call`, `diff` and `log`.
+// The commands that look into libraries in files, and go back in one: `call`, `diff`, `log` and `restore`.
 
 ghost use Rattle.std.specs.Prelude.{◌≤◌, IfOk, IfSome};
 ghost use Rattle.cc_command_line.specs.Work.{IsAllowed};
@@ -6,6 +6,7 @@ ghost use Rattle.cc_command_line.specs.Work.{IsAllowed};
 use crate::command_line::{STEPS_RULE, WORD_RULE, Work, words_in};
 use crate::library::{PATH_RULE, path_of};
 use crate::numbers::number_in;
+use crate::unit::{AT_RULE, MOST_COMMANDS};
 use cc_task::MOST_STEPS;
 use clap::error::ErrorKind;
 use clap::{Arg, ArgAction, ArgMatches, Command, Error};
@@ -36,6 +37,11 @@ const LOG_HELP: &str = "\
 A line for each command since the last compaction: `K add NAME 801 120` with the bytes of the source and the words of
 the code, `K replace NAME 812 123` or `K withdraw NAME`. What command K stored: cclib source DISK NAME --at K";
 
+// The same of `restore`.
+const RESTORE_HELP: &str = "\
+What is put back is the unit that command K of `cclib log DISK` stored under the name, to the byte: as an add where the
+name has no unit, else as a replace. A compaction, and `copy`, leave one add a unit, and so nothing to go back to.";
+
 /// A unit of the library in a file, which is to be run.
 #[derive(Drop)]
 pub struct Calling {
@@ -53,6 +59,17 @@ pub struct Calling {
     pub is_counted: bool,
 }
 
+/// What a command of the library in a file stored, which is to be put back.
+#[derive(Drop)]
+pub struct Restoring {
+    /// The path of the file.
+    pub disk: String,
+    /// The name under which it was stored, as it was given.
+    pub name: String,
+    /// The number of the command.
+    pub number: u64,
+}
+
 /// What is to be looked into.
 #[derive(Drop)]
 pub enum Keeping {
@@ -62,6 +79,8 @@ pub enum Keeping {
     Diff(String, String),
     /// Say which commands a library has had, or those about one name.
     Log(String, Option<String>),
+    /// Put back what a command stored.
+    Restore(Restoring),
 }
 
 // A word that has to be given.
@@ -133,6 +152,16 @@ pub(crate) fn log_command<'a>(alloc: Global) -> Result<Command<'a>, AllocError> 
         .arg(name)
 }
 
+/// The command `restore` with its words.
+pub(crate) fn restore_command<'a>(alloc: Global) -> Result<Command<'a>, AllocError> {
+    Command::new(alloc, "restore")
+        .about("Put back what a unit of a library was")
+        .after_help(RESTORE_HELP)
+        .arg(word(alloc, "DISK", "The file that has the library"))?
+        .arg(word(alloc, "NAME", "The name of the unit"))?
+        .arg(word(alloc, "K", "The number of the command that stored it"))
+}
+
 // The error of clap for words of `call` that break this rule.
 fn refused_call(alloc: Global, rule: &'static str) -> Result<Error, AllocError> {
     let mut part = call_command(alloc)?.bin_name("cclib call")?;
@@ -148,6 +177,12 @@ fn refused_diff(alloc: Global, rule: &'static str) -> Result<Error, AllocError> 
 // The same of `log`.
 fn refused_log(alloc: Global, rule: &'static str) -> Result<Error, AllocError> {
     let mut part = log_command(alloc)?.bin_name("cclib log")?;
+    part.error(ErrorKind::ValueValidation, rule)
+}
+
+// The same of `restore`.
+fn refused_restore(alloc: Global, rule: &'static str) -> Result<Error, AllocError> {
+    let mut part = restore_command(alloc)?.bin_name("cclib restore")?;
     part.error(ErrorKind::ValueValidation, rule)
 }
 
@@ -219,4 +254,18 @@ pub(crate) fn log_of(alloc: Global, given: &ArgMatches<'_>) -> Result<Work, Erro
         None => None,
     };
     Ok(Work::Keep(Keeping::Log(disk, name)))
+}
+
+/// What `restore` asks for.
+pub(crate) fn restore_of(alloc: Global, given: &ArgMatches<'_>) -> Result<Work, Error>
+    ensures { IfOk result IsAllowed }
+{
+    let Some(number) = number_in(given.get_str("K").unwrap_or(""), 1, MOST_COMMANDS) else {
+        return Err(refused_restore(alloc, AT_RULE)?);
+    };
+    let Some(disk) = path_of(alloc, given, "DISK")? else {
+        return Err(refused_restore(alloc, PATH_RULE)?);
+    };
+    let name = String::from_str(alloc, given.get_str("NAME").unwrap_or(""))?;
+    Ok(Work::Keep(Keeping::Restore(Restoring { disk, name, number })))
 }

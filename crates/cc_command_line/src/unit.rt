@@ -18,9 +18,9 @@ const NAME: &str = "NAME";
 const AT: &str = "at";
 
 /// The most commands of which a library can have the records.
-pub const MOST_COMMANDS: u64 = 1_073_741_824;
+pub(crate) const MOST_COMMANDS: u64 = 1_073_741_824;
 
-const AT_RULE: &str = "K is the number of a line of `cclib log DISK`, from 1 on";
+pub(crate) const AT_RULE: &str = "K is the number of a line of `cclib log DISK`, from 1 on";
 
 const BOTH_RULE: &str =
     "DISK and NAME go together; without both, the program comes on standard input: cclib image < FILE";

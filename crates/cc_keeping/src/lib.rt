@@ -1,8 +1,8 @@
-//! Looking into libraries in files: the commands `call`, `diff` and `log`, and `image` and `source` of what a command stored.
+//! Libraries in files: the commands `call`, `diff`, `log` and `restore`, and `image` and `source` of what a command stored.
 //!
 //! `calling` runs a unit, `comparing` says where two libraries differ, `logging` prints the commands of one, `past` has what one of them
-//! stored, `telling` writes and explains a fault. What these answer is proved in `cc_call`, `cc_diff` and `cc_log`; here are the files.
-//! Hands out `call_in_file`, `diff_files`, `log_of_file`, `take_out_of_past`, and the definitions that the contracts name (`specs/`).
+//! stored, `telling` writes and explains a fault. What these answer is proved in `cc_call`, `cc_diff`, `cc_log` and `cc_past`; here are the files.
+//! Hands out `call_in_file`, `diff_files`, `log_of_file`, `take_out_of_past` and `restore_in_file`.
 #![tactic(auto)]
 
 mod calling;
@@ -14,4 +14,4 @@ mod telling;
 pub use calling::call_in_file;
 pub use comparing::diff_files;
 pub use logging::log_of_file;
-pub use past::{part_at, take_out_of_past};
+pub use past::{restore_in_file, take_out_of_past};

@@ -1,6 +1,6 @@
 // The commands of a disk's records.
 
-ghost use Rattle.std.specs.Prelude.{◌≡◌, IsTrue, IfOk, IfErr};
+ghost use Rattle.std.specs.Prelude.{◌≡◌, IsTrue, IfOk, IfErr, OnOk};
 ghost use Rattle.cc_disk.specs.Images.{OnlyReads};
 ghost use Rattle.cc_library.specs.Answers.{OpenFaults, ReplayFaults};
 ghost use Rattle.cc_library.specs.Recovered.{AreSpelled};
@@ -51,6 +51,7 @@ pub fn commands_on<D: Disk + Drop>(
     // Of an honest disk.
     ensures commands { IfOk result.0 (λ commands. IsTrue D.honest → HasCommands (D.seen disk) commands.items) }
     ensures refused { IfErr result.0 (λ fault. OpenFaults D.honest (D.seen disk) (D.failures disk) (D.failures result.1) fault) }
+    ensures sound { OnOk result.0 (D.failures result.1 ≡ D.failures disk) }
     ensures reads { IsTrue D.honest → OnlyReads D.seen D.may_leave D.moment D.left_since disk result.1 }
 {
     match Log::open(alloc, disk) {

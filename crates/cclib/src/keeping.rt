@@ -2,7 +2,7 @@
 
 use cc_command_line::{Keeping, Wanted};
 use cc_filing::take_out_of_file;
-use cc_keeping::{call_in_file, diff_files, log_of_file, take_out_of_past};
+use cc_keeping::{call_in_file, diff_files, log_of_file, restore_in_file, take_out_of_past};
 use std::alloc::AllocError;
 use std::io::{Input, Print, Write};
 
@@ -40,5 +40,6 @@ pub fn look_into<R: AllocGlobal + Input + Print, E: Write + Drop>(
             };
             log_of_file(rt, files, disk.as_str(), name, is_quiet, errors)
         }
+        Keeping::Restore(asked) => restore_in_file(rt, files, asked, is_quiet, errors),
     }
 }

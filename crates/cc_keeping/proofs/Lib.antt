@@ -1,2 +1,0 @@
--- What is said of commands, said of the disk that has their records.
-pub mod Past

@@ -1,2 +1,0 @@
--- A part of what a command of a library stored.
-pub mod Past

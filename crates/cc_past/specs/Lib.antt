@@ -1,0 +1,4 @@
+-- What a command of a library stored, and why it stored nothing.
+pub mod Past
+-- What is put back.
+pub mod Restored
