@@ -38,7 +38,9 @@ Examples:
   cclib image units.disk sum > sum.hex
   cclib source units.disk sum
   cclib call units.disk sum 1000 4 5
-  cclib log units.disk
+  cclib diff units.disk backup.disk
+  cclib log units.disk sum
+  cclib restore units.disk sum 1
   cclib serve units.disk spool
   cclib submit spool add quotient < examples/quotient.c
 

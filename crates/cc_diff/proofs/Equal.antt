@@ -11,6 +11,7 @@ use Rattle.cc_rv32.specs.declared.image.Image.{Image}
 use Rattle.cc_unit.specs.declared.unit.StoredUnit.{StoredUnit}
 use Rattle.cc_library.specs.Apply.{Units}
 use Rattle.cc_diff.specs.declared.difference.Difference.{Difference}
+use Rattle.cc_diff.specs.declared.difference.Difference.TheVariants.{Source, Image as ImagePart, Certificate}
 use Rattle.cc_diff.specs.declared.difference.DiffLine.{DiffLine}
 use Rattle.cc_diff.specs.Diff.{HasNamesOf, is_same_certificate, is_same_image, lines_of, lines_of_both, unless}
 use Rattle.cc_diff.proofs.Names.{R, same_name}
@@ -78,17 +79,20 @@ no_line same name part e = ap (λ (b : Bool). unless b name part) e
 
 no_lines : (name : List ℕ) (a : Option StoredUnit) → lines_of name a a ≡ []
 no_lines name None = refl
-no_lines name (Some x) = λ i. no_line _ name _ (itself x.source) i ++ (no_line _ name _ (its_image x.image) i ++ no_line _ name _ (its_certificate x.certificate) i)
+no_lines name (Some x) =
+    λ i. no_line _ name Source (itself x.source) i ++ (no_line _ name ImagePart (its_image x.image) i ++ no_line _ name Certificate (its_certificate x.certificate) i)
 
 -- ---- all names
 
+none_here : {A : Type 0} (of : List ℕ → List A) (name q : List ℕ) (tie later : Bool) → eq_by_cmp R q name ≡ tie → of name ≡ [] → (later ≡ true → of q ≡ []) → (eq_by_cmp R q name || later) ≡ true → of q ≡ []
+none_here of name q true later e here there is = ap of (same_name q name e) ∙ here
+none_here of name q false later e here there is = there (sym (ap (λ (b : Bool). b || later) e) ∙ is)
+
 none_at : {A : Type 0} (of : List ℕ → List A) (names : List (List ℕ)) (q : List ℕ) → flat_map of names ≡ [] → list_any (eq_by_cmp R q) names ≡ true → of q ≡ []
 none_at of [] q e is = cc
-none_at of (name ∷ names) q e is = here (eq_by_cmp R q name) refl
-  where
-    here : (b : Bool) → eq_by_cmp R q name ≡ b → of q ≡ []
-    here true tie = ap of (same_name q name tie) ∙ first_none (of name) (flat_map of names) e
-    here false tie = none_at of names q (second_none (of name) (flat_map of names) e) (sym (ap (λ (b : Bool). b || list_any (eq_by_cmp R q) names) tie) ∙ is)
+none_at of (name ∷ names) q e is =
+    none_here of name q (eq_by_cmp R q name) (list_any (eq_by_cmp R q) names) refl (first_none (of name) (flat_map of names) e)
+    (λ there. none_at of names q (second_none (of name) (flat_map of names) e) there) is
 
 all_none : {A : Type 0} (of : List ℕ → List A) (names : List (List ℕ)) → ((q : List ℕ) → of q ≡ []) → flat_map of names ≡ []
 all_none of [] none = refl

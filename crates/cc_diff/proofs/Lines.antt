@@ -1,6 +1,6 @@
 -- Lines that are added one after the other.
-use Rattle.std.proofs.Common.{◌≡◌, ◌<◌, ℕ, ◌+◌, List, [], ◌∷◌, ◌++◌, length, take, get_or, Result, Ok, Err, OnOk, refl, sym, ap, ◌∙◌, append_assoc}
-use Rattle.std.proofs.lemmas.List.{flat_map_more, take_more}
+use Rattle.std.proofs.Common.{◌≡◌, ◌<◌, ◌≤◌, ℕ, ◌+◌, List, [], ◌∷◌, ◌++◌, length, take, get_or, Result, Ok, Err, OnOk, refl, sym, ap, ◌∙◌, append_assoc}
+use Rattle.std.proofs.lemmas.List.{flat_map_more, take_all, take_more}
 use Rattle.std.specs.List.{flat_map}
 
 -- three lists of lines
@@ -15,3 +15,7 @@ pub one_more : {A B : Type 0} (of : A → List B) (names : List A) (i : ℕ) (na
 one_more of names i name old new within is before added =
     let more : take i names ++ name ∷ [] ≡ take (i + 1) names = ap (λ x. take i names ++ x ∷ []) is ∙ sym (take_more names i name within) in
     added ∙ (ap (λ l. l ++ of name) before ∙ (flat_map_more of [] (take i names) name ∙ ap (flat_map of) more))
+
+-- the lines of all names
+pub all_lines : {A B : Type 0} (of : A → List B) (names keys : List A) (i : ℕ) (lines : List B) → lines ≡ flat_map of (take i names) → length names ≤ i → names ≡ keys → lines ≡ flat_map of keys
+all_lines of names keys i lines is past same = is ∙ ap (flat_map of) (take_all i names past ∙ same)

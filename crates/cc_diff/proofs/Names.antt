@@ -1,21 +1,22 @@
 -- The names of both maps: those of the left one, and those of the right one that were added so far.
-use Rattle.std.proofs.Common.{◌≡◌, ℕ, ◌+◌, ◌<◌, List, [], ◌∷◌, ◌++◌, length, take, drop, get_or, Bool, true, false, ◌||◌, refl, sym, ap, subst, ◌∙◌, cond, Option, Some, None, arith}
-use Rattle.std.specs.Prelude.{if◌then◌else◌, is_some, Result, Ok, Err}
+use Rattle.std.proofs.Common.{◌≡◌, ℕ, ◌+◌, ◌<◌, ◌≤◌, List, [], ◌∷◌, ◌++◌, length, take, drop, get_or, Bool, true, false, ◌||◌, refl, sym, ap, subst, ◌∙◌, cond, Option, Some, None, arith}
+use Rattle.std.specs.Prelude.{if◌then◌else◌, is_some, Result, Ok, Err, OnOk}
 use Rattle.std.specs.List.{list_any}
 use Rattle.std.specs.declared.cmp.Ordering.{Ordering}
 use Rattle.std.specs.declared.cmp.Ordering.TheVariants.{Equal}
 use Rattle.std.specs.Ordering.{nat_cmp, eq_by_cmp}
 use Rattle.std.specs.Cmp.{Equal-is}
 use Rattle.std.specs.Cmp.Lexicographic.{slice_cmp, nat_list_cmp_total}
-use Rattle.std.proofs.lemmas.List.{take-append-drop}
+use Rattle.std.proofs.lemmas.List.{take-append-drop, take_all}
 use Rattle.std.proofs.lemmas.Cmp.{eq_by_cmp_equiv}
 use Rattle.std.proofs.lemmas.List.Folds.{list_any_more, list_any-append}
 use Rattle.std.specs.FinMap as map
 use Rattle.cc_unit.specs.declared.unit.StoredUnit.{StoredUnit}
 use Rattle.cc_library.specs.declared.command.LibraryCommand.TheVariants.{Add}
-use Rattle.cc_library.specs.Apply.{Units, apply, after, kept, exists}
+use Rattle.cc_library.specs.Apply.{Units, after, kept, exists}
+use Rattle.cc_diff.specs.internal.Names.{HasNameToo}
 
-abbrev R : List ℕ → List ℕ → Ordering
+abbrev pub R : List ℕ → List ℕ → Ordering
 R = slice_cmp nat_cmp
 
 -- two names that tie are one
@@ -73,3 +74,23 @@ is_key units names i name keys within is =
 pub one_more : (left has tie so_far more : Bool) → has ≡ (left || so_far) → more ≡ (so_far || tie) → (has || tie) ≡ (left || more)
 one_more true has tie so_far more is next = ap (λ b. b || tie) is
 one_more false has tie so_far more is next = ap (λ b. b || tie) is ∙ sym next
+
+pub added_on : {T E : Type 0} (answer : Result T E) (old new : Units) (name : List ℕ) (unit : StoredUnit) → OnOk answer (new ≡ after old (Add name unit)) → OnOk answer (HasNameToo old name new)
+added_on (Err e) old new name unit is = tt
+added_on (Ok done) old new name unit is = record { has = λ q. ap (λ (m : Units). map.contains_key m q) is ∙ with_name old name unit q }
+
+-- of a map whose names are those of the left one, and those of the right one so far
+pub named : (left both new : Units) (names : List (List ℕ)) (i : ℕ) (name : List ℕ) → i < length names → name ≡ get_or names i name → HasNameToo both name new
+    → ((q : List ℕ) → map.contains_key both q ≡ (map.contains_key left q || list_any (eq_by_cmp R q) (take i names)))
+    → (q : List ℕ) → map.contains_key new q ≡ (map.contains_key left q || list_any (eq_by_cmp R q) (take (i + 1) names))
+named left both new names i name within is too before q =
+    too.has q ∙ one_more (map.contains_key left q) (map.contains_key both q) (eq_by_cmp R q name) (list_any (eq_by_cmp R q) (take i names)) (list_any (eq_by_cmp R q) (take (i + 1) names)) (before q)
+    (list_any_more (eq_by_cmp R q) names i name within ∙ ap (λ (n : List ℕ). list_any (eq_by_cmp R q) (take i names) || eq_by_cmp R q n) (sym is))
+
+-- all names of the right map
+pub all_named : (left right both : Units) (names : List (List ℕ)) (i : ℕ) → names ≡ map.keys right → length names ≤ i
+    → ((q : List ℕ) → map.contains_key both q ≡ (map.contains_key left q || list_any (eq_by_cmp R q) (take i names)))
+    → (q : List ℕ) → map.contains_key both q ≡ (map.contains_key left q || map.contains_key right q)
+all_named left right both names i keys past before q =
+    let whole : take i names ≡ map.keys right = take_all i names past ∙ keys in
+    before q ∙ ap (λ (b : Bool). map.contains_key left q || b) (ap (list_any (eq_by_cmp R q)) whole ∙ sym (map.contains_key-keys right q))

@@ -2,3 +2,5 @@
 pub mod Diff
 -- What is written of that.
 pub mod Written
+-- What only private contracts speak of.
+pub mod internal

@@ -1,6 +1,6 @@
 // How the units of one name differ.
 
-ghost use Rattle.std.specs.Prelude.{◌≡◌, ◌++◌, OnOk, option_map};
+ghost use Rattle.std.specs.Prelude.{◌≡◌, ◌++◌, false, OnOk, option_map};
 ghost use Rattle.std.specs.Arc.{arc_value};
 ghost use Rattle.cc_diff.specs.Diff.{is_same_certificate, is_same_image, lines_of, lines_of_both, unless};
 ghost use Rattle.std.specs.Str.{bytes_eq};

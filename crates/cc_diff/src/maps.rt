@@ -1,29 +1,40 @@
 // Where two maps differ.
 
-ghost use Rattle.std.specs.Prelude.{◌≡◌, ◌↔◌, ◌||◌, ℕ, List, [], IsTrue, IfOk, OnOk};
-ghost use Rattle.std.specs.Ordering.{eq_by_cmp, nat_cmp};
-ghost use Rattle.std.specs.Cmp.Lexicographic.{slice_cmp};
+ghost use Rattle.std.specs.Prelude.{◌≡◌, ◌↔◌, [], true, IfOk, OnOk};
+ghost use Rattle.std.specs.Arc.{arc_value};
 ghost use Rattle.std.specs.FinMap as map;
+ghost use Rattle.cc_library.specs.Apply.{after};
+ghost use Rattle.cc_library.specs.declared.command.LibraryCommand.TheVariants as command;
+ghost use Rattle.cc_diff.specs.internal.Names.{HasNameToo};
 ghost use Rattle.cc_diff.specs.Diff.{HasNamesOf, IsDiff};
 
 use crate::difference::{DiffLine, push_lines};
 use cc_library::{LibraryCommand, Name, SharedUnit, UnitMap};
+use cc_unit::StoredUnit;
 use std::alloc::{AllocError, Global};
 use std::sync::Arc;
 
-// The map with the unit of this name in the other one too, if it has none of that name.
-fn add_name(both: &mut UnitMap, other: &UnitMap, name: &Name) -> Result<(), AllocError>
-    requires there { IsTrue (map.contains_key other.now name.now) }
-    ensures added { OnOk result ((q : List ℕ) → map.contains_key both.new q ≡ (map.contains_key both.old q || eq_by_cmp (slice_cmp nat_cmp) q name.now)) }
+// The map with this unit under this name, if it has none there.
+fn add(both: &mut UnitMap, name: &Name, unit: &Arc<StoredUnit>) -> Result<(), AllocError>
+    ensures { OnOk result (both.new ≡ after both.old (command.Add name.now (arc_value unit.now))) }
 {
-    if let Some(unit) = other.get(name) {
-        let unit = SharedUnit::new(Arc::try_clone(unit)?);
-        let command = LibraryCommand::Add(name.clone()?, unit);
-        let answer = both.apply(&command);
-        drop(command);
-        return answer;
+    let unit = SharedUnit::new(Arc::try_clone(unit)?);
+    let command = LibraryCommand::Add(name.clone()?, unit);
+    let answer = both.apply(&command);
+    drop(command);
+    answer
+}
+
+// The map with the unit that the other one has under this name, if it has none there.
+#[tactic(auto, using(crate::proofs::Names::added_on))]
+fn add_name(both: &mut UnitMap, other: &UnitMap, name: &Name) -> Result<(), AllocError>
+    requires { map.contains_key other.now name.now ≡ true }
+    ensures { OnOk result (HasNameToo both.old name.now both.new) }
+{
+    match other.get(name) {
+        Some(unit) => add(both, name, unit),
+        None => Ok(()),
     }
-    Ok(())
 }
 
 // A map with the names of both.

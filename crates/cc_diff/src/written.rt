@@ -31,6 +31,7 @@ fn write_line<W: Write>(line: &DiffLine, writer: &mut W) -> io::Result<()>
 }
 
 /// Writes each line: what differs, and the name.
+#[tactic(auto, using(cc_answers::proofs::Writing::one_more))]
 pub fn write_diff<W: Write>(lines: &[DiffLine], writer: &mut W) -> io::Result<()>
     ensures { OnOk result (Appends (W.contents writer.old) (W.contents writer.new) (diff_text lines.now)) }
 {

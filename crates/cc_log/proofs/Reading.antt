@@ -1,7 +1,7 @@
 -- Bodies spell one list of commands at most, and one more body spells one more command.
-use Rattle.std.proofs.Common.{◌≡◌, ℕ, suc, ◌+◌, ◌<◌, List, [], ◌∷◌, ◌++◌, length, take, drop, get_or, refl, sym, ap, subst, ◌∙◌, Some, None, arith}
+use Rattle.std.proofs.Common.{◌≡◌, ℕ, zero, suc, ◌+◌, ◌<◌, List, [], ◌∷◌, ◌++◌, length, take, drop, get_or, refl, sym, ap, subst, ◌∙◌, Some, None, arith}
 use Rattle.std.specs.FinMap.{empty}
-use Rattle.std.specs.Prelude.{Err, Option}
+use Rattle.std.specs.Prelude.{Result, Ok, Err, IfOk, IfErr}
 use Rattle.std.proofs.lemmas.List.{take_more, take_all}
 use Rattle.std.proofs.lemmas.Option.{none-some}
 use Rattle.cc_library.specs.declared.command.LibraryCommand.{LibraryCommand}
@@ -35,7 +35,7 @@ spelled_more bodies i body commands command within is so_far one =
 pub spelled_at : (bodies : List (List ℕ)) (commands : List LibraryCommand) (i : ℕ) (body : List ℕ) → i < length bodies → body ≡ get_or bodies i body → AreSpelled bodies commands → (command : LibraryCommand) × Spells body command
 spelled_at [] commands i body within is spelled = absurd (omega arith)
 spelled_at (b ∷ bodies) [] i body within is spelled = absurd spelled
-spelled_at (b ∷ bodies) (c ∷ commands) 0 body within is spelled = (c, subst (λ (x : List ℕ). Spells x c) (sym is) spelled.0)
+spelled_at (b ∷ bodies) (c ∷ commands) zero body within is spelled = (c, subst (λ (x : List ℕ). Spells x c) (sym is) spelled.0)
 spelled_at (b ∷ bodies) (c ∷ commands) (suc i) body within is spelled = spelled_at bodies commands i body (omega arith) is spelled.1
 
 -- bodies of which one is read as no command spell none
@@ -69,3 +69,13 @@ unread_stand bodies Exists why = why
 unread_stand bodies Absent why = why
 unread_stand bodies Full why = why
 unread_stand bodies Closed why = why
+
+-- what is said of each answer
+pub of_ok : {A F : Type 0} {P Q : A → Type 0} → ((a : A) → P a → Q a) → (r : Result A F) → IfOk r P → IfOk r Q
+of_ok step (Ok a) p = step a p
+of_ok step (Err f) p = tt
+
+-- and of each refusal
+pub of_err : {A F : Type 0} {P Q : F → Type 0} → ((f : F) → P f → Q f) → (r : Result A F) → IfErr r P → IfErr r Q
+of_err step (Ok a) p = tt
+of_err step (Err f) p = step f p

@@ -3,7 +3,7 @@
 // A machine tells what its run has come to, and not when. So one machine goes on in slices, up to the slice in which its run ends; a second one
 // goes as far at once, and then instruction by instruction.
 
-ghost use Rattle.std.specs.Prelude.{◌≡◌, ◌≤◌, IfOk};
+ghost use Rattle.std.specs.Prelude.{◌≡◌, ◌≤◌, true, IfOk, Some};
 ghost use Rattle.cc_rv32.specs.Machine.{machine_behavior};
 ghost use Rattle.cc_rv32.specs.declared.outcome.MachineOutcome.{MachineOutcome as Outcome};
 ghost use Rattle.cc_rv32.specs.declared.outcome.MachineOutcome.TheVariants.{Going};

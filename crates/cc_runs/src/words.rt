@@ -1,7 +1,8 @@
 // The input words that a line of text has.
 
 ghost use Rattle.std.specs.Prelude.{◌≡◌, ◌<◌, IfOk, IfSome, length, option_map};
-ghost use Rattle.cc_runs.specs.Words.{input_in, word_in};
+ghost use Rattle.cc_script.specs.Line.{number_in, words};
+ghost use Rattle.cc_runs.specs.Words.{input_in};
 ghost use Rattle.cc_runs.specs.internal.Cutting.{words_behind};
 
 use std::alloc::{AllocError, Global};
@@ -24,7 +25,7 @@ fn cut(line: &[u8]) -> (&[u8], Option<&[u8]>)
 
 // The word of these digits, if they are one's.
 fn word_in(bytes: &[u8]) -> Option<u32>
-    ensures { result ≡ word_in bytes.now }
+    ensures { result ≡ number_in 10 4294967295 bytes.now }
 {
     if bytes.is_empty() || bytes.len() > MOST_DIGITS {
         return None;
