@@ -4,7 +4,7 @@ use Rattle.cc_task.specs.Task.{IsWithinLimits}
 use Rattle.cc_command_line.specs.declared.command_line.Work.{Work}
 use Rattle.cc_command_line.specs.declared.command_line.Work.TheVariants.{One, Stages, TakeOut, Keep, Library, Serve, Submit}
 use Rattle.cc_command_line.specs.declared.keeping.Keeping.{Keeping}
-use Rattle.cc_command_line.specs.declared.keeping.Keeping.TheVariants.{Call, Diff, Log, Restore}
+use Rattle.cc_command_line.specs.declared.keeping.Keeping.TheVariants.{Call, Diff, Log, Restore, Copy}
 
 -- how many bytes an area may have, where one is to be made
 abbrev pub IsArea : Option ℕ → Type 0
@@ -16,12 +16,13 @@ abbrev pub IsWait : Option ℕ → Type 0
 IsWait None = Unit {0}
 IsWait (Some seconds) = (1 ≤ seconds) × (seconds ≤ 86400)
 
--- what looks into libraries: a run is bounded
+-- what looks into libraries: a run is bounded, and an area within its limits
 abbrev pub IsBoundedLook : Keeping → Type 0
 IsBoundedLook (Call asked) = asked.steps ≤ 1000000000
 IsBoundedLook (Diff left right) = Unit {0}
 IsBoundedLook (Log disk name) = Unit {0}
 IsBoundedLook (Restore asked) = Unit {0}
+IsBoundedLook (Copy asked) = (64 ≤ asked.area) × (asked.area ≤ 1073741824)
 
 abbrev pub IsAllowed : Work → Type 0
 IsAllowed (One task) = IsWithinLimits task

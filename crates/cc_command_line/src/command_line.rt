@@ -41,6 +41,7 @@ Examples:
   cclib diff units.disk backup.disk
   cclib log units.disk sum
   cclib restore units.disk sum 1
+  cclib copy units.disk larger.disk --format 1048576
   cclib serve units.disk spool
   cclib submit spool add quotient < examples/quotient.c
 
@@ -177,6 +178,7 @@ fn command<'a>(alloc: Global) -> Result<Command<'a>, AllocError> {
     let whole = with_part(whole, diff_command(alloc))?;
     let whole = with_part(whole, log_command(alloc))?;
     let whole = with_part(whole, restore_command(alloc))?;
+    let whole = with_part(whole, copy_command(alloc))?;
     let whole = with_part(whole, library_command(alloc))?;
     let whole = with_part(whole, serve_command(alloc))?;
     with_part(whole, submit_command(alloc))
@@ -277,6 +279,7 @@ fn work_of(alloc: Global, matches: &ArgMatches<'_>) -> Result<Work, Error>
         Some(("diff", given)) => diff_of(alloc, given),
         Some(("log", given)) => log_of(alloc, given),
         Some(("restore", given)) => restore_of(alloc, given),
+        Some(("copy", given)) => copy_of(alloc, given),
         Some(("library", given)) => library_of(alloc, given),
         Some(("serve", given)) => serve_of(alloc, given),
         Some(("submit", given)) => submit_of(alloc, given),

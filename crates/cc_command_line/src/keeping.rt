@@ -1,10 +1,10 @@
-// The commands that look into libraries in files, and go back in one: `call`, `diff`, `log` and `restore`.
+// The commands that look into libraries in files, go back in one, and copy one: `call`, `diff`, `log`, `restore` and `copy`.
 
 ghost use Rattle.std.specs.Prelude.{◌≤◌, IfOk, IfSome};
 ghost use Rattle.cc_command_line.specs.Work.{IsAllowed};
 
 use crate::command_line::{STEPS_RULE, WORD_RULE, Work, words_in};
-use crate::library::{PATH_RULE, path_of};
+use crate::library::{AREA_RULE, FORMAT, LEAST_AREA, MOST_AREA, PATH_RULE, option, path_of};
 use crate::numbers::number_in;
 use crate::unit::{AT_RULE, MOST_COMMANDS};
 use cc_task::MOST_STEPS;
@@ -15,6 +15,8 @@ use std::alloc::{AllocError, Global};
 pub(crate) const COUNT: &str = "count";
 
 const LINES: &str = "lines";
+
+const CONFIRMED: &str = "confirmed";
 
 const LINES_RULE: &str = "with `--lines` the words come on standard input";
 
@@ -41,6 +43,14 @@ the code, `K replace NAME 812 123` or `K withdraw NAME`. What command K stored: 
 const RESTORE_HELP: &str = "\
 What is put back is the unit that command K of `cclib log DISK` stored under the name, to the byte: as an add where the
 name has no unit, else as a replace. A compaction, and `copy`, leave one add a unit, and so nothing to go back to.";
+
+// The same of `copy`.
+const COPY_HELP: &str = "\
+The units are copied to the byte: source, image and certificate. Nothing may have the name NEW; it is given when all is written.
+A larger AREA makes a library grow, a smaller one is refused with the least that would do.
+
+Example:
+  cclib copy units.disk larger.disk --format 1048576";
 
 /// A unit of the library in a file, which is to be run.
 #[derive(Drop)]
@@ -70,6 +80,21 @@ pub struct Restoring {
     pub number: u64,
 }
 
+/// A library that is to be copied into a new one.
+#[derive(Drop)]
+pub struct Copying {
+    /// The path of the library's file.
+    pub old: String,
+    /// The path of the new one.
+    pub new: String,
+    /// How many bytes each of the new one's areas has: 64 to 1,073,741,824.
+    pub area: u32,
+    /// Whether what an audit does not confirm is left out.
+    pub is_confirmed: bool,
+    /// The names of the units that are copied, as they were given; all units where there is none.
+    pub names: Vec<String>,
+}
+
 /// What is to be looked into.
 #[derive(Drop)]
 pub enum Keeping {
@@ -81,6 +106,8 @@ pub enum Keeping {
     Log(String, Option<String>),
     /// Put back what a command stored.
     Restore(Restoring),
+    /// Copy units into a new library.
+    Copy(Copying),
 }
 
 // A word that has to be given.
@@ -162,6 +189,26 @@ pub(crate) fn restore_command<'a>(alloc: Global) -> Result<Command<'a>, AllocErr
         .arg(word(alloc, "K", "The number of the command that stored it"))
 }
 
+/// The command `copy` with its words.
+pub(crate) fn copy_command<'a>(alloc: Global) -> Result<Command<'a>, AllocError> {
+    let area = option(
+        alloc,
+        FORMAT,
+        "AREA",
+        "The room of the new library, in bytes of records: 64 to 1073741824",
+    );
+    let confirmed = flag(alloc, CONFIRMED, "Leave out what an audit does not confirm");
+    let names = Arg::new(alloc, "NAME")
+        .num_args(0..)
+        .help("The names of the units: all of them where none is given");
+    let begun = Command::new(alloc, "copy")
+        .about("Copy the units of a library into a new one, or some of them")
+        .after_help(COPY_HELP)
+        .arg(word(alloc, "OLD", "The file that has the library"))?
+        .arg(word(alloc, "NEW", "The new file"))?;
+    begun.arg(names)?.arg(area.required(true))?.arg(confirmed)
+}
+
 // The error of clap for words of `call` that break this rule.
 fn refused_call(alloc: Global, rule: &'static str) -> Result<Error, AllocError> {
     let mut part = call_command(alloc)?.bin_name("cclib call")?;
@@ -183,6 +230,12 @@ fn refused_log(alloc: Global, rule: &'static str) -> Result<Error, AllocError> {
 // The same of `restore`.
 fn refused_restore(alloc: Global, rule: &'static str) -> Result<Error, AllocError> {
     let mut part = restore_command(alloc)?.bin_name("cclib restore")?;
+    part.error(ErrorKind::ValueValidation, rule)
+}
+
+// The same of `copy`.
+fn refused_copy(alloc: Global, rule: &'static str) -> Result<Error, AllocError> {
+    let mut part = copy_command(alloc)?.bin_name("cclib copy")?;
     part.error(ErrorKind::ValueValidation, rule)
 }
 
@@ -268,4 +321,46 @@ pub(crate) fn restore_of(alloc: Global, given: &ArgMatches<'_>) -> Result<Work, 
     };
     let name = String::from_str(alloc, given.get_str("NAME").unwrap_or(""))?;
     Ok(Work::Keep(Keeping::Restore(Restoring { disk, name, number })))
+}
+
+// The texts of the names that are given.
+fn names_of(alloc: Global, given: &ArgMatches<'_>) -> Result<Vec<String>, AllocError> {
+    let mut names = Vec::new(alloc);
+    if let Some(texts) = given.get_strs("NAME") {
+        for text in texts {
+            names.push(String::from_str(alloc, text)?)?;
+        }
+    }
+    Ok(names)
+}
+
+// How many bytes an area has.
+fn copy_area(given: &ArgMatches<'_>) -> Option<u32>
+    ensures { IfSome result (λ area. (64 ≤ area) × (area ≤ 1073741824)) }
+{
+    match number_in(given.get_str(FORMAT).unwrap_or(""), LEAST_AREA, MOST_AREA) {
+        Some(area) => Some(area as u32),
+        None => None,
+    }
+}
+
+/// What `copy` asks for.
+pub(crate) fn copy_of(alloc: Global, given: &ArgMatches<'_>) -> Result<Work, Error>
+    ensures { IfOk result IsAllowed }
+{
+    let Some(area) = copy_area(given) else {
+        return Err(refused_copy(alloc, AREA_RULE)?);
+    };
+    let (Some(old), Some(new)) = (path_of(alloc, given, "OLD")?, path_of(alloc, given, "NEW")?)
+    else {
+        return Err(refused_copy(alloc, PATH_RULE)?);
+    };
+    let names = names_of(alloc, given)?;
+    Ok(Work::Keep(Keeping::Copy(Copying {
+        old,
+        new,
+        area,
+        is_confirmed: given.get_flag(CONFIRMED),
+        names,
+    })))
 }

@@ -1,3 +1,5 @@
--- Which units are chosen (Choosing), and the least area for them (Areas).
-pub mod Choosing
+-- Which units are chosen (Chosen), which of them are confirmed (Audited), the least area for them (Areas), and the new library (Filled).
+pub mod Chosen
+pub mod Audited
 pub mod Areas
+pub mod Filled

@@ -2,3 +2,5 @@
 pub mod Copy
 -- Which units are copied.
 pub mod Choice
+-- What only private contracts speak of.
+pub mod internal

@@ -1,10 +1,11 @@
 // A new library of the units of a map: an empty journal, and then one commit of one Add a name.
 
-ghost use Rattle.std.specs.Prelude.{◌≡◌, ◌≤◌, ◌^◌, ℕ, List, IsTrue, IfOk, IfErr, OnOk};
+ghost use Rattle.std.specs.Prelude.{◌≡◌, ◌≤◌, ◌^◌, ℕ, List, false, IsTrue, IfErr, OnOk};
 ghost use Rattle.cc_journal.specs.Format.{room_of};
 ghost use Rattle.cc_library.specs.Compact.{compacted};
 ghost use Rattle.cc_library.specs.Recovered.{RecoversAlone};
 ghost use Rattle.cc_copy.specs.Copy.{CopyFaults, IsLeastArea};
+ghost use Rattle.cc_copy.specs.internal.Writing.{WriteFaults};
 
 use cc_disk::Disk;
 use cc_journal::{Log, format};
@@ -24,8 +25,9 @@ fn write_units<D: Disk>(
     units: &UnitMap,
 ) -> Result<(), LibraryFault>
     requires room { room_of (compacted units.now) ≤ 2 ^ 30 }
+    requires usable { log.old.closed ≡ false }
     ensures copied { OnOk result (IsTrue D.honest → (image : List ℕ) → D.may_leave log.new.disk image → RecoversAlone image units.now) }
-    ensures refused { IfErr result (λ fault. CopyFaults D.honest log.old.area units.now (D.failures log.old.disk) (D.failures log.new.disk) fault) }
+    ensures refused { IfErr result (λ fault. WriteFaults log.old.area units.now (D.failures log.old.disk) (D.failures log.new.disk) fault) }
 {
     let bodies = match units.bodies(alloc) {
         Ok(bodies) => bodies,
@@ -56,6 +58,7 @@ pub fn copy_units<D: Disk + Drop>(
     // Of an honest disk.
     ensures copied { OnOk result.0 (IsTrue D.honest → (image : List ℕ) → D.may_leave result.1 image → RecoversAlone image units.now) }
     ensures fits { OnOk result.0 (room_of (compacted units.now) ≤ area) }
+    ensures refused { IfErr result.0 (λ fault. CopyFaults D.honest (D.size disk) area units.now (D.failures disk) (D.failures result.1) fault) }
 {
     if !units.fits(area as usize) {
         return (Err(LibraryFault::Full), disk);

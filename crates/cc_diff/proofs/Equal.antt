@@ -1,10 +1,10 @@
 -- There is no line exactly for equal maps.
-use Rattle.std.proofs.Common.{◌≡◌, ℕ, List, [], ◌∷◌, ◌++◌, Bool, true, false, ◌&&◌, ◌||◌, refl, sym, ap, subst, ◌∙◌, Option, Some, None}
+use Rattle.std.proofs.Common.{◌≡◌, ℕ, List, [], ◌∷◌, ◌++◌, Bool, true, false, ◌&&◌, ◌||◌, refl, sym, ap, ◌∙◌, Option, Some, None}
 use Rattle.std.specs.Prelude.{is_some}
 use Rattle.std.specs.List.{flat_map, list_any}
 use Rattle.std.specs.Str.{bytes_eq}
-use Rattle.std.specs.Ordering.{nat_cmp, eq_by_cmp}
-use Rattle.std.specs.Cmp.Lexicographic.{slice_cmp, nat_list_cmp_total}
+use Rattle.std.specs.Ordering.{eq_by_cmp}
+use Rattle.std.specs.Cmp.Lexicographic.{nat_list_cmp_total}
 use Rattle.std.proofs.lemmas.Slice.Eq.{bytes_eq-Decides}
 use Rattle.std.specs.FinMap as map
 use Rattle.cc_rv32.specs.declared.image.Image.{Image}
@@ -12,8 +12,7 @@ use Rattle.cc_unit.specs.declared.unit.StoredUnit.{StoredUnit}
 use Rattle.cc_library.specs.Apply.{Units}
 use Rattle.cc_diff.specs.declared.difference.Difference.{Difference}
 use Rattle.cc_diff.specs.declared.difference.Difference.TheVariants.{Source, Image as ImagePart, Certificate}
-use Rattle.cc_diff.specs.declared.difference.DiffLine.{DiffLine}
-use Rattle.cc_diff.specs.Diff.{HasNamesOf, is_same_certificate, is_same_image, lines_of, lines_of_both, unless}
+use Rattle.cc_diff.specs.Diff.{HasNamesOf, is_same_certificate, is_same_image, lines_of, unless}
 use Rattle.cc_diff.proofs.Names.{R, same_name}
 
 -- ---- one name

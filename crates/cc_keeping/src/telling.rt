@@ -11,12 +11,18 @@ pub(crate) fn unwritten<E: Write>(told: &mut E) -> u8 {
     1
 }
 
-/// Writes the line of a fault, and explains it; the status.
-pub(crate) fn refuse<W: Write, E: Write>(fault: PartFault, writer: &mut W, told: &mut E) -> u8 {
-    let line = write_fault_line(fault.number(), Stands::Nowhere, b"", writer);
+/// Writes the line of a fault; the status.
+pub(crate) fn refuse_quietly<W: Write, E: Write>(number: u32, writer: &mut W, told: &mut E) -> u8 {
+    let line = write_fault_line(number, Stands::Nowhere, b"", writer);
     if line.is_err() || writer.flush().is_err() {
         return unwritten(told);
     }
-    let _ = explain_part(fault, told);
     1
+}
+
+/// Writes the line of a fault, and explains it; the status.
+pub(crate) fn refuse<W: Write, E: Write>(fault: PartFault, writer: &mut W, told: &mut E) -> u8 {
+    let status = refuse_quietly(fault.number(), writer, told);
+    let _ = explain_part(fault, told);
+    status
 }

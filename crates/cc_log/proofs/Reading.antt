@@ -1,18 +1,15 @@
 -- Bodies spell one list of commands at most, and one more body spells one more command.
-use Rattle.std.proofs.Common.{◌≡◌, ℕ, zero, suc, ◌+◌, ◌<◌, List, [], ◌∷◌, ◌++◌, length, take, drop, get_or, refl, sym, ap, subst, ◌∙◌, Some, None, arith}
+use Rattle.std.proofs.Common.{◌≡◌, ℕ, zero, suc, ◌+◌, ◌<◌, List, [], ◌∷◌, ◌++◌, length, take, get_or, refl, sym, ap, subst, ◌∙◌, arith}
 use Rattle.std.specs.FinMap.{empty}
 use Rattle.std.specs.Prelude.{Result, Ok, Err, IfOk, IfErr}
-use Rattle.std.proofs.lemmas.List.{take_more, take_all}
-use Rattle.std.proofs.lemmas.Option.{none-some}
+use Rattle.std.proofs.lemmas.List.{take_more}
 use Rattle.cc_library.specs.declared.command.LibraryCommand.{LibraryCommand}
-use Rattle.cc_library.specs.declared.reading.ReadFault.{ReadFault}
-use Rattle.cc_library.specs.declared.reading.ReadFault.TheVariants.{NoCommand}
 use Rattle.cc_library.specs.declared.fault.LibraryFault.{LibraryFault}
 use Rattle.cc_library.specs.declared.fault.LibraryFault.TheVariants.{Exists, Absent, Full, DiskFault, Closed, Damaged, NotALibrary, OutOfMemory}
 use Rattle.cc_library.specs.Apply.{Units, AreAccepted}
-use Rattle.cc_library.specs.Answers.{Gives, OpenFaults, ReplayFaults}
+use Rattle.cc_library.specs.Answers.{ReplayFaults}
 use Rattle.cc_library.specs.Body.{Spells}
-use Rattle.cc_library.specs.Recovered.{AreSpelled, Recovers, StandFor}
+use Rattle.cc_library.specs.Recovered.{AreSpelled, StandFor}
 use Rattle.cc_library.proofs.Commands.{one_command}
 use Rattle.cc_log.specs.Commands.{AreRead}
 use Rattle.cc_log.specs.internal.Reading.{IsUnread}

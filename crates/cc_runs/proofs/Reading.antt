@@ -1,11 +1,7 @@
 -- The words of a line, one after the other.
-use Rattle.std.proofs.Common.{◌≡◌, ◌≢◌, ◌≤◌, ℕ, ◌+◌, ◌<◌, ◌==◌, List, [], ◌∷◌, ◌++◌, length, take, drop, get_or, false, true, refl, sym, subst, ap, ◌∙◌, arith}
-use Rattle.std.specs.Prelude.{All, Option, Some, None, map, option_map}
-use Rattle.std.specs.Borrow.{Bor}
+use Rattle.std.proofs.Common.{◌≡◌, ℕ, List, [], ◌∷◌, ◌++◌, refl, sym, ap}
+use Rattle.std.specs.Prelude.{Option, Some, None, option_map}
 use Rattle.std.proofs.lemmas.List.{append_assoc}
-use Rattle.cc_script.specs.Line.{words}
-use Rattle.cc_runs.specs.Words.{all_of, input_in, word_in}
-use Rattle.cc_runs.specs.internal.Cutting.{input_left, words_behind}
 
 -- the words so far with those that are left
 abbrev pub with_left : List ℕ → Option (List ℕ) → Option (List ℕ)

@@ -1,5 +1,5 @@
 -- How many instructions a run takes.
-use Rattle.std.specs.Prelude.{◌≡◌, ◌≤◌, ◌<◌, ℕ, Bool, List, Option, IfSome, is_some}
+use Rattle.std.specs.Prelude.{◌≡◌, ◌≤◌, ◌<◌, ℕ, Bool, List, IfSome, is_some}
 use Rattle.cc_rv32.specs.declared.image.Image.{Image}
 use Rattle.cc_rv32.specs.declared.outcome.MachineOutcome.TheVariants.{Going}
 use Rattle.cc_rv32.specs.Machine.{machine_behavior}

@@ -1,9 +1,7 @@
 -- The maps that are compared are those to which the disks recover.
 use Rattle.std.proofs.Common.{IsTrue, sym, subst}
-use Rattle.std.specs.Prelude.{IfOk}
 use Rattle.cc_library.specs.Apply.{Units}
 use Rattle.cc_library.specs.Recovered.{Recovers}
-use Rattle.cc_diff.specs.Diff.{IsDiffOn}
 use Rattle.cc_diff.proofs.disks.diff_disks.Goals.{in-Ok-diff_maps, in-Err-diff_maps}
 use Rattle.cc_diff.proofs.disks.diff_disks.Goals as goal
 

@@ -1,6 +1,5 @@
 -- The lines are those of the names of both maps.
-use Rattle.std.proofs.Common.{◌≡◌, ℕ, List, ◌++◌, sym, ◌∙◌, arith}
-use Rattle.std.specs.List.{flat_map}
+use Rattle.std.proofs.Common.{List, ◌++◌, sym, ◌∙◌, arith}
 use Rattle.std.specs.FinMap as map
 use Rattle.cc_diff.specs.declared.difference.DiffLine.{DiffLine}
 use Rattle.cc_diff.specs.Diff.{lines_of}

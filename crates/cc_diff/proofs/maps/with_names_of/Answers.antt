@@ -1,6 +1,5 @@
 -- Each name of the right map is one of its keys, and is added.
-use Rattle.std.proofs.Common.{◌≡◌, ℕ, List, ◌∙◌, arith}
-use Rattle.std.specs.FinMap as map
+use Rattle.std.proofs.Common.{◌∙◌, arith}
 use Rattle.cc_diff.proofs.Names.{all_named, is_key, named}
 use Rattle.cc_diff.proofs.maps.with_names_of.Goals as goal
 

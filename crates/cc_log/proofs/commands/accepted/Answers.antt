@@ -1,4 +1,3 @@
-use Rattle.std.proofs.Common.{List}
 use Rattle.cc_library.specs.Recovered.{AreSpelled}
 use Rattle.cc_log.specs.internal.Reading.{IsUnread}
 use Rattle.cc_log.proofs.Reading.{of_ok, of_err, read_of, unread_stand}

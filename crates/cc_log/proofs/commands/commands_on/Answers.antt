@@ -1,8 +1,7 @@
 -- The records of the log are what every image holds alone, and the commands are what they spell.
-use Rattle.std.proofs.Common.{◌≡◌, ℕ, IsTrue, List, sym, ◌∙◌, subst}
+use Rattle.std.proofs.Common.{◌≡◌, ℕ, List, sym, ◌∙◌, subst}
 use Rattle.cc_journal.specs.Format.{HoldsAlone}
 use Rattle.cc_library.specs.Answers.{ReplayFaults}
-use Rattle.cc_library.specs.Fault.{fault_of}
 use Rattle.cc_library.proofs.Opening.{replay_refused, journal_refused}
 use Rattle.cc_log.specs.Commands.{AreRead}
 use Rattle.cc_log.proofs.Reading.{of_ok, of_err}
