@@ -4,7 +4,10 @@ ghost use Rattle.std.specs.Prelude.{◌≤◌, IfOk};
 ghost use Rattle.cc_task.specs.Task.{IsWithinLimits};
 ghost use Rattle.cc_command_line.specs.Work.{IsAllowed};
 
-use crate::keeping::{Keeping, call_command, call_of, diff_command, diff_of, log_command, log_of};
+use crate::keeping::{
+    Keeping, call_command, call_of, copy_command, copy_of, diff_command, diff_of, log_command,
+    log_of, restore_command, restore_of,
+};
 use crate::library::{Session, library_command, library_of};
 use crate::numbers::number_in;
 use crate::spool::{Server, Submitter, serve_command, serve_of, submit_command, submit_of};

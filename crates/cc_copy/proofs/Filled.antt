@@ -27,7 +27,7 @@ commit_refused area units bodies before after closed journal.OutOfMemory is usab
 -- the disk was not formatted
 pub format_refused : (honest : Bool) (size area : ℕ) (units : Units) (before after : ℕ) (fault : JournalFault) → room_for units ≤ area
     → FormatAnswers {T = Unit {0}} size area before after (Err fault) → CopyFaults honest size area units before after (fault_of fault)
-format_refused honest size area units before after journal.Full fits why = (λ is. absurd (why.0 is), why.1)
+format_refused honest size area units before after journal.Full fits why = (λ h is. absurd (why.0 is), why.1)
 format_refused honest size area units before after journal.DiskFault fits why = (fits, why.1)
 format_refused honest size area units before after journal.Closed fits why = absurd why
 format_refused honest size area units before after journal.Damaged fits why = absurd why
@@ -45,13 +45,13 @@ open_refused honest seen size area units begin before after journal.Full fits sa
 open_refused honest seen size area units begin before after journal.Closed fits same holds why = absurd why
 
 -- the units were not written
-pub write_refused : (honest : Bool) (size area : ℕ) (units : Units) (begin before after : ℕ) (fault : LibraryFault) → before ≡ begin
-    → WriteFaults area units before after fault → CopyFaults honest size area units begin after fault
-write_refused honest size area units begin before after Full same why = (λ _. why.0, why.1 ∙ same)
-write_refused honest size area units begin before after DiskFault same why = (why.0, why.1 ∙ ap (λ n. n + 1) same)
-write_refused honest size area units begin before after OutOfMemory same why = why ∙ same
-write_refused honest size area units begin before after NotALibrary same why = absurd why
-write_refused honest size area units begin before after Damaged same why = absurd why
-write_refused honest size area units begin before after Exists same why = absurd why
-write_refused honest size area units begin before after Absent same why = absurd why
-write_refused honest size area units begin before after Closed same why = absurd why
+pub write_refused : (honest : Bool) (size area there : ℕ) (units : Units) (begin before after : ℕ) (fault : LibraryFault) → room_for units ≤ area → before ≡ begin → (IsTrue honest → there ≡ area)
+    → WriteFaults there units before after fault → CopyFaults honest size area units begin after fault
+write_refused honest size area there units begin before after Full fits same is why = (λ h _. subst (λ (n : ℕ). n < room_for units) (is h) why.0, why.1 ∙ same)
+write_refused honest size area there units begin before after DiskFault fits same is why = (fits, why.1 ∙ ap (λ n. n + 1) same)
+write_refused honest size area there units begin before after OutOfMemory fits same is why = why ∙ same
+write_refused honest size area there units begin before after NotALibrary fits same is why = absurd why
+write_refused honest size area there units begin before after Damaged fits same is why = absurd why
+write_refused honest size area there units begin before after Exists fits same is why = absurd why
+write_refused honest size area there units begin before after Absent fits same is why = absurd why
+write_refused honest size area there units begin before after Closed fits same is why = absurd why

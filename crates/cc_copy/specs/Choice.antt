@@ -18,9 +18,9 @@ abbrev pub is_among : (names : List (List ℕ)) (name : List ℕ) → Bool
 is_among names name = list_any (bytes_eq name) names
 
 -- each of the names has its unit in the map, and the chosen ones are those and no others
-pub record IsChosen (units : Units) (names : List (List ℕ)) (chosen : Units) : Type 0 where
+pub record IsChosen (units : Units) (names : List (List ℕ)) (copied : Units) : Type 0 where
   pub there : All (λ name. IsTrue (contains_key units name)) names
-  pub chosen : (name : List ℕ) → get chosen name ≡ (if is_among names name then get units name else None)
+  pub chosen : (name : List ℕ) → get copied name ≡ (if is_among names name then get units name else None)
 
 -- why none are chosen: the name of this index is the first without a unit; or memory ran out
 abbrev pub IsNotChosen : Units → (names : List (List ℕ)) → ChooseFault → Type 0

@@ -11,9 +11,9 @@ abbrev pub room_for : Units → ℕ
 room_for units = room_of (compacted units)
 
 -- why there is no new library: 34 only where the units do not fit the area, or two areas of that size the disk; 35 where the device failed;
--- else memory ran out. A disk that is not honest can also have lost what was just written to it.
+-- else memory ran out. A disk that is not honest may have lost what was just written to it.
 abbrev pub CopyFaults : (honest : Bool) (size area : ℕ) → Units → (before after : ℕ) → LibraryFault → Type 0
-CopyFaults honest size area units before after Full = (IsArea size area → area < room_for units) × (after ≡ before)
+CopyFaults honest size area units before after Full = (IsTrue honest → IsArea size area → area < room_for units) × (after ≡ before)
 CopyFaults honest size area units before after DiskFault = (room_for units ≤ area) × (after ≡ before + 1)
 CopyFaults honest size area units before after OutOfMemory = after ≡ before
 CopyFaults honest size area units before after NotALibrary = IsTrue honest → ⊥

@@ -64,16 +64,16 @@ pub fn copy_units<D: Disk + Drop>(
         return (Err(LibraryFault::Full), disk);
     }
     let mut disk = disk;
-    if let Err(fault) = format(&mut disk, area) {
-        return (Err(LibraryFault::from(fault)), disk);
-    }
-    match Log::open(alloc, disk) {
-        Ok((mut log, bodies)) => {
-            drop(bodies);
-            let answer = write_units(alloc, &mut log, units);
-            (answer, log.into_disk())
-        }
-        Err((fault, disk)) => (Err(LibraryFault::from(fault)), disk),
+    match format(&mut disk, area) {
+        Ok(()) => match Log::open(alloc, disk) {
+            Ok((mut log, bodies)) => {
+                drop(bodies);
+                let answer = write_units(alloc, &mut log, units);
+                (answer, log.into_disk())
+            }
+            Err((fault, disk)) => (Err(LibraryFault::from(fault)), disk),
+        },
+        Err(fault) => (Err(LibraryFault::from(fault)), disk),
     }
 }
 

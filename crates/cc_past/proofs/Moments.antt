@@ -13,7 +13,8 @@ use Rattle.cc_library.specs.Answers.{OpenFaults}
 use Rattle.cc_library.specs.Recovered.{Recovers, RecoversOneOf}
 use Rattle.cc_log.specs.Commands.{HasCommands}
 use Rattle.cc_past.specs.Past.{IsStoredOn}
-use Rattle.cc_past.specs.Restored.{IsNotPut, MayBe, MayBeRestored}
+use Rattle.cc_past.specs.Restored.{IsNotPut, MayBeRestored}
+use Rattle.cc_past.specs.internal.Steps.{MayBe}
 
 -- ---- the map
 

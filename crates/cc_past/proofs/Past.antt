@@ -4,7 +4,8 @@ use Rattle.cc_library.specs.declared.command.LibraryCommand.{LibraryCommand}
 use Rattle.cc_log.specs.Commands.{HasCommands}
 use Rattle.cc_tasks.specs.declared.part.PartFault.{PartFault}
 use Rattle.cc_tasks.specs.declared.part.PartFault.TheVariants.{BadName, Absent, Library, OutOfMemory}
-use Rattle.cc_past.specs.Past.{IsNotStored, IsNotStoredOn}
+use Rattle.cc_past.specs.Past.{IsNotStoredOn}
+use Rattle.cc_past.specs.internal.Steps.{IsNotStored}
 
 -- why the command stored nothing among those of a disk is why it stored nothing on the disk
 pub not_stored_on : (honest : Bool) (seen : List ℕ) (before after : ℕ) (name : List ℕ) (number : ℕ) (commands : List LibraryCommand) → (IsTrue honest → HasCommands seen commands)

@@ -2,3 +2,5 @@
 pub mod Past
 -- What is put back.
 pub mod Restored
+-- What only private contracts speak of.
+pub mod internal

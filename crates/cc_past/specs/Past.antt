@@ -20,13 +20,6 @@ pub record StoresNone (commands : List LibraryCommand) (name : List ℕ) (number
   pub is_name : IsTrue (is_name name)
   pub stored : stored_at commands name number ≡ None
 
--- why there is no such unit: 33 exactly where the name is none, 32 exactly where it is one under which that command stored nothing
-abbrev pub IsNotStored : List LibraryCommand → (name : List ℕ) (number : ℕ) → PartFault → Type 0
-IsNotStored commands name number BadName = is_name name ≡ false
-IsNotStored commands name number Absent = StoresNone commands name number
-IsNotStored commands name number (Library f) = ⊥
-IsNotStored commands name number OutOfMemory = Unit {0}
-
 -- of the commands of which the disk has the records, the one of this number stored this unit under the name
 abbrev pub IsStoredOn : (seen name : List ℕ) (number : ℕ) → StoredUnit → Type 0
 IsStoredOn seen name number unit = (commands : List LibraryCommand) × HasCommands seen commands × IsStored commands name number unit

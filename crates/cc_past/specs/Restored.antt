@@ -21,10 +21,6 @@ pub record IsRestoredBy (seen name : List ℕ) (number : ℕ) (unit : StoredUnit
   pub stored : IsStored commands name number unit
   pub restored : (image : List ℕ) → images image → RecoversAlone image (insert (library_of commands) name unit)
 
--- an image that could have been left before, or that recovers to the map before or to the one after it alone
-abbrev pub MayBe : (before : List ℕ → Type 0) (old new : Units) → List ℕ → Type 0
-MayBe before old new image = before image ⊎ RecoversOneOf old new image
-
 -- an image that could have been left before, or that recovers to the map before, or to that map with the unit that the command stored
 abbrev pub MayBeRestored : (seen name : List ℕ) (number : ℕ) (before : List ℕ → Type 0) (old : Units) → List ℕ → Type 0
 MayBeRestored seen name number before old image =

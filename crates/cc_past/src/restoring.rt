@@ -6,7 +6,8 @@ ghost use Rattle.cc_disk.specs.Images.{LeavesOnly};
 ghost use Rattle.cc_unit.specs.declared.unit.StoredUnit.{StoredUnit};
 ghost use Rattle.cc_library.specs.Apply.{Units};
 ghost use Rattle.cc_library.specs.Recovered.{Recovers, RecoversAlone, RecoversOneOf};
-ghost use Rattle.cc_past.specs.Restored.{IsNotPut, IsNotRestored, IsRestoredBy, MayBe, MayBeRestored};
+ghost use Rattle.cc_past.specs.Restored.{IsNotPut, IsNotRestored, IsRestoredBy, MayBeRestored};
+ghost use Rattle.cc_past.specs.internal.Steps.{MayBe};
 
 use crate::stored::{Stored, stored_on};
 use cc_disk::Disk;

@@ -2,7 +2,8 @@
 
 ghost use Rattle.std.specs.Prelude.{◌≡◌, IsTrue, IfOk, IfErr, OnOk};
 ghost use Rattle.cc_disk.specs.Images.{OnlyReads};
-ghost use Rattle.cc_past.specs.Past.{IsNotStored, IsNotStoredOn, IsStored, IsStoredOn};
+ghost use Rattle.cc_past.specs.Past.{IsNotStoredOn, IsStored, IsStoredOn};
+ghost use Rattle.cc_past.specs.internal.Steps.{IsNotStored};
 
 use cc_disk::Disk;
 use cc_library::{LibraryCommand, Name, SharedUnit};
@@ -11,16 +12,10 @@ use cc_tasks::PartFault;
 use std::alloc::Global;
 
 /// A unit that was stored, and its name.
+#[derive(Drop)]
 pub(crate) struct Stored {
     pub(crate) name: Name,
     pub(crate) unit: SharedUnit,
-}
-
-// By hand, so that what holds one calls it.
-impl Drop for Stored {
-    fn drop(self) {
-        let Stored { name, unit } = self;
-    }
 }
 
 // The unit that the command of this number stored under this name.
