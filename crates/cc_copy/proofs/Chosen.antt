@@ -1,12 +1,14 @@
 -- Which units are chosen: those of the names so far.
-use Rattle.std.proofs.Common.{◌≡◌, ℕ, ◌+◌, ◌<◌, List, length, take, get_or, Bool, true, false, ◌||◌, refl, sym, ap, subst, ◌∙◌, cond, Option, Some, None}
+use Rattle.std.proofs.Common.{◌≡◌, ℕ, ◌+◌, ◌<◌, List, ◌++◌, length, take, drop, get_or, IsTrue, Bool, true, false, ◌||◌, refl, sym, ap, subst, ◌∙◌, cond, Option, Some, None}
 use Rattle.std.specs.Prelude.{if◌then◌else◌, is_some, Err, Ok}
 use Rattle.std.specs.List.{list_any}
 use Rattle.std.specs.Str.{bytes_eq}
 use Rattle.std.specs.declared.cmp.Ordering.{Ordering}
 use Rattle.std.specs.Ordering.{nat_cmp, eq_by_cmp}
 use Rattle.std.specs.Cmp.Lexicographic.{slice_cmp, nat_list_cmp_total}
-use Rattle.std.proofs.lemmas.List.Folds.{list_any_more}
+use Rattle.std.proofs.lemmas.Cmp.{eq_by_cmp_equiv}
+use Rattle.std.proofs.lemmas.List.{take-append-drop}
+use Rattle.std.proofs.lemmas.List.Folds.{list_any_more, list_any-append}
 use Rattle.std.proofs.lemmas.Map.Text.{is_eq-slice_cmp}
 use Rattle.std.proofs.lemmas.Slice.Eq.{bytes_eq-Decides}
 use Rattle.std.specs.FinMap as map
@@ -14,6 +16,9 @@ use Rattle.cc_unit.specs.declared.unit.StoredUnit.{StoredUnit}
 use Rattle.cc_library.specs.declared.command.LibraryCommand.TheVariants.{Add}
 use Rattle.cc_library.specs.Apply.{Units, after, kept, exists}
 use Rattle.cc_copy.specs.Choice.{is_among}
+
+abbrev R : List ℕ → List ℕ → Ordering
+R = slice_cmp nat_cmp
 
 -- what a name has in the chosen map: its unit, if it is one of the names so far
 abbrev pub Chosen : (units : Units) (so_far : Bool) (name : List ℕ) → Option StoredUnit → Type 0
@@ -61,3 +66,18 @@ one_more units chosen new names i q name unit within at is there before =
     ap (λ (m : Units). map.get m q) is
     ∙ (step units chosen (is_among (take i names) q) q name unit (map.contains_key chosen name) refl there before
     ∙ ap (λ (b : Bool). if b then map.get units q else None) (sym more))
+
+-- a name that has a unit
+pub has : (units : Units) (name : List ℕ) (unit : StoredUnit) → map.get units name ≡ Some unit → IsTrue (map.contains_key units name)
+has units name unit e = ap is_some e
+
+-- each key of a map has one
+pub key_there : (units : Units) (names : List (List ℕ)) (k : ℕ) (d : List ℕ) → names ≡ map.keys units → k < length names → IsTrue (map.contains_key units (get_or names k d))
+key_there units names k d keys within =
+    let q = get_or names k d in
+    let p = eq_by_cmp R q in
+    let here : list_any p (take (k + 1) names) ≡ true =
+    list_any_more p names k d within ∙ (ap (λ (b : Bool). list_any p (take k names) || b) ((eq_by_cmp_equiv nat_list_cmp_total).refl q) ∙ or_true (list_any p (take k names))) in
+    let parts : take (k + 1) names ++ drop (k + 1) names ≡ names = take-append-drop (k + 1) names in
+    let all : list_any p names ≡ true = ap (list_any p) (sym parts) ∙ (list_any-append p (take (k + 1) names) (drop (k + 1) names) ∙ ap (λ (b : Bool). b || list_any p (drop (k + 1) names)) here) in
+    map.contains_key-keys units q ∙ (ap (list_any p) (sym keys) ∙ all)

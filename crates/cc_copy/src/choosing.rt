@@ -46,9 +46,12 @@ pub fn choose(alloc: Global, units: &UnitMap, names: &[Name]) -> Result<UnitMap,
             drop(chosen);
             return Err(ChooseFault::Absent(i));
         };
-        if add(&mut chosen, name, unit).is_err() {
-            drop(chosen);
-            return Err(ChooseFault::OutOfMemory);
+        match add(&mut chosen, name, unit) {
+            Ok(()) => {}
+            Err(_) => {
+                drop(chosen);
+                return Err(ChooseFault::OutOfMemory);
+            }
         }
     }
     Ok(chosen)

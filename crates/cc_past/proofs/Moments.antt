@@ -1,6 +1,6 @@
 -- What is put back: what a crash leaves of a disk that was read and then changed, and the map that an add or a replace makes.
 use Rattle.std.proofs.Common.{◌≡◌, ◌⊎◌, inl, inr, ℕ, ◌+◌, ◌≤◌, Bool, true, false, IsTrue, List, refl, sym, ap, subst, ◌∙◌, Result, Ok, Err, Some, arith}
-use Rattle.std.specs.Prelude.{if◌then◌else◌}
+use Rattle.std.specs.Prelude.{if◌then◌else◌, OnOk}
 use Rattle.std.specs.FinMap as map
 use Rattle.cc_disk.specs.Images.{LeavesOnly, OnlyReads}
 use Rattle.cc_unit.specs.declared.unit.StoredUnit.{StoredUnit}
@@ -9,8 +9,8 @@ use Rattle.cc_library.specs.declared.command.LibraryCommand.TheVariants.{Add, Re
 use Rattle.cc_library.specs.declared.fault.LibraryFault.{LibraryFault}
 use Rattle.cc_library.specs.declared.fault.LibraryFault.TheVariants.{Exists, Absent as NoUnit, Full, DiskFault, Closed, Damaged, NotALibrary, OutOfMemory as NoMemory}
 use Rattle.cc_library.specs.Apply.{Units, after, exists, absent, kept, library_of}
-use Rattle.cc_library.specs.Answers.{OpenFaults}
-use Rattle.cc_library.specs.Recovered.{Recovers, RecoversOneOf}
+use Rattle.cc_library.specs.Answers.{ChangeLeaves, OpenFaults}
+use Rattle.cc_library.specs.Recovered.{Recovers, RecoversAlone, RecoversOneOf, View}
 use Rattle.cc_log.specs.Commands.{HasCommands}
 use Rattle.cc_past.specs.Past.{IsStoredOn}
 use Rattle.cc_past.specs.Restored.{IsNotPut, MayBeRestored}
@@ -75,3 +75,25 @@ open_refused honest seen before after Full why = absurd why
 open_refused honest seen before after Exists why = absurd why
 open_refused honest seen before after NoUnit why = absurd why
 open_refused honest seen before after Closed why = absurd why
+
+-- what is said of each answer that is one
+pub on_ok : {T F : Type 0} {A B : Type 0} → (A → B) → (r : Result T F) → OnOk r A → OnOk r B
+on_ok step (Ok t) a = step a
+on_ok step (Err f) a = tt
+
+-- the map after a change that was made is the one that it makes
+pub kept_as : {D : Type 0} (answer : Result (Unit {0}) LibraryFault) (command : LibraryCommand) (old new : View D) (may_leave : D → List ℕ → Type 0) (H : Type 0) (made : Units)
+    → after old.units command ≡ made → ChangeLeaves command old new answer → OnOk answer (H → (image : List ℕ) → may_leave new.disk image → RecoversAlone image new.units)
+    → OnOk answer (H → (image : List ℕ) → may_leave new.disk image → RecoversAlone image made)
+kept_as (Ok done) command old new may_leave H made is leaves kept =
+    let units : new.units ≡ made = ap (λ v. v.units) leaves ∙ is in
+    λ h image left. subst (λ (m : Units). RecoversAlone image m) units (kept h image left)
+kept_as (Err fault) command old new may_leave H made is leaves kept = tt
+
+-- what may be left of a disk before it was read may be left before
+pub may_be_restored : (seen name : List ℕ) (number : ℕ) (before mid : List ℕ → Type 0) (units : Units) (stored : List ℕ) (unit : StoredUnit) → ((image : List ℕ) → mid image → before image)
+    → stored ≡ name → IsStoredOn seen name number unit → (image : List ℕ) → before image ⊎ MayBe mid units (map.insert units stored unit) image → MayBeRestored seen name number before units image
+may_be_restored seen name number before mid units stored unit none same is image (inl left) = inl left
+may_be_restored seen name number before mid units stored unit none same is image (inr (inl left)) = inl (none image left)
+may_be_restored seen name number before mid units stored unit none same is image (inr (inr p)) =
+    inr (unit, is, subst (λ (n : List ℕ). RecoversOneOf units (map.insert units n unit) image) same p)

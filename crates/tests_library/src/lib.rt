@@ -14,4 +14,6 @@ mod helpers;
 #[cfg(test)]
 mod logs;
 #[cfg(test)]
+mod watches;
+#[cfg(test)]
 mod words;

@@ -37,13 +37,17 @@ fn asked(alloc: Global, words: &'static [&'static str]) -> Option<String> {
                 at: Some(number),
             },
         ) => format!(in alloc; "part {disk} {name} {number}"),
+        Work::Library(it) => {
+            format!(in alloc; "library {} {} {}", it.disk, it.workers, it.is_strict)
+        }
         _ => format!(in alloc; "other"),
     };
     drop(work);
     text.ok()
 }
 
-static ASKED: [(&[&str], &str); 11] = [
+static ASKED: [(&[&str], &str); 12] = [
+    (&["cclib", "library", "d", "--strict"], "library d 2 true"),
     (
         &["cclib", "call", "d", "n", "7"],
         "call d n 7 0 false false",
