@@ -4,6 +4,10 @@ ghost use Rattle.std.specs.Prelude.{◌≤◌, IfOk};
 ghost use Rattle.cc_task.specs.Task.{IsWithinLimits};
 ghost use Rattle.cc_command_line.specs.Work.{IsAllowed};
 
+use crate::keeping::{
+    Keeping, call_command, call_of, copy_command, copy_of, diff_command, diff_of, log_command,
+    log_of, restore_command, restore_of,
+};
 use crate::library::{Session, library_command, library_of};
 use crate::numbers::number_in;
 use crate::spool::{Server, Submitter, serve_command, serve_of, submit_command, submit_of};
@@ -14,7 +18,7 @@ use clap::{Arg, ArgAction, ArgMatches, Command, Error};
 use std::alloc::{AllocError, Global};
 use std::convert::AsStr;
 
-const STEPS_RULE: &str = "STEPS is a decimal number from 0 to 1000000000";
+pub(crate) const STEPS_RULE: &str = "STEPS is a decimal number from 0 to 1000000000";
 
 const QUIET: &str = "quiet";
 
@@ -22,7 +26,7 @@ const FUNCTION: &str = "FUNCTION";
 
 const CHECKED: &str = "checked";
 
-const WORD_RULE: &str =
+pub(crate) const WORD_RULE: &str =
     "WORD is a decimal number from 0 to 4294967295; a negative number is written as its value modulo 4294967296, \
     for example 4294967295 for -1";
 
@@ -40,6 +44,11 @@ Examples:
   cclib library units.disk --format 65536 < examples/units.script
   cclib image units.disk sum > sum.hex
   cclib source units.disk sum
+  cclib call units.disk sum 1000 4 5
+  cclib diff units.disk backup.disk
+  cclib log units.disk sum
+  cclib restore units.disk sum 1
+  cclib copy units.disk larger.disk --format 1048576
   cclib serve units.disk spool
   cclib submit spool add quotient < examples/quotient.c
 
@@ -66,6 +75,8 @@ pub enum Work {
     Stages(Kind, Option<String>),
     /// Print a part of a unit of a library.
     TakeOut(Wanted),
+    /// Look into libraries in files.
+    Keep(Keeping),
     /// The script on standard input, over a library.
     Library(Session),
     /// The scripts that are left in a folder, over a library.
@@ -159,7 +170,8 @@ fn stages_command<'a>(alloc: Global) -> Result<Command<'a>, AllocError> {
 }
 
 fn size_command<'a>(alloc: Global) -> Result<Command<'a>, AllocError> {
-    let about = "Say how much the program's image takes: its code, its globals, and a stack that is enough";
+    let about =
+        "Say how much the program's image takes: its code, its globals, and a stack that is enough";
     plain_command(alloc, "size", about).arg(checked_word(alloc))
 }
 
@@ -202,6 +214,11 @@ fn command<'a>(alloc: Global) -> Result<Command<'a>, AllocError> {
     let whole = with_part(whole, size_command(alloc))?;
     let whole = with_part(whole, image_command(alloc))?;
     let whole = with_part(whole, source_command(alloc))?;
+    let whole = with_part(whole, call_command(alloc))?;
+    let whole = with_part(whole, diff_command(alloc))?;
+    let whole = with_part(whole, log_command(alloc))?;
+    let whole = with_part(whole, restore_command(alloc))?;
+    let whole = with_part(whole, copy_command(alloc))?;
     let whole = with_part(whole, library_command(alloc))?;
     let whole = with_part(whole, serve_command(alloc))?;
     with_part(whole, submit_command(alloc))
@@ -242,8 +259,8 @@ fn word_in(text: &str) -> Option<u32> {
     text.parse().ok()
 }
 
-// The input words that the texts stand for, or none where one of them stands for no word.
-fn words_in(alloc: Global, texts: &[&str]) -> Result<Option<Vec<u32>>, AllocError> {
+/// The input words that the texts stand for, or none where one of them stands for no word.
+pub(crate) fn words_in(alloc: Global, texts: &[&str]) -> Result<Option<Vec<u32>>, AllocError> {
     let mut words = Vec::new(alloc);
     for text in texts {
         let Some(word) = word_in(text) else {
@@ -303,6 +320,11 @@ fn work_of(alloc: Global, matches: &ArgMatches<'_>) -> Result<Work, Error>
         Some(("stages", given)) => Ok(stages_of(alloc, given)?),
         Some(("image", given)) => image_of(alloc, given),
         Some(("source", given)) => source_of(alloc, given),
+        Some(("call", given)) => call_of(alloc, given),
+        Some(("diff", given)) => diff_of(alloc, given),
+        Some(("log", given)) => log_of(alloc, given),
+        Some(("restore", given)) => restore_of(alloc, given),
+        Some(("copy", given)) => copy_of(alloc, given),
         Some(("library", given)) => library_of(alloc, given),
         Some(("serve", given)) => serve_of(alloc, given),
         Some(("submit", given)) => submit_of(alloc, given),

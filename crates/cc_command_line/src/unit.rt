@@ -4,7 +4,8 @@ ghost use Rattle.std.specs.Prelude.{IfOk};
 ghost use Rattle.cc_command_line.specs.Work.{IsAllowed};
 
 use crate::command_line::{Work, checked_word, kind_of};
-use crate::library::{PATH_RULE, path_of};
+use crate::library::{PATH_RULE, option, path_of};
+use crate::numbers::number_in;
 use cc_task::{Kind, Part, Task};
 use clap::error::ErrorKind;
 use clap::{Arg, ArgMatches, Command, Error};
@@ -13,6 +14,13 @@ use std::alloc::{AllocError, Global};
 const DISK: &str = "DISK";
 
 const NAME: &str = "NAME";
+
+const AT: &str = "at";
+
+/// The most commands of which a library can have the records.
+pub(crate) const MOST_COMMANDS: u64 = 1_073_741_824;
+
+pub(crate) const AT_RULE: &str = "K is the number of a line of `cclib log DISK`, from 1 on";
 
 const BOTH_RULE: &str =
     "DISK and NAME go together; without both, the program comes on standard input: cclib image < FILE";
@@ -46,6 +54,8 @@ pub struct Wanted {
     pub name: String,
     /// Which part is wanted.
     pub part: Part,
+    /// The number of the command that stored it, if that is asked for in place of what the library has now.
+    pub at: Option<u64>,
 }
 
 // The word that says which file, and the one that says which unit.
@@ -60,7 +70,13 @@ fn with_unit<'a>(
     let name = Arg::new(alloc, NAME)
         .required(is_required)
         .help("The name of the unit");
-    command.arg(disk)?.arg(name)
+    let at = option(
+        alloc,
+        AT,
+        "K",
+        "Print what command K of `cclib log DISK` stored, in place of what the library has now",
+    );
+    command.arg(disk)?.arg(name)?.arg(at)
 }
 
 /// The command `image` with its words.
@@ -100,12 +116,29 @@ fn wanted_of(
     given: &ArgMatches<'_>,
     name: &str,
     part: Part,
+    at: Option<u64>,
 ) -> Result<Option<Wanted>, AllocError> {
     let Some(disk) = path_of(alloc, given, DISK)? else {
         return Ok(None);
     };
     let name = String::from_str(alloc, name)?;
-    Ok(Some(Wanted { disk, name, part }))
+    Ok(Some(Wanted {
+        disk,
+        name,
+        part,
+        at,
+    }))
+}
+
+// The number of the command that is asked for, if one is; none where it is no number.
+fn at_of(given: &ArgMatches<'_>) -> Option<Option<u64>> {
+    let Some(text) = given.get_str(AT) else {
+        return Some(None);
+    };
+    match number_in(text, 1, MOST_COMMANDS) {
+        Some(number) => Some(Some(number)),
+        None => None,
+    }
 }
 
 /// What `image` asks for: a task for a text where it has no word, else the image of a unit.
@@ -113,7 +146,13 @@ pub(crate) fn image_of(alloc: Global, given: &ArgMatches<'_>) -> Result<Work, Er
     ensures { IfOk result IsAllowed }
 {
     let kind = kind_of(given);
+    let Some(at) = at_of(given) else {
+        return Err(refused_image(alloc, AT_RULE)?);
+    };
     if given.get_str(DISK).is_none() {
+        if at.is_some() {
+            return Err(refused_image(alloc, BOTH_RULE)?);
+        }
         return Ok(Work::One(Task::Image(kind)));
     }
     if kind == Kind::Checked {
@@ -122,7 +161,7 @@ pub(crate) fn image_of(alloc: Global, given: &ArgMatches<'_>) -> Result<Work, Er
     let Some(name) = given.get_str(NAME) else {
         return Err(refused_image(alloc, BOTH_RULE)?);
     };
-    match wanted_of(alloc, given, name, Part::Image)? {
+    match wanted_of(alloc, given, name, Part::Image, at)? {
         Some(wanted) => Ok(Work::TakeOut(wanted)),
         None => Err(refused_image(alloc, PATH_RULE)?),
     }
@@ -132,8 +171,11 @@ pub(crate) fn image_of(alloc: Global, given: &ArgMatches<'_>) -> Result<Work, Er
 pub(crate) fn source_of(alloc: Global, given: &ArgMatches<'_>) -> Result<Work, Error>
     ensures { IfOk result IsAllowed }
 {
+    let Some(at) = at_of(given) else {
+        return Err(refused_source(alloc, AT_RULE)?);
+    };
     let name = given.get_str(NAME).unwrap_or("");
-    match wanted_of(alloc, given, name, Part::Source)? {
+    match wanted_of(alloc, given, name, Part::Source, at)? {
         Some(wanted) => Ok(Work::TakeOut(wanted)),
         None => Err(refused_source(alloc, PATH_RULE)?),
     }

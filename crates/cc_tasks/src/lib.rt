@@ -21,7 +21,7 @@ mod work;
 
 pub use answer::{Answer, answer_for};
 pub use fault::Fault;
-pub use part::{PartFault, part_in, take_out, write_part};
+pub use part::{PartFault, explain_absent, part_in, part_of, take_out, write_part};
 pub use sizing::{CyclicCall, Measure, SizedFunction};
 pub use stages::{perform_and_explain_stages, perform_stages};
 pub use work::{perform, perform_and_explain};

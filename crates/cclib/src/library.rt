@@ -6,6 +6,7 @@ use cc_answers::{Persons, Telling, greet};
 use cc_command_line::Session;
 use cc_filing::{disk_of, no_disk, tell_wide_disk};
 use cc_session::{Gate, SessionEnd, session, session_and_explain};
+use cc_watch::FaultWatch;
 use std::alloc::AllocError;
 use std::io::{self, BufWriter, Input, Print, Write};
 use std::sync::Wait;
@@ -49,12 +50,13 @@ where
     requires some { 1 ≤ asked.now.workers }
     requires few { asked.now.workers ≤ 8 }
 {
-    let (Ok(mut writer), Ok(errors)) = (
+    let (Ok(buffered), Ok(errors)) = (
         BufWriter::new(rt.alloc(), io::writer(rt)),
         BufWriter::new(rt.alloc(), errors),
     ) else {
         return Err(AllocError);
     };
+    let mut writer = FaultWatch::new(buffered);
     let mut told = Telling {
         errors,
         is_quiet: persons.is_quiet,
@@ -94,5 +96,6 @@ where
         )
     };
     drop(disk);
-    Ok(status(end))
+    let is_refused = asked.is_strict && writer.has_fault();
+    Ok(if is_refused { 1 } else { status(end) })
 }

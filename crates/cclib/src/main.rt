@@ -1,9 +1,10 @@
 //! The program `cclib`: reads a C program from standard input, and checks, interprets, runs or lists it, or does a script over a library.
 //! How a command line is read is the matter of `cc_command_line`, how a task is done that of `cc_tasks`, a script that of `cc_session`, the
-//! file of a library and what is taken out of one that of `cc_filing`, a server's client that of `cc_submit`. `library` has a session over
-//! a file, `serving` a server, `stack` what the stack needs.
+//! file of a library and what is taken out of one that of `cc_filing`, what looks into libraries that of `cc_keeping`, a server's client that of
+//! `cc_submit`. `keeping` looks into libraries, `library` has a session over a file, `serving` a server, `stack` what the stack needs.
 #![tactic(auto)]
 
+mod keeping;
 mod library;
 mod serving;
 mod stack;
@@ -13,10 +14,10 @@ ghost use Rattle.cc_command_line.specs.Work.{IsAllowed};
 use cc_answers::Persons;
 use cc_command_line::{Invocation, NoRequest, Work, read_or_tell, tell_bytes};
 use cc_descriptors::{System, take_free};
-use cc_filing::take_out_of_file;
 use cc_submit::submit_script;
 use cc_task::{Kind, Task};
 use cc_tasks::{Fault, perform, perform_and_explain, perform_and_explain_stages, perform_stages};
+use keeping::{look_into, take_out};
 use library::library_session;
 use serving::serve_folder;
 use stack::reserve_stack;
@@ -189,7 +190,8 @@ where
     match work {
         Work::One(task) => start(rt, task, persons.is_quiet, errors),
         Work::Stages(kind, function) => start_stages(rt, kind, function, persons.is_quiet, errors),
-        Work::TakeOut(wanted) => take_out_of_file(rt, files, &wanted, persons.is_quiet, errors),
+        Work::TakeOut(wanted) => take_out(rt, files, &wanted, persons.is_quiet, errors),
+        Work::Keep(asked) => look_into(rt, files, &asked, persons.is_quiet, errors),
         Work::Library(asked) => library_session(rt, files, &asked, persons, errors),
         Work::Serve(asked) => serve_folder(rt, files, &asked, persons.is_quiet, errors),
         Work::Submit(asked) => {

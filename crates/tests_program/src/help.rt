@@ -20,6 +20,11 @@ Commands:
   size       Say how much the program's image takes: its code, its globals, and a stack that is enough
   image      Compile the program and print its image as Intel HEX, or print that of a unit of a library
   source     Print the source of a unit of a library
+  call       Run a unit of a library on input words
+  diff       Say where two libraries differ
+  log        Print what was added, replaced and withdrawn since the last compaction
+  restore    Put back what a unit of a library was
+  copy       Copy the units of a library into a new one, or some of them
   library    Keep compiled programs in a file that survives a power cut, by the commands of a script
   serve      Do the scripts that others leave in a folder, many at a time, over a library in a file
   submit     Leave a script for a server, wait for its answer and print it
@@ -42,6 +47,11 @@ Examples:
   cclib library units.disk --format 65536 < examples/units.script
   cclib image units.disk sum > sum.hex
   cclib source units.disk sum
+  cclib call units.disk sum 1000 4 5
+  cclib diff units.disk backup.disk
+  cclib log units.disk sum
+  cclib restore units.disk sum 1
+  cclib copy units.disk larger.disk --format 1048576
   cclib serve units.disk spool
   cclib submit spool add quotient < examples/quotient.c
 

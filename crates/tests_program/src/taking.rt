@@ -46,8 +46,20 @@ static UNITS: [(&[&str], Part); 3] = [
 
 fn asks_for_unit(alloc: Global, words: &'static [&'static str], wanted: Part) -> bool {
     match line(alloc, words) {
-        Ok(Work::TakeOut(Wanted { disk, name, part })) => {
-            disk.as_str() == "units.disk" && name.as_str() == "quotient" && part == wanted
+        Ok(
+            Work::TakeOut(
+                Wanted {
+                    disk,
+                    name,
+                    part,
+                    at,
+                },
+            ),
+        ) => {
+            disk.as_str() == "units.disk"
+                && name.as_str() == "quotient"
+                && part == wanted
+                && at.is_none()
         }
         other => {
             drop(other);

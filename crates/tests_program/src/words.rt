@@ -55,9 +55,10 @@ fn asks_for_library(
                     disk,
                     area,
                     workers,
+                    is_strict,
                 },
             ),
-        ) => disk.as_str() == path && area == wanted && workers == count,
+        ) => disk.as_str() == path && area == wanted && workers == count && !is_strict,
         other => {
             drop(other);
             false
