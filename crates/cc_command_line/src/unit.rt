@@ -4,6 +4,7 @@ ghost use Rattle.std.specs.Prelude.{IfOk};
 ghost use Rattle.cc_command_line.specs.Work.{IsAllowed};
 
 use crate::command_line::Work;
+use crate::files::with_file;
 use crate::library::{PATH_RULE, path_of};
 use cc_task::{Part, Task};
 use clap::error::ErrorKind;
@@ -67,7 +68,8 @@ pub(crate) fn image_command<'a>(alloc: Global) -> Result<Command<'a>, AllocError
             "Compile the program and print its image as Intel HEX, or print that of a unit of a library",
         )
         .after_help(IMAGE_HELP);
-    with_unit(alloc, begun, false)
+    let begun = with_unit(alloc, begun, false)?;
+    with_file(alloc, begun)
 }
 
 /// The command `source` with its words.
