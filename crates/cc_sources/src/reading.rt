@@ -1,6 +1,6 @@
 // Reading texts.
 
-ghost use Rattle.std.specs.Prelude.{◌≤◌, IfOk, vec_len};
+ghost use Rattle.std.specs.Prelude.{◌≡◌, ◌≤◌, IfOk, vec_len};
 ghost use Rattle.cc_sources.specs.Reading.{IsTextOf};
 
 use super::text::NamedText;
