@@ -5,7 +5,7 @@ ghost use Rattle.cc_task.specs.Task.{IsWithinLimits};
 ghost use Rattle.cc_command_line.specs.Work.{IsAllowed};
 
 use crate::files::{
-    BOTH_RULE, EMPTY_RULE, NO_FILE_RULE, Named, named, paths_of, reads_program, with_file,
+    BOTH_RULE, EMPTY_RULE, NO_FILE_RULE, Named, files_named, paths_of, reads_program, with_file,
     with_files,
 };
 use crate::library::{Session, library_command, library_of};
@@ -305,7 +305,7 @@ fn files_of(alloc: Global, matches: &ArgMatches<'_>) -> Result<Vec<String>, Erro
     let Some((_, given)) = matches.subcommand() else {
         return Ok(Vec::new(alloc));
     };
-    match named(given) {
+    match files_named(given) {
         Named::Input => Ok(Vec::new(alloc)),
         Named::Both => Err(refused_files(alloc, BOTH_RULE)?),
         Named::Files(names) => match paths_of(alloc, names)? {

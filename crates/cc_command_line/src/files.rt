@@ -52,7 +52,7 @@ pub(crate) enum Named<'a, 'b> {
 }
 
 /// Which files the words of a command name.
-pub(crate) fn named<'a, 'b>(given: &'b ArgMatches<'a>) -> Named<'a, 'b> {
+pub(crate) fn files_named<'a, 'b>(given: &'b ArgMatches<'a>) -> Named<'a, 'b> {
     match (given.get_strs(FILE), given.get_strs(FILES)) {
         (Some(_), Some(_)) => Named::Both,
         (Some(names), None) | (None, Some(names)) => Named::Files(names),

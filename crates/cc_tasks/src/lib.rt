@@ -21,6 +21,7 @@ mod work;
 pub use answer::{Answer, answer_for};
 pub use explain::{
     Explanation, explanation_of_fault, explanation_of_program, explanation_of_wrong,
+    write_explanation,
 };
 pub use fault::Fault;
 pub use part::{PartFault, part_in, take_out, write_part};
@@ -29,4 +30,4 @@ pub use texts::{
     perform_and_explain_stages_of_texts, perform_stages_of_texts, perform_texts,
     perform_texts_and_explain, read_or_refuse,
 };
-pub use work::{perform, perform_and_explain};
+pub use work::{perform, perform_and_explain, write_stop};

@@ -30,7 +30,8 @@ fn cause_name(cause: Cause) -> &'static str
     }
 }
 
-fn write_stop<W: Write>(stop: Stop, writer: &mut W) -> io::Result<()>
+/// Writes how a run of the interpreter stops.
+pub fn write_stop<W: Write>(stop: Stop, writer: &mut W) -> io::Result<()>
     ensures { OnOk result (Appends (W.contents writer.old) (W.contents writer.new) (stop_text stop)) }
 {
     match stop {
