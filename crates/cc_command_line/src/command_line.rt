@@ -4,6 +4,10 @@ ghost use Rattle.std.specs.Prelude.{◌≤◌, IfOk};
 ghost use Rattle.cc_task.specs.Task.{IsWithinLimits};
 ghost use Rattle.cc_command_line.specs.Work.{IsAllowed};
 
+use crate::files::{
+    BOTH_RULE, EMPTY_RULE, NO_FILE_RULE, Named, files_named, paths_of, reads_program, with_file,
+    with_files,
+};
 use crate::keeping::{
     Keeping, call_command, call_of, copy_command, copy_of, diff_command, diff_of, log_command,
     log_of, restore_command, restore_of,
@@ -34,6 +38,7 @@ pub(crate) const WORD_RULE: &str =
 const WHOLE_HELP: &str = "\
 Examples:
   cclib check < examples/quotient.c
+  cclib check main.c table.c
   cclib interpret 1000 < examples/quotient.c
   cclib run 10000 2 104 105 < examples/checksum.c
   cclib run --checked 10000 2 104 105 < examples/checksum.c
@@ -52,7 +57,8 @@ Examples:
   cclib serve units.disk spool
   cclib submit spool add quotient < examples/quotient.c
 
-The C program is read from standard input. The WORDs are the program's own input;
+The C program is read from standard input, or from the files that --file names, which are
+put together in their order. The WORDs are the program's own input;
 a negative one is written modulo 4294967296: 4294967293 for -3.
 
 `library` reads a script of commands in place of a program:
@@ -129,7 +135,7 @@ fn runner_command<'a>(alloc: Global, runner: &Runner) -> Result<Command<'a>, All
         .num_args(0..)
         .allow_negative_numbers(true)
         .help("The input words: 0 to 4294967295 each");
-    begun.arg(words)
+    with_file(alloc, begun.arg(words)?)
 }
 
 /// The word that asks for a checked image.
@@ -152,27 +158,46 @@ pub(crate) fn kind_of(given: &ArgMatches<'_>) -> Kind {
 }
 
 // A command without words of its own.
-fn plain_command<'a>(alloc: Global, name: &'static str, about: &'static str) -> Command<'a> {
-    Command::new(alloc, name)
-        .about(about)
-        .after_help("The program comes on standard input.")
+fn plain_command<'a>(
+    alloc: Global,
+    name: &'static str,
+    about: &'static str,
+    help: &'static str,
+) -> Result<Command<'a>, AllocError> {
+    let begun = Command::new(alloc, name).about(about).after_help(help);
+    with_file(alloc, begun)
+}
+
+fn check_command<'a>(alloc: Global) -> Result<Command<'a>, AllocError> {
+    let about = "Say `ok`, or the first fault of the program";
+    let help = "The program comes on standard input, or in files: cclib check main.c table.c";
+    let begun = plain_command(alloc, "check", about, help)?;
+    with_files(alloc, begun)
+}
+
+fn asm_command<'a>(alloc: Global) -> Result<Command<'a>, AllocError> {
+    let about = "Compile the program and list its image";
+    let help = "The program comes on standard input, or in files: cclib asm -f main.c -f table.c";
+    plain_command(alloc, "asm", about, help)
 }
 
 fn stages_command<'a>(alloc: Global) -> Result<Command<'a>, AllocError> {
     let function = Arg::new(alloc, FUNCTION).help(
         "The function that is shown: all of them where none is given",
     );
-    Command::new(alloc, "stages")
+    let begun = Command::new(alloc, "stages")
         .about("Show what the compiler makes of each function, stage by stage")
         .after_help("The program comes on standard input: cclib stages main < examples/quotient.c")
         .arg(function)?
-        .arg(checked_word(alloc))
+        .arg(checked_word(alloc))?;
+    with_file(alloc, begun)
 }
 
 fn size_command<'a>(alloc: Global) -> Result<Command<'a>, AllocError> {
     let about =
         "Say how much the program's image takes: its code, its globals, and a stack that is enough";
-    plain_command(alloc, "size", about).arg(checked_word(alloc))
+    let help = "The program comes on standard input, or in files: cclib size -f main.c -f table.c";
+    plain_command(alloc, "size", about, help)?.arg(checked_word(alloc))
 }
 
 // The command with one more part.
@@ -190,7 +215,6 @@ fn with_part<'a>(
 }
 
 fn command<'a>(alloc: Global) -> Result<Command<'a>, AllocError> {
-    let check = "Say `ok`, or the first fault of the program";
     let quiet = Arg::new(alloc, QUIET)
         .long(QUIET)
         .action(ArgAction::SetTrue)
@@ -199,17 +223,15 @@ fn command<'a>(alloc: Global) -> Result<Command<'a>, AllocError> {
     let whole = Command::new(alloc, "cclib")
         .version("0.1.0")
         .about(
-            "Reads a C program from standard input: checks, interprets, compiles and runs it, or keeps compiled programs in a file",
+            "Reads a C program from standard input or files: checks, interprets, compiles and runs it, or keeps compiled programs in a file",
         )
         .after_help(WHOLE_HELP)
         .subcommand_required(true)
-        .arg(quiet)?
-        .subcommand(plain_command(alloc, "check", check))?;
+        .arg(quiet)?;
+    let whole = with_part(whole, check_command(alloc))?;
     let whole = with_part(whole, runner_command(alloc, &INTERPRET))?;
     let whole = with_part(whole, run_command(alloc))?;
-    let asm = "Compile the program and list its image";
-    let asm = plain_command(alloc, "asm", asm).arg(checked_word(alloc));
-    let whole = with_part(whole, asm)?;
+    let whole = with_part(whole, asm_command(alloc))?;
     let whole = with_part(whole, stages_command(alloc))?;
     let whole = with_part(whole, size_command(alloc))?;
     let whole = with_part(whole, image_command(alloc))?;
@@ -335,11 +357,55 @@ fn work_of(alloc: Global, matches: &ArgMatches<'_>) -> Result<Work, Error>
     }
 }
 
-/// What a command line asks for: the work, and whether no fault of it is to be explained.
+// The error of clap for files that break this rule.
+fn refused_files(alloc: Global, rule: &'static str) -> Result<Error, AllocError> {
+    let mut whole = command(alloc)?;
+    whole.error(ErrorKind::ValueValidation, rule)
+}
+
+// The files that a command line names; none where the program comes on standard input.
+fn files_of(alloc: Global, matches: &ArgMatches<'_>) -> Result<Vec<String>, Error> {
+    let Some((_, given)) = matches.subcommand() else {
+        return Ok(Vec::new(alloc));
+    };
+    match files_named(given) {
+        Named::Input => Ok(Vec::new(alloc)),
+        Named::Both => Err(refused_files(alloc, BOTH_RULE)?),
+        Named::Files(names) => match paths_of(alloc, names)? {
+            Some(paths) => Ok(paths),
+            None => Err(refused_files(alloc, EMPTY_RULE)?),
+        },
+    }
+}
+
+/// What a command line asks for: the work, whether no fault of it is to be explained, and the files that have its program; none where that
+/// comes on standard input.
 #[derive(Drop)]
 pub struct Invocation {
     pub work: Work,
     pub is_quiet: bool,
+    pub files: Vec<String>,
+}
+
+// A work whose program is in these files.
+fn invoked(
+    alloc: Global,
+    work: Work,
+    files: Vec<String>,
+    is_quiet: bool,
+) -> Result<Invocation, Error>
+    ensures { IsAllowed work → IfOk result (λ request. IsAllowed request.work) }
+{
+    if files.is_empty() || reads_program(&work) {
+        return Ok(Invocation {
+            work,
+            is_quiet,
+            files,
+        });
+    }
+    drop(work);
+    drop(files);
+    Err(refused_files(alloc, NO_FILE_RULE)?)
 }
 
 /// Reads the command line, whose first word is the program's name.
@@ -351,10 +417,18 @@ pub fn read_invocation<'a, S: AsStr>(alloc: Global, words: &'a [S]) -> Result<In
     let matches = command(alloc)?.try_get_matches_from(words)?;
     let is_quiet = matches.get_flag(QUIET);
     let work = work_of(alloc, &matches);
+    let files = files_of(alloc, &matches);
     drop(matches);
-    match work {
-        Ok(work) => Ok(Invocation { work, is_quiet }),
-        Err(error) => Err(error),
+    match (work, files) {
+        (Ok(work), Ok(files)) => invoked(alloc, work, files, is_quiet),
+        (Err(error), files) => {
+            drop(files);
+            Err(error)
+        }
+        (Ok(work), Err(error)) => {
+            drop(work);
+            Err(error)
+        }
     }
 }
 
@@ -363,7 +437,16 @@ pub fn line<'a, S: AsStr>(alloc: Global, words: &'a [S]) -> Result<Work, Error>
     ensures { IfOk result IsAllowed }
 {
     match read_invocation(alloc, words) {
-        Ok(Invocation { work, is_quiet: _ }) => Ok(work),
+        Ok(
+            Invocation {
+                work,
+                is_quiet: _,
+                files,
+            },
+        ) => {
+            drop(files);
+            Ok(work)
+        }
         Err(error) => Err(error),
     }
 }

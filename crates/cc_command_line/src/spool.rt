@@ -4,6 +4,7 @@ ghost use Rattle.std.specs.Prelude.{◌≤◌, IfOk, IfSome};
 ghost use Rattle.cc_command_line.specs.Work.{IsAllowed};
 
 use crate::command_line::Work;
+use crate::files::with_file;
 use crate::library::{
     AREA_RULE, FORMAT, LEAST_AREA, MOST_AREA, MOST_WORKERS, PATH_RULE, WORKERS, WORKERS_RULE,
     option, path_of, workers_option,
@@ -188,12 +189,13 @@ pub(crate) fn submit_command<'a>(alloc: Global) -> Result<Command<'a>, AllocErro
     let words = Arg::new(alloc, "COMMAND")
         .num_args(0..)
         .help("A line of a script");
-    Command::new(alloc, "submit")
+    let begun = Command::new(alloc, "submit")
         .about("Leave a script for a server, wait for its answer and print it")
         .after_help(SUBMIT_HELP)
         .arg(folder)?
         .arg(wait)?
-        .arg(words)
+        .arg(words)?;
+    with_file(alloc, begun)
 }
 
 // The error of clap for a value that breaks this rule.

@@ -4,6 +4,7 @@ ghost use Rattle.std.specs.Prelude.{IfOk};
 ghost use Rattle.cc_command_line.specs.Work.{IsAllowed};
 
 use crate::command_line::{Work, checked_word, kind_of};
+use crate::files::with_file;
 use crate::library::{PATH_RULE, option, path_of};
 use crate::numbers::number_in;
 use cc_task::{Kind, Part, Task};
@@ -87,7 +88,8 @@ pub(crate) fn image_command<'a>(alloc: Global) -> Result<Command<'a>, AllocError
         )
         .after_help(IMAGE_HELP)
         .arg(checked_word(alloc))?;
-    with_unit(alloc, begun, false)
+    let begun = with_unit(alloc, begun, false)?;
+    with_file(alloc, begun)
 }
 
 /// The command `source` with its words.

@@ -13,9 +13,10 @@ use cc_answers::{Persons, Telling, explain_bad_line, explain_no_command, explain
 use cc_command_line::Submitter;
 use cc_screen::Screen;
 use cc_script::{Dialect, ScriptCommand, ScriptFault, command_of};
+use cc_sources::{Origin, join};
 use cc_spool::{FolderLayout, SpoolFault, Submission, fault_lines, source_in, submit};
 use cc_task::Task;
-use cc_tasks::perform_and_explain;
+use cc_tasks::{perform_and_explain, perform_texts_and_explain, read_or_refuse};
 use std::alloc::{AllocError, Global};
 use std::io::{self, BufWriter, Input, IsTerminal, Print, Read, Write};
 
@@ -28,15 +29,15 @@ const NO_MEMORY: &[u8] = b"fault 40 OutOfMemory\n";
 
 // What is sent.
 #[derive(Drop)]
-enum Sent {
+enum Sent<'a> {
     // The script on standard input.
     Script,
     // A line that takes no source.
     Line(Vec<u8>),
     // The same, whose answer is a source.
     Fetch(Vec<u8>),
-    // A line with its source, and how many bytes the line has.
-    Source(Vec<u8>, usize),
+    // A line with its source, how many bytes the line has, and where the source comes from.
+    Source(Vec<u8>, usize, Origin<'a>),
 }
 
 // Whether a line takes a source: it is one with a length behind it.
@@ -75,8 +76,20 @@ fn asks_source(line: &str) -> bool
     )
 }
 
+// The source that is given, up to a byte more than it may have.
+fn source<R: Input>(rt: &R, alloc: Global, origin: Origin<'_>) -> io::Result<Vec<u8>> {
+    match origin {
+        Origin::Input => source_on_input(rt, alloc),
+        Origin::Texts(texts) => {
+            let mut source = join(alloc, texts)?;
+            source.truncate(MOST_SOURCE);
+            Ok(source)
+        }
+    }
+}
+
 // The source on standard input, up to a byte more than it may have.
-fn source<R: Input>(rt: &R, alloc: Global) -> io::Result<Vec<u8>> {
+fn source_on_input<R: Input>(rt: &R, alloc: Global) -> io::Result<Vec<u8>> {
     let mut reader = rt.reader();
     let mut source = Vec::new(alloc);
     let mut piece = [0u8; 4096];
@@ -96,7 +109,12 @@ fn source<R: Input>(rt: &R, alloc: Global) -> io::Result<Vec<u8>> {
 }
 
 // What is sent for a line; none where it is no command.
-fn sent_of<R: Input>(rt: &R, alloc: Global, line: Option<&str>) -> io::Result<Option<Sent>>
+fn sent_of<'a, R: Input>(
+    rt: &R,
+    alloc: Global,
+    line: Option<&str>,
+    origin: Origin<'a>,
+) -> io::Result<Option<Sent<'a>>>
     ensures fetch { IfOk result (λ sent. IfSome sent (λ s. is_fetch s ≡ fetches (option_map (λ l. l.now) line.entry))) }
 {
     let Some(line) = line else {
@@ -109,13 +127,13 @@ fn sent_of<R: Input>(rt: &R, alloc: Global, line: Option<&str>) -> io::Result<Op
         return Ok(Some(Sent::Fetch(bytes)));
     }
     if takes_source(alloc, line)? {
-        let source = source(rt, alloc)?;
+        let source = source(rt, alloc, origin)?;
         let text = format!(in alloc; "{line} {}\n", source.len())?;
         bytes.extend_from_slice(text.as_bytes())?;
         let begin = bytes.len();
         bytes.extend_from_slice(source.as_slice())?;
         bytes.push(b'\n')?;
-        return Ok(Some(Sent::Source(bytes, begin)));
+        return Ok(Some(Sent::Source(bytes, begin, origin)));
     }
     if !is_whole(line) {
         return Ok(None);
@@ -131,7 +149,7 @@ fn send<R: Input, W: Write, E: Write>(
     layout: &FolderLayout,
     process: u32,
     wait: Option<u32>,
-    sent: &Sent,
+    sent: &Sent<'_>,
     writer: &mut W,
     watched: &mut E,
 ) -> io::Result<Submission>
@@ -147,7 +165,7 @@ fn send<R: Input, W: Write, E: Write>(
             watched,
             wait,
         ),
-        Sent::Line(bytes) | Sent::Fetch(bytes) | Sent::Source(bytes, _) => submit(
+        Sent::Line(bytes) | Sent::Fetch(bytes) | Sent::Source(bytes, _, _) => submit(
             layout,
             process,
             bytes.as_slice(),
@@ -172,7 +190,7 @@ fn fault<W: Write>(fault: SpoolFault, writer: &mut W) -> u8
 fn explain<R: AllocGlobal, E: Write>(
     rt: &R,
     number: u32,
-    sent: &Sent,
+    sent: &Sent<'_>,
     told: &mut E,
 ) -> io::Result<()> {
     if number == SpoolFault::Interrupted.number() {
@@ -188,12 +206,27 @@ fn explain<R: AllocGlobal, E: Write>(
     if words_of(number).is_some() {
         return explain_words(number, told);
     }
-    if let Sent::Source(bytes, begin) = sent
-        && let Some(mut source) = bytes.as_slice().get(*begin..bytes.len().saturating_sub(1))
+    if let Sent::Source(bytes, begin, origin) = sent
+        && let Some(source) = bytes.as_slice().get(*begin..bytes.len().saturating_sub(1))
     {
-        let _status = perform_and_explain(rt, Task::Check, &mut source, &mut io::sink(), told);
+        explain_source(rt, source, *origin, told);
     }
     Ok(())
+}
+
+// Tells a person what `check` tells of a source.
+fn explain_source<R: AllocGlobal, E: Write>(
+    rt: &R,
+    source: &[u8],
+    origin: Origin<'_>,
+    told: &mut E,
+) {
+    let mut source = source;
+    let writer = &mut io::sink();
+    let _status = match origin {
+        Origin::Input => perform_and_explain(rt, Task::Check, &mut source, writer, told),
+        Origin::Texts(texts) => perform_texts_and_explain(rt, Task::Check, texts, writer, told),
+    };
 }
 
 // Writes the line of the fault by which the system refused a call in the folder: 40 if it was memory, else 56; the status.
@@ -256,7 +289,7 @@ fn finish<R: AllocGlobal, W: Write, E: Write>(
     rt: &R,
     done: io::Result<Submission>,
     asked: &Submitter,
-    sent: &Sent,
+    sent: &Sent<'_>,
     writer: &mut W,
     told: &mut E,
 ) -> u8
@@ -324,7 +357,7 @@ fn finish_source<R: AllocGlobal, W: Write, E: Write>(
     done: io::Result<Submission>,
     answer: &[u8],
     asked: &Submitter,
-    sent: &Sent,
+    sent: &Sent<'_>,
     writer: &mut W,
     told: &mut E,
 ) -> u8
@@ -359,7 +392,7 @@ fn leave<R: AllocGlobal + Input, W: Write, E: Write + Drop>(
     layout: &FolderLayout,
     process: u32,
     asked: &Submitter,
-    sent: &Sent,
+    sent: &Sent<'_>,
     persons: Persons,
     writer: &mut W,
     told: &mut Telling<E>,
@@ -381,12 +414,14 @@ fn leave<R: AllocGlobal + Input, W: Write, E: Write + Drop>(
 }
 
 /// Leaves a script for the server of a folder, and writes its answer; the status: 0 if an answer came, was written whole and tells no fault,
-/// 2 if the line is no command, else 1. Of an answer that is a source its bytes alone are written. The error is lack of memory before it began.
+/// 2 if the line is no command, else 1. Of an answer that is a source its bytes alone are written. The source of a line that takes one is in the
+/// texts, or on standard input. The error is lack of memory before it began.
 pub fn submit_to<R: AllocGlobal + Input, W: Write, E: Write + Drop>(
     rt: &R,
     layout: &FolderLayout,
     process: u32,
     asked: &Submitter,
+    origin: Origin<'_>,
     persons: Persons,
     writer: &mut W,
     told: &mut Telling<E>,
@@ -397,7 +432,7 @@ pub fn submit_to<R: AllocGlobal + Input, W: Write, E: Write + Drop>(
         Some(line) => Some(line.as_str()),
         None => None,
     };
-    let sent = match sent_of(rt, rt.alloc(), line) {
+    let sent = match sent_of(rt, rt.alloc(), line, origin) {
         Ok(Some(sent)) => sent,
         Ok(None) => {
             let _ = explain_no_command(&mut told.errors);
@@ -415,13 +450,15 @@ pub fn submit_to<R: AllocGlobal + Input, W: Write, E: Write + Drop>(
     Ok(status)
 }
 
-/// Leaves a script for the server of a folder, and prints its answer, as `submit_to` does; the status. On a terminal control bytes of the
-/// answer are shown as `?`. The error is lack of memory before it began.
+/// Leaves a script for the server of a folder, and prints its answer, as `submit_to` does; the status. The source of a line that takes one is in
+/// the files of these names, or on standard input if there are none. On a terminal control bytes of the answer are shown as `?`. The error is
+/// lack of memory before it began.
 pub fn submit_script<R: AllocGlobal + Input + Print, E: Write + Drop>(
     rt: &R,
     files: &HostRuntime,
     process: u32,
     asked: &Submitter,
+    names: &[String],
     persons: Persons,
     errors: E,
 ) -> Result<u8, AllocError> {
@@ -437,12 +474,21 @@ pub fn submit_script<R: AllocGlobal + Input + Print, E: Write + Drop>(
         errors,
         is_quiet: persons.is_quiet,
     };
+    let Some(texts) = read_or_refuse(rt, files, names, &mut writer, &mut told)? else {
+        return Ok(1);
+    };
+    let origin = if names.is_empty() {
+        Origin::Input
+    } else {
+        Origin::Texts(texts.as_slice())
+    };
     let layout = FolderLayout::new(*files, alloc, asked.folder.as_str())?;
     submit_to(
         rt,
         &layout,
         process,
         asked,
+        origin,
         persons,
         &mut writer,
         &mut told,

@@ -2,7 +2,5 @@ pub mod Parting
 pub mod Showing
 -- Where the functions of an image are.
 pub mod Placing
--- What was read from a reader.
-pub mod Reading
 -- What a task writes.
 pub mod Working

@@ -1,12 +1,13 @@
 -- What a task writes for what it reads.
 use Rattle.std.proofs.Common.{◌≡◌, ◌∙◌, ℕ, List, [], take, Option, Some, None, Result, Ok, Err, OnOk, refl, sym, ap, subst, inl, inr}
-use Rattle.std.specs.Prelude.{◌⊎◌, IfOk, IfErr}
+use Rattle.std.specs.Prelude.{◌⊎◌, IfOk, IfErr, IsErrAnd}
 use Rattle.std.proofs.KnownBytes.{Appends-kept}
 use Rattle.std.specs.Io.KnownBytes.{Appends, Keeps}
+use Rattle.cc_sources.specs.Reading.{IsTextOf}
 use Rattle.cc_task.specs.declared.task.Task.{Task}
 use Rattle.cc_c_laws.specs.declared.mode.Mode.{Mode}
 use Rattle.cc_tasks.specs.Answer.{Answers, IsRefused, mode_for}
-use Rattle.cc_tasks.specs.Written.{IsAnswered, IsTurnedDown, HasNoAnswer, IsPerformed, IsTextOf, Writes, answer_text, fault_text}
+use Rattle.cc_tasks.specs.Written.{IsAnswered, IsTurnedDown, HasNoAnswer, IsPerformed, Writes, answer_text, fault_text}
 use Rattle.cc_tasks.specs.internal.Working.{Flushes, RefusesBy, IsAnsweredFor, IsRefusedFor, TellsOf, IsDoneFor, status_of}
 use Rattle.cc_tasks.specs.declared.answer.Answer.{Answer}
 use Rattle.cc_tasks.specs.declared.fault.Fault.{Fault}
@@ -55,6 +56,11 @@ unread input a b fault told (inr is) (inr by) mode = inr (inr (subst (λ (f : Fa
   refused = tt;
   written = subst (λ (f : Fault). Appends a b (fault_text [] f)) is by.1;
 })))
+
+-- a task that was not done, since memory ran out before a text was there
+pub undone : {T : Type 0} (answer : Result T Fault) (task : Task) (input a b : Option (List ℕ)) → IsErrAnd answer (λ told. RefusesBy OutOfMemory [] a b told) → IsDoneFor task input a b answer
+undone (Ok did) task input a b by = absurd by
+undone (Err told) task input a b by = unread input a b OutOfMemory told (inr refl) by
 
 -- a task that was done for the text that was read
 pub done : {T : Type 0} (answer : Result T Fault) (task : Task) (input a b c : Option (List ℕ)) (text : List ℕ) → IsTextOf input text → b ≡ a → TellsOf task text b c answer → IsDoneFor task input a c answer

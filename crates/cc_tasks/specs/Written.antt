@@ -1,5 +1,5 @@
 -- What the program writes of a text, byte for byte, and what it has then done.
-use Rattle.std.specs.Prelude.{◌≡◌, ◌⊎◌, ℕ, List, [], ◌++◌, take, Option, IfSome, Result, Ok, Err, Vec, codes}
+use Rattle.std.specs.Prelude.{◌≡◌, ◌⊎◌, ℕ, List, [], ◌++◌, Option, Result, Ok, Err, Vec, codes}
 use Rattle.std.specs.declared.alloc.Global.{Global}
 use Rattle.std.specs.Fmt.{decimal}
 use Rattle.std.specs.List.{flat_map}
@@ -12,6 +12,7 @@ use Rattle.cc_meaning.specs.declared.outcome.Stop.TheVariants.{Going, Ended, Wro
 use Rattle.cc_meaning.specs.declared.outcome.Outcome.{Outcome}
 use Rattle.cc_rv32.specs.Listing.{hexadecimal, signed_text}
 use Rattle.cc_link.specs.Text.{text_fault_place}
+use Rattle.cc_sources.specs.Reading.{IsTextOf}
 use Rattle.cc_answers.specs.Text.{line, words_text, run_text, fault_line, place_text, function_text}
 use Rattle.cc_size.specs.declared.size.UnitSize.{UnitSize}
 use Rattle.cc_task.specs.declared.task.Task.{Task}
@@ -106,10 +107,6 @@ found_text (Err fault) = fault_line (part_fault_number fault) []
 abbrev pub Writes : {T : Type 0} → (old new : Option (List ℕ)) (text : List ℕ) → Result T Fault → Type 0
 Writes old new text (Ok done) = Appends old new text
 Writes old new text (Err fault) = fault ≡ Write
-
--- a reader's text: its bytes, or the first 65,537 of them if it has more
-abbrev pub IsTextOf : Option (List ℕ) → (text : List ℕ) → Type 0
-IsTextOf bytes text = IfSome bytes (λ all. text ≡ take 65537 all)
 
 -- the text of an answer to the task for the reader's text was written
 pub record IsAnswered (task : Task) (input old new : Option (List ℕ)) : Type 0 where

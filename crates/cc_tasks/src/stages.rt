@@ -6,11 +6,12 @@ ghost use Rattle.cc_tasks.specs.internal.Stages.{fault_of_stages};
 ghost use Rattle.cc_tasks.specs.declared.fault.Fault.TheVariants.{UnknownFunction};
 
 use super::answer::mode_of;
-use super::explain::{Matter, explain_fault, explain_program};
+use super::explain::{Matter, explanation_of_fault, explanation_of_program, write_explanation};
 use super::fault::Fault;
 use super::unknown::explain_unknown;
 use super::work::{Performed, read_text, refused, status};
 use cc_link::typed_unit;
+use cc_sources::Origin;
 use cc_stages::{StagesFault, stages};
 use cc_task::Kind;
 use cc_types::TypedUnit;
@@ -69,8 +70,8 @@ fn tell<W: Write>(
     }
 }
 
-// Shows the text of a reader.
-fn try_perform<R: Read, W: Write>(
+/// Shows the text of a reader.
+pub(crate) fn try_stages<R: Read, W: Write>(
     alloc: Global,
     kind: Kind,
     function: Option<&[u8]>,
@@ -117,20 +118,25 @@ fn explain_name<W: Write>(
     }
 }
 
-// Explains what was told of a text.
-fn explain<W: Write>(
+/// Explains what was told of a text that comes from there.
+pub(crate) fn explain_stages<W: Write>(
     alloc: Global,
     function: Option<&[u8]>,
     performed: &Performed,
+    origin: Origin<'_>,
     writer: &mut W,
 ) {
     let text = performed.text.as_slice();
-    let written = match &performed.told {
-        Ok(_) => explain_program(alloc, text, writer),
-        Err(Fault::UnknownFunction) => explain_name(alloc, text, function.unwrap_or(b""), writer),
-        Err(fault) => explain_fault(alloc, text, fault, writer),
+    let explanation = match &performed.told {
+        Ok(_) => explanation_of_program(alloc, text),
+        Err(fault) => explanation_of_fault(alloc, text, fault),
     };
-    let _ = written;
+    let _ = match &performed.told {
+        Err(Fault::UnknownFunction) => {
+            explain_name(alloc, text, function.unwrap_or(b""), writer)
+        }
+        _ => write_explanation(alloc, text, origin, &explanation, writer),
+    };
     let _ = writer.flush();
 }
 
@@ -149,7 +155,7 @@ pub fn perform_stages<H: AllocGlobal, R: Read, W: Write>(
 ) -> u8
     ensures { result ≤ 1 }
 {
-    let performed = try_perform(rt.alloc(), kind, function, reader, writer);
+    let performed = try_stages(rt.alloc(), kind, function, reader, writer);
     status(performed)
 }
 
@@ -165,7 +171,13 @@ pub fn perform_and_explain_stages<H: AllocGlobal, R: Read, W: Write, E: Write>(
 ) -> u8
     ensures { result ≤ 1 }
 {
-    let performed = try_perform(rt.alloc(), kind, function, reader, writer);
-    explain(rt.alloc(), function, &performed, explanations);
+    let performed = try_stages(rt.alloc(), kind, function, reader, writer);
+    explain_stages(
+        rt.alloc(),
+        function,
+        &performed,
+        Origin::Input,
+        explanations,
+    );
     status(performed)
 }

@@ -3,17 +3,22 @@
 ghost use Rattle.std.specs.Prelude.{◌≡◌, IfOk, IfErr, OnOk};
 ghost use Rattle.std.specs.Io.KnownBytes.{Appends};
 ghost use Rattle.cc_c_laws.specs.declared.mode.Mode.{Mode};
-ghost use Rattle.cc_tasks.specs.Written.{answer_text, cause_name, outcome_text, stop_text, HasNoAnswer, IsPerformed, IsTextOf, Writes};
+ghost use Rattle.cc_sources.specs.Reading.{IsTextOf};
+ghost use Rattle.cc_tasks.specs.Written.{answer_text, cause_name, outcome_text, stop_text, HasNoAnswer, IsPerformed, Writes};
 ghost use Rattle.cc_tasks.specs.internal.Working.{Flushes, IsDoneFor, RefusesBy, TellsOf, status_of};
 
 use super::answer::{Answer, answer_for};
-use super::explain::{Matter, explain_fault, explain_going, explain_program, explain_wrong};
+use super::explain::{
+    Matter, explanation_of_fault, explanation_of_going, explanation_of_program,
+    explanation_of_wrong, write_explanation,
+};
 use super::fault::Fault;
 use super::sizing::write_measure;
 use super::source::read_source;
 use cc_answers::{write_run, write_words};
 use cc_meaning::{Cause, Outcome, Stop};
 use cc_rv32::outcome::MachineOutcome;
+use cc_sources::Origin;
 use cc_task::Task;
 use std::alloc::Global;
 use std::io::{self, Read, Write};
@@ -29,7 +34,8 @@ fn cause_name(cause: Cause) -> &'static str
     }
 }
 
-fn write_stop<W: Write>(stop: Stop, writer: &mut W) -> io::Result<()>
+/// Writes how a run of the interpreter stops.
+pub fn write_stop<W: Write>(stop: Stop, writer: &mut W) -> io::Result<()>
     ensures { OnOk result (Appends (W.contents writer.old) (W.contents writer.new) (stop_text stop)) }
 {
     match stop {
@@ -150,9 +156,9 @@ pub(crate) fn read_text<R: Read, W: Write>(
     }
 }
 
-// Does a task.
+/// Does a task.
 #[tactic(auto, using(crate::proofs::Working::done))]
-fn try_perform<R: Read, W: Write>(
+pub(crate) fn try_perform<R: Read, W: Write>(
     alloc: Global,
     task: &Task,
     reader: &mut R,
@@ -172,16 +178,22 @@ fn try_perform<R: Read, W: Write>(
     }
 }
 
-// Explains what a task told of a text.
-fn explain<W: Write>(alloc: Global, task: &Task, performed: &Performed, writer: &mut W) {
+/// Explains what a task told of a text that comes from there.
+pub(crate) fn explain<W: Write>(
+    alloc: Global,
+    task: &Task,
+    performed: &Performed,
+    origin: Origin<'_>,
+    writer: &mut W,
+) {
     let text = performed.text.as_slice();
-    let written = match &performed.told {
-        Ok(Matter::Text) => explain_program(alloc, text, writer),
-        Ok(Matter::Wrong(cause)) => explain_wrong(alloc, task, text, *cause, writer),
-        Ok(Matter::Going) => explain_going(alloc, task, text, writer),
-        Err(fault) => explain_fault(alloc, text, fault, writer),
+    let explanation = match &performed.told {
+        Ok(Matter::Text) => explanation_of_program(alloc, text),
+        Ok(Matter::Wrong(cause)) => explanation_of_wrong(alloc, task, text, *cause),
+        Ok(Matter::Going) => explanation_of_going(alloc, task, text),
+        Err(fault) => explanation_of_fault(alloc, text, fault),
     };
-    let _ = written;
+    let _ = write_explanation(alloc, text, origin, &explanation, writer);
     let _ = writer.flush();
 }
 
@@ -228,6 +240,6 @@ pub fn perform_and_explain<H: AllocGlobal, R: Read, W: Write, E: Write>(
     ensures { IsPerformed task (R.remaining reader.old) (W.contents writer.old) (W.contents writer.new) result }
 {
     let performed = try_perform(rt.alloc(), &task, reader, writer);
-    explain(rt.alloc(), &task, &performed, explanations);
+    explain(rt.alloc(), &task, &performed, Origin::Input, explanations);
     status(performed)
 }

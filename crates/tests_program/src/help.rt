@@ -7,7 +7,7 @@ static VERSION: &str = "cclib 0.1.0
 ";
 
 static HELP: &str = "\
-Reads a C program from standard input: checks, interprets, compiles and runs it, or keeps compiled programs in a file
+Reads a C program from standard input or files: checks, interprets, compiles and runs it, or keeps compiled programs in a file
 
 Usage: cclib [OPTIONS] <COMMAND>
 
@@ -37,6 +37,7 @@ Options:
 
 Examples:
   cclib check < examples/quotient.c
+  cclib check main.c table.c
   cclib interpret 1000 < examples/quotient.c
   cclib run 10000 2 104 105 < examples/checksum.c
   cclib run --checked 10000 2 104 105 < examples/checksum.c
@@ -55,7 +56,8 @@ Examples:
   cclib serve units.disk spool
   cclib submit spool add quotient < examples/quotient.c
 
-The C program is read from standard input. The WORDs are the program's own input;
+The C program is read from standard input, or from the files that --file names, which are
+put together in their order. The WORDs are the program's own input;
 a negative one is written modulo 4294967296: 4294967293 for -3.
 
 `library` reads a script of commands in place of a program:

@@ -12,6 +12,8 @@ mod explanations;
 #[cfg(test)]
 mod faulty;
 #[cfg(test)]
+mod files;
+#[cfg(test)]
 mod help;
 #[cfg(test)]
 mod helpers;

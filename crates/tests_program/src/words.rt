@@ -154,7 +154,7 @@ pub fn are_refused(alloc: Global, lists: &[&'static [&'static str]]) -> bool {
     right
 }
 
-static REFUSED: [&[&str]; 20] = [
+static REFUSED: [&[&str]; 19] = [
     &["cclib", "interpret", "1000000001"],
     &["cclib", "interpret", "+5"],
     &["cclib", "interpret", "-1"],
@@ -167,7 +167,6 @@ static REFUSED: [&[&str]; 20] = [
     &["cclib", "run", "-5"],
     &["cclib", "run", "5", "-1"],
     &["cclib", "asm", "5"],
-    &["cclib", "check", "5"],
     &["cclib"],
     &["cclib", "library"],
     &["cclib", "library", "a", "--workers", "0"],
@@ -192,8 +191,15 @@ static QUIET: [(&[&str], bool); 4] = [
 
 fn asks_for_quiet(alloc: Global, words: &'static [&'static str]) -> Option<bool> {
     match read_invocation(alloc, words) {
-        Ok(Invocation { work, is_quiet }) => {
+        Ok(
+            Invocation {
+                work,
+                is_quiet,
+                files,
+            },
+        ) => {
             drop(work);
+            drop(files);
             Some(is_quiet)
         }
         Err(error) => {
@@ -278,8 +284,9 @@ fn reads_quiet_check(rt: &HostRuntime, words: &'static [&'static str]) -> bool {
             Invocation {
                 work: Work::One(Task::Check),
                 is_quiet,
+                files,
             },
-        ) => is_quiet,
+        ) => is_quiet && files.is_empty(),
         other => {
             drop(other);
             false

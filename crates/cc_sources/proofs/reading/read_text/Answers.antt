@@ -1,8 +1,8 @@
 -- The text is as long as may be, or the reader is at its end.
 use Rattle.std.proofs.Common.{rules, ◌≡◌, ◌≤◌, ◌<◌, length, refl}
-use Rattle.cc_tasks.proofs.Reading.{at_end, read_full, read_whole}
-use Rattle.cc_tasks.proofs.source.read_source.Goals.{else-loop-piece-test, then-loop-piece-test+in-Ok+then-count-eq0}
-use Rattle.cc_tasks.proofs.source.read_source.Goals as goal
+use Rattle.cc_sources.proofs.Pieces.{at_end, read_full, read_whole}
+use Rattle.cc_sources.proofs.reading.read_text.Goals.{else-loop-piece-test, then-loop-piece-test+in-Ok+then-count-eq0}
+use Rattle.cc_sources.proofs.reading.read_text.Goals as goal
 
 pub returns-clause-text : goal.returns-clause-text
 returns-clause-text g c =

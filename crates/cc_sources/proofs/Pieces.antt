@@ -3,7 +3,7 @@ use Rattle.std.proofs.Common.{◌≡◌, ◌∙◌, ◌≤◌, ◌<◌, ℕ, Lis
 use Rattle.std.proofs.KnownBytes.{Consumes-trans}
 use Rattle.std.specs.Io.KnownBytes.{Consumes, IsAtEnd}
 use lib.Seq.{take-append_seam}
-use Rattle.cc_tasks.specs.Written.{IsTextOf}
+use Rattle.cc_sources.specs.Reading.{IsTextOf}
 
 -- as many bytes as are read
 pub read_full : (a b : Option (List ℕ)) (text : List ℕ) → Consumes a b text → length text ≡ 65537 → IsTextOf a text

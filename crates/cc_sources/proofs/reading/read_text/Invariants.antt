@@ -1,7 +1,7 @@
 -- The loop ends, since each turn but the last adds a byte below the limit; what was read so far is the text.
 use Rattle.std.proofs.Common.{◌≤◌, ◌-◌, vec_len}
 use Rattle.std.specs.Io.KnownBytes.{Consumes}
-use Rattle.cc_tasks.proofs.source.read_source.Given as goal
+use Rattle.cc_sources.proofs.reading.read_text.Given as goal
 
 abbrev pub invariant-loop-piece : goal.invariant-loop-piece
 invariant-loop-piece g l = (vec_len l.text ≤ 65537) × Consumes (g.R.Read.remaining l.initial.reader) (g.R.Read.remaining l.reader) l.text.items
