@@ -80,11 +80,11 @@ fn takes_source(line: &str) -> bool {
 /// Whether a work reads a program, so that it may come in files.
 pub(crate) fn reads_program(work: &Work) -> bool {
     match work {
-        Work::One(_) | Work::Stages(_) => true,
+        Work::One(_) | Work::Stages(_, _) => true,
         Work::Submit(asked) => match &asked.line {
             Some(line) => takes_source(line.as_str()),
             None => false,
         },
-        Work::TakeOut(_) | Work::Library(_) | Work::Serve(_) => false,
+        Work::TakeOut(_) | Work::Keep(_) | Work::Library(_) | Work::Serve(_) => false,
     }
 }

@@ -10,7 +10,7 @@ use super::fault::Fault;
 use super::stages::{explain_stages, try_stages};
 use super::work::{Performed, explain, refused, status, try_perform};
 use cc_sources::{NamedText, NoText, NoTexts, Origin, join, read_texts, tell_unread};
-use cc_task::Task;
+use cc_task::{Kind, Task};
 use std::alloc::{AllocError, Global};
 use std::io::{self, Input, Write};
 use std::rt::Files;
@@ -108,12 +108,13 @@ pub fn perform_texts_and_explain<H: AllocGlobal, W: Write, E: Write>(
 // Shows the functions of the text that texts make.
 fn try_stages_of_texts<W: Write>(
     alloc: Global,
+    kind: Kind,
     function: Option<&[u8]>,
     texts: &[NamedText],
     writer: &mut W,
 ) -> Performed {
     match join(alloc, texts) {
-        Ok(whole) => try_stages(alloc, function, &mut whole.as_slice(), writer),
+        Ok(whole) => try_stages(alloc, kind, function, &mut whole.as_slice(), writer),
         Err(_) => unjoined(alloc, writer),
     }
 }
@@ -121,19 +122,21 @@ fn try_stages_of_texts<W: Write>(
 /// Shows functions as `perform_stages` does, of the text that texts make.
 pub fn perform_stages_of_texts<H: AllocGlobal, W: Write>(
     rt: &H,
+    kind: Kind,
     function: Option<&[u8]>,
     texts: &[NamedText],
     writer: &mut W,
 ) -> u8
     ensures { result ≤ 1 }
 {
-    let performed = try_stages_of_texts(rt.alloc(), function, texts, writer);
+    let performed = try_stages_of_texts(rt.alloc(), kind, function, texts, writer);
     status(performed)
 }
 
 /// The same, and explains as `perform_texts_and_explain` does.
 pub fn perform_and_explain_stages_of_texts<H: AllocGlobal, W: Write, E: Write>(
     rt: &H,
+    kind: Kind,
     function: Option<&[u8]>,
     texts: &[NamedText],
     writer: &mut W,
@@ -141,7 +144,7 @@ pub fn perform_and_explain_stages_of_texts<H: AllocGlobal, W: Write, E: Write>(
 ) -> u8
     ensures { result ≤ 1 }
 {
-    let performed = try_stages_of_texts(rt.alloc(), function, texts, writer);
+    let performed = try_stages_of_texts(rt.alloc(), kind, function, texts, writer);
     explain_stages(
         rt.alloc(),
         function,

@@ -97,9 +97,9 @@ fn start_stages<R: AllocGlobal + Input + Print, E: Write + Drop>(
         None => None,
     };
     let status = if names.is_empty() {
-        start_stages_of_input(rt, name, is_quiet, errors)
+        start_stages_of_input(rt, kind, name, is_quiet, errors)
     } else {
-        start_stages_of_texts(rt, files, name, names, is_quiet, errors)
+        start_stages_of_texts(rt, files, kind, name, names, is_quiet, errors)
     };
     drop(function);
     status
@@ -108,6 +108,7 @@ fn start_stages<R: AllocGlobal + Input + Print, E: Write + Drop>(
 // The same of the text on standard input.
 fn start_stages_of_input<R: AllocGlobal + Input + Print, E: Write + Drop>(
     rt: &R,
+    kind: Kind,
     name: Option<&[u8]>,
     is_quiet: bool,
     errors: E,

@@ -1,7 +1,7 @@
 // A program that comes in files.
 
 use cc_answers::Telling;
-use cc_task::Task;
+use cc_task::{Kind, Task};
 use cc_tasks::{
     perform_and_explain_stages_of_texts, perform_stages_of_texts, perform_texts,
     perform_texts_and_explain, read_or_refuse,
@@ -48,6 +48,7 @@ pub fn start_texts<R: AllocGlobal + Input + Print, E: Write + Drop>(
 pub fn start_stages_of_texts<R: AllocGlobal + Input + Print, E: Write + Drop>(
     rt: &R,
     files: &HostRuntime,
+    kind: Kind,
     function: Option<&[u8]>,
     names: &[String],
     is_quiet: bool,
@@ -65,7 +66,7 @@ pub fn start_stages_of_texts<R: AllocGlobal + Input + Print, E: Write + Drop>(
     };
     let texts = texts.as_slice();
     if is_quiet {
-        return Ok(perform_stages_of_texts(rt, function, texts, &mut writer));
+        return Ok(perform_stages_of_texts(rt, kind, function, texts, &mut writer));
     }
-    Ok(perform_and_explain_stages_of_texts(rt, function, texts, &mut writer, &mut told))
+    Ok(perform_and_explain_stages_of_texts(rt, kind, function, texts, &mut writer, &mut told))
 }
