@@ -1,2 +1,2 @@
--- What is written of a value.
-pub mod Line
+-- What only private contracts speak of.
+pub mod internal

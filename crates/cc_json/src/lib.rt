@@ -2,7 +2,7 @@
 //!
 //! `object` makes an object and writes it, `telling` has what is told of a place, `fault` a fault, `answer` an answer; `performing` does a task and
 //! writes all of it so. `lines` makes objects of the lines of a session's answers, and of what is told beside them. Which members an object has
-//! is the matter of `docs/JSON.md`. Hands out these, and the definition that a contract names (`specs/`).
+//! is the matter of `docs/JSON.md`. Hands out these.
 #![tactic(auto)]
 
 mod answer;
@@ -12,5 +12,5 @@ mod object;
 mod performing;
 mod telling;
 
-pub use lines::{InJson, Lines};
+pub use lines::{InJson, LineKind};
 pub use performing::{perform_files_in_json, perform_in_json};

@@ -61,20 +61,19 @@ fn behind<'a>(line: &'a [u8], word: &[u8]) -> Option<&'a [u8]> {
 
 // The parts of a line of a fault behind its number and name: its place, its function and the label.
 fn add_parts(object: &mut Object, line: &[u8]) -> Result<(), AllocError> {
-    let mut parts = line.split(|byte| *byte == b' ');
-    for _ in 0..3 {
-        parts.next();
-    }
+    let mut parts = line.split(|byte| *byte == b' ').skip(3);
     for _ in 0..2 {
-        match (parts.next(), parts.next()) {
-            (Some(b"at"), Some(b"label")) => {
-                if let Some(label) = parts.next() {
-                    object.bytes("label", label)?;
-                }
+        let (Some(word), Some(value)) = (parts.next(), parts.next()) else {
+            return Ok(());
+        };
+        if word == b"in".as_slice() {
+            object.bytes("function", value)?;
+        } else if value == b"label".as_slice() {
+            if let Some(label) = parts.next().and_then(unsigned) {
+                object.count("label", label as usize)?;
             }
-            (Some(b"at"), Some(place)) => object.bytes("at", place)?,
-            (Some(b"in"), Some(name)) => object.bytes("function", name)?,
-            _ => return Ok(()),
+        } else {
+            object.bytes("at", value)?;
         }
     }
     Ok(())
@@ -100,10 +99,10 @@ fn fault_value(alloc: Global, line: &[u8]) -> Result<Option<Value>, AllocError> 
 
 // The object of a line that says how a run ended; none if it says something else.
 fn end_of(alloc: Global, line: &[u8]) -> Result<Option<Value>, AllocError> {
-    if line == b"going" {
+    if line == b"going".as_slice() {
         return Ok(Some(end_value(alloc, "going", None)?));
     }
-    if line == b"trapped" {
+    if line == b"trapped".as_slice() {
         return Ok(Some(end_value(alloc, "trapped", None)?));
     }
     if let Some(why) = behind(line, b"wrong") {
@@ -121,7 +120,7 @@ fn end_of(alloc: Global, line: &[u8]) -> Result<Option<Value>, AllocError> {
 
 /// The object of a line of an answer.
 pub(crate) fn line_value(alloc: Global, line: &[u8]) -> Result<Value, AllocError> {
-    if line == b"ok" {
+    if line == b"ok".as_slice() {
         return ok_value(alloc);
     }
     if let Some(number) = behind(line, b"ok").and_then(unsigned) {
@@ -169,22 +168,25 @@ fn placed_value(alloc: Global, line: &[u8]) -> Result<Option<Value>, AllocError>
     Ok(Some(object.into_value()))
 }
 
+// How many bytes at the front of a line are spaces.
+fn spaces(line: &[u8]) -> usize {
+    line.iter().take_while(|byte| **byte == b' ').count()
+}
+
+// How many are digits.
+fn digits(line: &[u8]) -> usize {
+    line.iter().take_while(|byte| byte.is_ascii_digit()).count()
+}
+
 // Whether a line shows a line of a text, or a caret below one.
 fn is_excerpt(line: &[u8]) -> bool {
-    let mut rest = line;
-    for _ in 0..line.len() {
-        match rest.split_first() {
-            Some((b' ', after)) => rest = after,
-            _ => break,
-        }
+    let number = line.get(spaces(line)..).unwrap_or(b"");
+    let rest = number.get(digits(number)..).unwrap_or(b"");
+    if rest.len() < number.len() {
+        rest.starts_with(b" | ")
+    } else {
+        number.len() < line.len() && rest.starts_with(b"| ")
     }
-    for _ in 0..line.len() {
-        match rest.split_first() {
-            Some((byte, after)) if byte.is_ascii_digit() => rest = after,
-            _ => break,
-        }
-    }
-    line.starts_with(b" ") && (rest.starts_with(b"| ") || rest.starts_with(b" | "))
 }
 
 // Whether a line says what the object of a fault says already.
@@ -215,7 +217,7 @@ fn told_value(alloc: Global, line: &[u8]) -> Result<Option<Value>, AllocError> {
 
 /// What lines are.
 #[derive(Clone, Copy)]
-pub enum Lines {
+pub enum LineKind {
     /// Answers.
     Answers,
     /// What is told beside them.
@@ -227,12 +229,12 @@ pub enum Lines {
 pub struct InJson<W: Drop> {
     alloc: Global,
     writer: W,
-    lines: Lines,
+    lines: LineKind,
     line: Vec<u8>,
 }
 
 impl<W: Write + Drop> InJson<W> {
-    pub fn new(alloc: Global, writer: W, lines: Lines) -> InJson<W> {
+    pub fn new(alloc: Global, writer: W, lines: LineKind) -> InJson<W> {
         InJson {
             alloc,
             writer,
@@ -241,12 +243,24 @@ impl<W: Write + Drop> InJson<W> {
         }
     }
 
+    /// The writer of the objects. A line without its end is left out.
+    pub fn into_writer(self) -> W {
+        let InJson {
+            alloc: _,
+            writer,
+            lines: _,
+            line,
+        } = self;
+        drop(line);
+        writer
+    }
+
     // Writes the line that is there.
     fn finish_line(&mut self) -> io::Result<()> {
         let line = self.line.as_slice();
         let value = match self.lines {
-            Lines::Answers => Some(line_value(self.alloc, line)?),
-            Lines::Told => told_value(self.alloc, line)?,
+            LineKind::Answers => Some(line_value(self.alloc, line)?),
+            LineKind::Told => told_value(self.alloc, line)?,
         };
         self.line.clear();
         match value {

@@ -1,7 +1,7 @@
 // An object of JSON on a line.
 
 ghost use Rattle.std.specs.Prelude.{OnOk};
-ghost use Rattle.cc_json.specs.Line.{IsLineOf};
+ghost use Rattle.cc_json.specs.internal.Line.{IsLineOf};
 
 use serde_json::{Map, Value, put};
 use std::alloc::{AllocError, Global};

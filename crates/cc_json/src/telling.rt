@@ -2,7 +2,7 @@
 
 use super::object::Object;
 use cc_diagnostic::{Diagnostic, Related};
-use cc_sources::{NamedText, place_in};
+use cc_sources::{NamedText, named_message, place_in};
 use serde_json::Value;
 use std::alloc::{AllocError, Global};
 
@@ -55,7 +55,8 @@ pub(crate) fn add_told(
     if let Some(at) = diagnostic.at {
         add_place(object, texts, at)?;
     }
-    let message = diagnostic.message.as_str();
+    let told = named_message(alloc, texts, diagnostic.message.as_str())?;
+    let message = told.as_str();
     add_message(object, message.strip_prefix("warning: ").unwrap_or(message))?;
     object.list("notes", notes_of(alloc, texts, diagnostic.related)?)
 }
