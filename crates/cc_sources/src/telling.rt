@@ -1,5 +1,6 @@
 // What is told of a text, with the names of the texts that it was made of.
 
+use super::message::named_message;
 use super::place::place_in;
 use super::reading::INPUT;
 use super::text::NamedText;
@@ -39,11 +40,14 @@ fn write_names<W: Write>(texts: &[NamedText], writer: &mut W) -> io::Result<()> 
 // A message about a byte of one text.
 fn message_at(
     alloc: Global,
+    texts: &[NamedText],
     before: &str,
     words: &str,
     at: usize,
 ) -> Result<Diagnostic, AllocError> {
+    let words = named_message(alloc, texts, words)?;
     let message = format!(in alloc; "{before}{words}")?;
+    drop(words);
     Ok(Diagnostic {
         at: Some(at),
         message,
@@ -66,7 +70,7 @@ fn write_at<W: Write>(
     let Some(text) = texts.get(found.number) else {
         return Ok(());
     };
-    let message = message_at(alloc, before, words, found.at)?;
+    let message = message_at(alloc, texts, before, words, found.at)?;
     let mut shown = Vec::new(alloc);
     message.write(text.bytes.as_slice(), &mut shown)?;
     write_name(text.name.as_str(), writer)?;

@@ -85,7 +85,7 @@ fn places_in_texts(rt: HostRuntime) {
 }
 
 // Texts, what `check` writes for them, and what is explained.
-static CHECKED: [(&[(&str, &str)], &str, &str); 5] = [
+static CHECKED: [(&[(&str, &str)], &str, &str); 6] = [
     (
         &[
             ("A.c", "int twice(int a){return a+a;}"),
@@ -113,10 +113,15 @@ static CHECKED: [(&[(&str, &str)], &str, &str); 5] = [
     (
         &[
             ("A.c", "int f(int a);\n"),
-            ("-", "int f;\nint main(void){}\n"),
+            ("-", "int f(void);\nint main(void){}\n"),
         ],
         "fault 12 Redeclared at 2:5\n",
-        "-:1:5: 'f' is declared already\n    1 | int f;\n      |     ^\nA.c:1:5: note: here it is declared\n    1 | int f(int a);\n      |     ^\n",
+        "-:1:5: 'f' is declared otherwise at A.c:1:5\n    1 | int f(void);\n      |     ^\n",
+    ),
+    (
+        &[("A.c", "int main(void)"), ("B.c", "{return 1;")],
+        "fault 5 Unexpected at 2:11\n",
+        "B.c:1:11: unexpected end of the text, expected a statement or '}'\n    1 | {return 1;\n      |           ^\nB.c:1:1: note: this '{' is not closed\n    1 | {return 1;\n      | ^\n",
     ),
     (
         &[

@@ -1,2 +1,0 @@
--- What is written of a value.
-pub mod Line
