@@ -19,7 +19,7 @@ mod stages;
 mod unknown;
 mod work;
 
-pub use answer::{Answer, answer_for};
+pub use answer::{Answer, answer_for, mode_of};
 pub use fault::Fault;
 pub use part::{PartFault, part_in, take_out, write_part};
 pub use sizing::{CyclicCall, Measure, SizedFunction};
