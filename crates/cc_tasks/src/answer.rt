@@ -62,7 +62,7 @@ fn ran(alloc: Global, text: &[u8], words: &[u32], steps: u64) -> Result<Answer, 
 }
 
 /// The mode of an image.
-pub(crate) fn mode_of(kind: Kind) -> Mode
+pub fn mode_of(kind: Kind) -> Mode
     ensures { result ≡ mode_of kind }
 {
     match kind {

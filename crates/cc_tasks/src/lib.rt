@@ -20,7 +20,7 @@ mod texts;
 mod unknown;
 mod work;
 
-pub use answer::{Answer, answer_for};
+pub use answer::{Answer, answer_for, mode_of};
 pub use explain::{
     Explanation, explanation_of_fault, explanation_of_program, explanation_of_wrong,
     write_explanation,
