@@ -128,10 +128,17 @@ fn made(
     requires least { 64 ≤ asked.now.area }
     requires most { asked.now.area ≤ 1073741824 }
 {
+    if fs::symlink_metadata(files, making).is_ok() {
+        return Err(LibraryFault::DiskFault);
+    }
     let size = 16 + 2 * asked.area as usize;
     let disk = match FileDisk::create_new(files, making, size) {
         Ok(disk) => disk,
-        Err(_) => return Err(LibraryFault::DiskFault),
+        Err(_) => {
+            // What was begun of it, as where there was no room.
+            let _ = fs::remove_file(files, making);
+            return Err(LibraryFault::DiskFault);
+        }
     };
     let (answer, disk) = copy_units(alloc, units, disk, asked.area);
     match answer {
