@@ -6,7 +6,7 @@
 ghost use Rattle.std.specs.Prelude.{◌≤◌};
 
 use crate::telling::{refuse, refuse_quietly, unwritten};
-use cc_answers::{Telling, tell_audit};
+use cc_answers::{Telling, tell_audit, tell_ok};
 use cc_command_line::Copying;
 use cc_copy::{ChooseFault, Selection, choose, confirm, copy_units, least_area};
 use cc_disk::FileDisk;
@@ -128,10 +128,17 @@ fn made(
     requires least { 64 ≤ asked.now.area }
     requires most { asked.now.area ≤ 1073741824 }
 {
+    if fs::symlink_metadata(files, making).is_ok() {
+        return Err(LibraryFault::DiskFault);
+    }
     let size = 16 + 2 * asked.area as usize;
     let disk = match FileDisk::create_new(files, making, size) {
         Ok(disk) => disk,
-        Err(_) => return Err(LibraryFault::DiskFault),
+        Err(_) => {
+            // What was begun of it, as where there was no room.
+            let _ = fs::remove_file(files, making);
+            return Err(LibraryFault::DiskFault);
+        }
     };
     let (answer, disk) = copy_units(alloc, units, disk, asked.area);
     match answer {
@@ -155,6 +162,9 @@ fn write_new(
     requires least { 64 ≤ asked.now.area }
     requires most { asked.now.area ≤ 1073741824 }
 {
+    if !units.fits(asked.area as usize) {
+        return Err(LibraryFault::Full);
+    }
     let path = asked.new.as_str();
     if fs::symlink_metadata(files, path).is_ok() {
         return Err(LibraryFault::DiskFault);
@@ -176,20 +186,31 @@ fn write_new(
     }
 }
 
-// Writes the names of the units that were copied, what an audit says of those that were left out, and that all is written.
-fn write_copied<W: Write>(alloc: Global, selection: &Selection, writer: &mut W) -> io::Result<()> {
-    for name in &selection.units.names(alloc)? {
+// Writes the names of the units that were copied.
+fn write_names<W: Write>(names: &[Name], writer: &mut W) -> io::Result<()> {
+    for name in names {
         writer.write_all(b"copied ")?;
         writer.write_all(name.bytes())?;
         writer.write_all(b"\n")?;
     }
+    Ok(())
+}
+
+// Writes the names of the units that were copied, what an audit says of those that were left out, and that all is written: whether that could be
+// written.
+fn is_told<W: Write>(alloc: Global, selection: &Selection, writer: &mut W) -> bool {
+    let Ok(names) = selection.units.names(alloc) else {
+        return false;
+    };
+    if write_names(names.as_slice(), writer).is_err() {
+        return false;
+    }
     for left in &selection.left_out {
         if tell_audit(left.name.bytes(), left.audit, writer).is_err() {
-            return Err(io::Error::from(io::ErrorKind::Other));
+            return false;
         }
     }
-    writeln!(writer, "ok")?;
-    writer.flush()
+    tell_ok(writer).is_ok()
 }
 
 // Tells of a library that was not made.
@@ -241,7 +262,7 @@ pub fn copy_file<R: AllocGlobal + Print, E: Write + Drop>(
     if let Err(fault) = write_new(rt.alloc(), files, process, &selection.units, asked) {
         return Ok(refuse_new(fault, &selection.units, &mut writer, &mut told));
     }
-    if write_copied(rt.alloc(), &selection, &mut writer).is_err() {
+    if !is_told(rt.alloc(), &selection, &mut writer) {
         return Ok(unwritten(&mut told));
     }
     Ok(if selection.left_out.is_empty() { 0 } else { 1 })
