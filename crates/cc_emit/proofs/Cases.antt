@@ -35,7 +35,7 @@ use Rattle.cc_words.specs.Widths.{bytes, kept}
 use Rattle.cc_emit.specs.declared.item.PieceItem.{PieceItem}
 use Rattle.cc_emit.specs.declared.item.PieceItem.TheVariants.{Go, Plain}
 use Rattle.cc_emit.specs.declared.condition.Condition.{Condition}
-use Rattle.cc_emit.specs.Contract.{Code, IsPlace, Path, element_place, filled, load_of, store_of}
+use Rattle.cc_emit.specs.Contract.{Code, IsPlace, Path, Shares, element_place, filled, load_of, store_of}
 use Rattle.cc_emit.specs.Frames.{Frame}
 use Rattle.cc_emit.specs.Branches.{compares, opposite, turned}
 use Rattle.cc_emit.specs.Emission.{access_size, addi, base_register, based, branch_items, branch_size, const_items, const_size, distance, high, indexed, load_element, low, part_of, prologue_size, recipe, recipe_items, recipe_size, store_element, unary_instr, upper_items}
@@ -48,13 +48,13 @@ use Rattle.cc_emit.specs.Scratch.{nothing, known_of, address_of, sum_base, witho
 use Rattle.cc_emit.proofs.Fine.{IsTarget}
 use Rattle.cc_emit.proofs.Basics.{in_stack, high_low, high_word, first_word, eqb_yes, eqb_says, same_first, set_same, set_other, set_twice}
 use Rattle.cc_emit.proofs.Bytes.{load_accessible, loaded_word, store_accessible}
-use Rattle.cc_emit.proofs.Elements.{element_tells, holds, placed}
+use Rattle.cc_emit.proofs.Elements.{IsElement, element_tells, holds, placed}
 use Rattle.cc_emit.proofs.Places.{DistanceIs, Nears, close_nears, distance_is, stays_near}
 use Rattle.cc_emit.proofs.Branching.{Tells, if_not, led_by, opposite_taken, turned_tells}
 use Rattle.cc_emit.proofs.Recipes.{IsRight, recipe_right, binary_word, unary_right, unary_executes}
 use Rattle.cc_emit.proofs.Standing.{Site, Standing, Stands, addressed_at, all_addressed, near, labels, machine_step, first_items, standing_tail, standing_from, step_at, jump_step}
 use Rattle.cc_emit.proofs.Saving.{load_step, store_step}
-use Rattle.cc_emit.proofs.Holding.{IsKnown, IsKnownAt, is_known, element_address, parts_of, upper_stays, address_stays_6}
+use Rattle.cc_emit.proofs.Holding.{IsAddress, IsKnown, IsKnownAt, is_known, element_address, parts_of, upper_stays, address_stays_6}
 use Rattle.cc_emit.proofs.Within.{Within, within_set, within_scratch, within_5, within_as, within_nothing, within_pc, within_slot, within_store, within_read, within_write, above_floor}
 
 -- the machine comes to where these items stand
@@ -526,36 +526,70 @@ same_memory ByPointer Byte s i b = refl
 same_memory ByPointer Word s i b = refl
 same_memory ElementByPointer w s i b = refl
 
-load_at : (x : Site) {held : Scratch} (w a : ℕ) (width : Width) (g to i : ℕ) (rest : List Step) (l : Locations) (h : World) (s : State) → Given x held w a (One (Load width g to i) ∷ rest) l h s → (z : Option ℕ) → element h width g (l (Register i)) ≡ z → Case x (One (Load width g to i) ∷ rest) l h s
-load_at x w a width g to i rest l h s given None is = inr (λ ws. ap (λ z. tried z (λ q. Goes (at_steps rest (put (Register to) q l) h ws))) is)
-load_at x {held} w a width g to i rest l h s (e, st, inside) (Some v) is =
-    let items = first_items x w a (One (Load width g to i)) rest st in
-    let fine = st.fine.0 in
-    let n = l (Register i) in
-    let b = x.layout.base g in
-    let at = element_place width b n in
+-- where an element lies, from what x5 holds of its address and the object's part
+abbrev pub Leads : Width → (index at b : ℕ) → (word : ℕ) → Type 0
+Leads width i at b word = (o part : ℕ) (f : ℕ → ℕ) → f i ≡ word → (o + part) % 2 ^ 32 ≡ b → IsAddress width i o f → (f 5 + part) % 2 ^ 32 ≡ at
+
+-- an element is loaded, and one is stored: the one of that number, by a register and an address from which its object lies so far
+pub loaded_reaches : (x : Site) {held : Scratch} (v a : ℕ) (width : Width) (g to i b n word : ℕ) (rest : List Step) (l : Locations) (h : World) (s : State) → s.pc ≡ x.place + 4 * a → b < 2 ^ 32 → Leads width i (element_place width (x.layout.base g) n) b (l (Register i)) → IsElement h width g n word → IsTarget x.frame to → IsAllocatable i
+    → Stands x (x.place + 4 * a) (indexed (known_of x.frame.sets_pointer held width b i) width b i (load_element width to 5 (part_of (known_of x.frame.sets_pointer held width b i) b) ∷ []))
+    → Standing x (without to (behind_element (known_of x.frame.sets_pointer held width b i) held width b i)) v (a + access_size (known_of x.frame.sets_pointer held width b i) width) rest → Within x held l h s → Reaches x rest (put (Register to) word l) h s
+loaded_reaches x {held} v a width g to i b n word rest l h s e small leads there target ui items st inside =
+    let at = element_place width (x.layout.base g) n in
     let p = x.place + 4 * a in
-    let there = element_tells h width g n v is in
-    let lies = placed x h s width g n v inside.shares there in
+    let lies = placed x h s width g n word inside.shares there in
     let from = lies.from in
     let below = lies.below in
-    let low_from = x.layout.from g in
-    let low_to = x.layout.to g in
-    let small : b < 2 ^ 32 = omega arith in
     let known = known_of x.frame.sets_pointer held width b i in
     let told = is_known x.frame.sets_pointer (x.from.registers 3) held width b i s.registers inside.pointer inside.holds in
     let u = at_element known width s i b in
-    let wu = within_element x known l h width s i b told fine.1 inside in
-    let value : loaded (load_of width) u.memory at ≡ v = ap (λ (m : ℕ → ℕ). loaded (load_of width) m at) (same_memory known width s i b) ∙ holds x h s width g n v inside.shares there in
-    let lv : v < 2 ^ 32 = (let q = loaded_word width u.memory at wu.sound.memory in omega arith) in
-    let address = element_address width i b n (sum_base known b) (part_of known b) u.registers (sym (wu.same i fine.1)) (omega arith) (parts_of known width b i s.registers small told) wu.holds.address.1 in
-    let t : State = record u { pc = u.pc + 4; registers = with_register u.registers to v } in
-    inl (stepped x (One (Load width g to i) ∷ rest) rest l (put (Register to) v l) h h s (λ ws. ap (λ z. tried z (λ q. Goes (at_steps rest (put (Register to) q l) h ws))) is)
-    (element_reaches x rest (put (Register to) v l) h known width s p i b (load_element width to 5 (part_of known b)) e items
+    let wu = within_element x known l h width s i b told ui inside in
+    let value : loaded (load_of width) u.memory at ≡ word = ap (λ (m : ℕ → ℕ). loaded (load_of width) m at) (same_memory known width s i b) ∙ holds x h s width g n word inside.shares there in
+    let lv : word < 2 ^ 32 = (let q = loaded_word width u.memory at wu.sound.memory in omega arith) in
+    let address = leads (sum_base known b) (part_of known b) u.registers (sym (wu.same i ui)) (parts_of known width b i s.registers small told) wu.holds.address.1 in
+    let t : State = record u { pc = u.pc + 4; registers = with_register u.registers to word } in
+    element_reaches x rest (put (Register to) word l) h known width s p i b (load_element width to 5 (part_of known b)) e items
     (λ stands pc.
-    reach_by x rest (put (Register to) v l) h u t _ (a + access_size known width)
+    reach_by x rest (put (Register to) word l) h u t v (a + access_size known width)
     (load_step x.code u (load_of width) (p + 4 * before known width) to 5 (part_of known b) at pc stands address (load_accessible x.code.floor width at lies.aligned (omega arith) lies.below) ∙ ap (λ n. puts to n u) value)
-    (ap (λ n. n + 4) pc ∙ behind_access known width x.place a) (standing_tail x w a (One (Load width g to i)) rest st) (within_set x l h u (u.pc + 4) to v fine.0 lv wu))))
+    (ap (λ n. n + 4) pc ∙ behind_access known width x.place a) st (within_set x l h u (u.pc + 4) to word target lv wu))
+
+pub stored_reaches : (x : Site) {held : Scratch} (v a : ℕ) (width : Width) (g i r b n old : ℕ) (rest : List Step) (l : Locations) (h : World) (s : State) → s.pc ≡ x.place + 4 * a → b < 2 ^ 32 → Leads width i (element_place width (x.layout.base g) n) b (l (Register i)) → IsElement h width g n old → IsAllocatable i → IsAllocatable r
+    → Stands x (x.place + 4 * a) (indexed (known_of x.frame.sets_pointer held width b i) width b i (store_element width 5 r (part_of (known_of x.frame.sets_pointer held width b i) b) ∷ []))
+    → Standing x (behind_element (known_of x.frame.sets_pointer held width b i) held width b i) v (a + access_size (known_of x.frame.sets_pointer held width b i) width) rest → Within x held l h s → Reaches x rest l (with_element h g n (kept width (l (Register r)))) s
+stored_reaches x {held} v a width g i r b n old rest l h s e small leads there ui ur items st inside =
+    let at = element_place width (x.layout.base g) n in
+    let p = x.place + 4 * a in
+    let lies = placed x h s width g n old inside.shares there in
+    let from = lies.from in
+    let below = lies.below in
+    let k = with_element h g n (kept width (l (Register r))) in
+    let known = known_of x.frame.sets_pointer held width b i in
+    let told = is_known x.frame.sets_pointer (x.from.registers 3) held width b i s.registers inside.pointer inside.holds in
+    let u = at_element known width s i b in
+    let wu = within_element x known l h width s i b told ui inside in
+    let address = leads (sum_base known b) (part_of known b) u.registers (sym (wu.same i ui)) (parts_of known width b i s.registers small told) wu.holds.address.1 in
+    let t : State = record u { pc = u.pc + 4; memory = stored (store_of width) u.memory at (l (Register r)) } in
+    element_reaches x rest l k known width s p i b (store_element width 5 r (part_of known b)) e items
+    (λ stands pc.
+    reach_by x rest l k u t v (a + access_size known width)
+    (store_step x.code u (store_of width) (p + 4 * before known width) 5 r (part_of known b) at pc stands address (store_accessible x.code.floor width at lies.aligned (omega arith) lies.below)
+    ∙ ap (λ n. Continues (record u { pc = u.pc + 4; memory = stored (store_of width) u.memory at n })) (sym (wu.same r ur)))
+    (ap (λ n. n + 4) pc ∙ behind_access known width x.place a) st (within_store x l h u (u.pc + 4) width g n (l (Register r)) old there (word_of_register x l h s r ur inside) wu))
+
+-- an object's address is a word, and an element of it lies within the globals
+pub base_word : (x : Site) (h : World) (s : State) (width : Width) (g n v : ℕ) → Shares x.layout s h → IsElement h width g n v → (x.layout.base g < 2 ^ 32) × (element_place width (x.layout.base g) n < 2 ^ 32)
+base_word x h s width g n v sh there = let below = (placed x h s width g n v sh there).below in let low = x.layout.to g in (omega arith, omega arith)
+
+load_at : (x : Site) {held : Scratch} (w a : ℕ) (width : Width) (g to i : ℕ) (rest : List Step) (l : Locations) (h : World) (s : State) → Given x held w a (One (Load width g to i) ∷ rest) l h s → (z : Option ℕ) → element h width g (l (Register i)) ≡ z → Case x (One (Load width g to i) ∷ rest) l h s
+load_at x w a width g to i rest l h s given None is = inr (λ ws. ap (λ z. tried z (λ q. Goes (at_steps rest (put (Register to) q l) h ws))) is)
+load_at x {held} w a width g to i rest l h s (e, st, inside) (Some v) is =
+    let n = l (Register i) in
+    let there = element_tells h width g n v is in
+    let words = base_word x h s width g n v inside.shares there in
+    inl (stepped x (One (Load width g to i) ∷ rest) rest l (put (Register to) v l) h h s (λ ws. ap (λ z. tried z (λ q. Goes (at_steps rest (put (Register to) q l) h ws))) is)
+    (loaded_reaches x _ a width g to i (x.layout.base g) n v rest l h s e words.0 (λ o part f same both is_at. element_address width i (x.layout.base g) n o part f same words.1 both is_at) there st.fine.0.0 st.fine.0.1
+    (first_items x w a (One (Load width g to i)) rest st) (standing_tail x w a (One (Load width g to i)) rest st) inside))
 
 pub load_case : (x : Site) {held : Scratch} (w a : ℕ) (width : Width) (g to i : ℕ) (rest : List Step) (l : Locations) (h : World) (s : State) → Given x held w a (One (Load width g to i) ∷ rest) l h s → Case x (One (Load width g to i) ∷ rest) l h s
 load_case x w a width g to i rest l h s given = load_at x w a width g to i rest l h s given (element h width g (l (Register i))) refl
@@ -563,34 +597,12 @@ load_case x w a width g to i rest l h s given = load_at x w a width g to i rest 
 store_at : (x : Site) {held : Scratch} (w a : ℕ) (width : Width) (g i r : ℕ) (rest : List Step) (l : Locations) (h : World) (s : State) → Given x held w a (One (Store width g i r) ∷ rest) l h s → (z : Option ℕ) → element h width g (l (Register i)) ≡ z → Case x (One (Store width g i r) ∷ rest) l h s
 store_at x w a width g i r rest l h s given None is = inr (λ ws. ap (λ z. tried (option_map (λ old. with_element h g (l (Register i)) (kept width (l (Register r)))) z) (λ k. Goes (at_steps rest l k ws))) is)
 store_at x {held} w a width g i r rest l h s (e, st, inside) (Some v) is =
-    let items = first_items x w a (One (Store width g i r)) rest st in
-    let fine = st.fine.0 in
     let n = l (Register i) in
-    let b = x.layout.base g in
-    let at = element_place width b n in
-    let p = x.place + 4 * a in
     let there = element_tells h width g n v is in
-    let lies = placed x h s width g n v inside.shares there in
-    let from = lies.from in
-    let below = lies.below in
-    let low_from = x.layout.from g in
-    let low_to = x.layout.to g in
-    let small : b < 2 ^ 32 = omega arith in
-    let k = with_element h g n (kept width (l (Register r))) in
-    let known = known_of x.frame.sets_pointer held width b i in
-    let told = is_known x.frame.sets_pointer (x.from.registers 3) held width b i s.registers inside.pointer inside.holds in
-    let u = at_element known width s i b in
-    let wu = within_element x known l h width s i b told fine.0 inside in
-    let address = element_address width i b n (sum_base known b) (part_of known b) u.registers (sym (wu.same i fine.0)) (omega arith) (parts_of known width b i s.registers small told) wu.holds.address.1 in
-    let t : State = record u { pc = u.pc + 4; memory = stored (store_of width) u.memory at (l (Register r)) } in
-    inl (stepped x (One (Store width g i r) ∷ rest) rest l l h k s (λ ws. ap (λ z. tried (option_map (λ old. with_element h g (l (Register i)) (kept width (l (Register r)))) z) (λ k. Goes (at_steps rest l k ws))) is)
-    (element_reaches x rest l k known width s p i b (store_element width 5 r (part_of known b)) e items
-    (λ stands pc.
-    reach_by x rest l k u t _ (a + access_size known width)
-    (store_step x.code u (store_of width) (p + 4 * before known width) 5 r (part_of known b) at pc stands address (store_accessible x.code.floor width at lies.aligned (omega arith) lies.below)
-    ∙ ap (λ n. Continues (record u { pc = u.pc + 4; memory = stored (store_of width) u.memory at n })) (sym (wu.same r fine.1)))
-    (ap (λ n. n + 4) pc ∙ behind_access known width x.place a) (standing_tail x w a (One (Store width g i r)) rest st)
-    (within_store x l h u (u.pc + 4) width g n (l (Register r)) v there (word_of_register x l h s r fine.1 inside) wu))))
+    let words = base_word x h s width g n v inside.shares there in
+    inl (stepped x (One (Store width g i r) ∷ rest) rest l l h (with_element h g n (kept width (l (Register r)))) s (λ ws. ap (λ z. tried (option_map (λ old. with_element h g (l (Register i)) (kept width (l (Register r)))) z) (λ k. Goes (at_steps rest l k ws))) is)
+    (stored_reaches x _ a width g i r (x.layout.base g) n v rest l h s e words.0 (λ o part f same both is_at. element_address width i (x.layout.base g) n o part f same words.1 both is_at) there st.fine.0.0 st.fine.0.1
+    (first_items x w a (One (Store width g i r)) rest st) (standing_tail x w a (One (Store width g i r)) rest st) inside))
 
 pub store_case : (x : Site) {held : Scratch} (w a : ℕ) (width : Width) (g i r : ℕ) (rest : List Step) (l : Locations) (h : World) (s : State) → Given x held w a (One (Store width g i r) ∷ rest) l h s → Case x (One (Store width g i r) ∷ rest) l h s
 store_case x w a width g i r rest l h s given = store_at x w a width g i r rest l h s given (element h width g (l (Register i))) refl

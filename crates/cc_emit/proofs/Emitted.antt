@@ -15,7 +15,7 @@ use Rattle.cc_ltl.specs.declared.location.Location.TheVariants.{Register, Slot}
 use Rattle.cc_ltl.specs.Ltl.{Locations, put, words_from, after_call, at_entry}
 use Rattle.cc_linear_language.specs.declared.item.LinearItem.TheVariants.{Label, Jump, IfNonzero, IfZero, Copy, Const, Unary, Binary, Load, Store, Call, Read, Write, Return}
 use Rattle.cc_select.specs.declared.step.Step.{Step}
-use Rattle.cc_select.specs.declared.step.Step.TheVariants.{One, Immediate, LoadAt, StoreAt, Branch, BranchImmediate}
+use Rattle.cc_select.specs.declared.step.Step.TheVariants.{One, Immediate, LoadAt, StoreAt, LoadNear, StoreNear, Branch, BranchImmediate}
 use Rattle.cc_select.specs.Selected.{Configuration, at_steps, steps_after_answer, selected_move, selected_output, selected_start}
 use Rattle.cc_rv32.specs.Machine.{Continues, State}
 use Rattle.cc_emit.specs.Contract.{CallsMeet, Code, ComesBack, EachCalled, Enters, IsPlace, IsSound, ObjectLayout, Meets, Path, PieceMeets, Placed}
@@ -29,7 +29,7 @@ use Rattle.cc_emit.proofs.Places.{length_pointer_items, length_saving, length_st
 use Rattle.cc_emit.proofs.Standing.{Site, Standing, Stands, HasRoom, each_append, each_map, first_calls, all_addressed, near, labels, machine_step, path_then, first_items, standing_tail, placed_append, between}
 use Rattle.cc_emit.proofs.Within.{Within, within_nothing}
 use Rattle.cc_emit.proofs.Cases.{Stepped, Case, StandsWhole, jump_case, if_zero_case, if_nonzero_case, const_case, copy_case, unary_case, binary_case, load_case, store_case, read_case, write_case}
-use Rattle.cc_emit.proofs.Steps.{immediate_case, load_at_case, store_at_case, branch_case, branch_immediate_case}
+use Rattle.cc_emit.proofs.Steps.{immediate_case, load_at_case, store_at_case, load_near_case, store_near_case, branch_case, branch_immediate_case}
 use Rattle.cc_emit.proofs.Returning.{return_path, called, called_step, enters_callee, return_place, regained, within_behind, framed, prologue_path, framed_pc, found, framed_within}
 
 abbrev pub DoesBy : {b : List Size} (y : ObjectLayout b) (code : Code) (rate : ℕ) (from s : State) → Stop Answer → List ℕ → ℕ → Type 0
@@ -237,6 +237,8 @@ module _ (x : Site) (c : ℕ) (one : 1 ≤ c) (all_places : (g : ℕ) → g < x.
   simulate_next k later j w a held (Immediate o to b v ∷ ops) l h s e st inside = at_stepped k j (Immediate o to b v ∷ ops) l h s later inside.shares.output (immediate_case x w a o to b v ops l h s (e, st, inside))
   simulate_next k later j w a held (LoadAt width g to n ∷ ops) l h s e st inside = at_case k j (LoadAt width g to n ∷ ops) l h s later inside.shares.output (load_at_case x w a width g to n ops l h s (e, st, inside))
   simulate_next k later j w a held (StoreAt width g n b ∷ ops) l h s e st inside = at_case k j (StoreAt width g n b ∷ ops) l h s later inside.shares.output (store_at_case x w a width g n b ops l h s (e, st, inside))
+  simulate_next k later j w a held (LoadNear width g to i n ∷ ops) l h s e st inside = at_case k j (LoadNear width g to i n ∷ ops) l h s later inside.shares.output (load_near_case x w a width g to i n ops l h s (e, st, inside))
+  simulate_next k later j w a held (StoreNear width g i n b ∷ ops) l h s e st inside = at_case k j (StoreNear width g i n b ∷ ops) l h s later inside.shares.output (store_near_case x w a width g i n b ops l h s (e, st, inside))
   simulate_next k later j w a held (Branch o nonzero b c n ∷ ops) l h s e st inside = at_stepped k j (Branch o nonzero b c n ∷ ops) l h s later inside.shares.output (branch_case x w a o nonzero b c n ops l h s (e, st, inside) all)
   simulate_next k later j w a held (BranchImmediate o nonzero b v n ∷ ops) l h s e st inside = at_stepped k j (BranchImmediate o nonzero b v n ∷ ops) l h s later inside.shares.output (branch_immediate_case x w a o nonzero b v n ops l h s (e, st, inside) all)
   simulate_next k later j w a held (One Return ∷ ops) l h s e st inside = ([], tt, return_follows k j s ops l h inside.shares.output (return_path x w a ops l h s sound back e st inside))

@@ -13,7 +13,7 @@ use Rattle.cc_ltl.specs.declared.operation.Move.TheVariants.{Between, Reload, Sp
 use Rattle.cc_linear_language.specs.declared.item.LinearItem.{LinearItem}
 use Rattle.cc_linear_language.specs.declared.item.LinearItem.TheVariants.{Label, Jump, IfNonzero, IfZero, Copy, Const, Unary, Binary, Load, Store, Call, Read, Write, Return}
 use Rattle.cc_select.specs.declared.step.Step.{Step}
-use Rattle.cc_select.specs.declared.step.Step.TheVariants.{One, Immediate, LoadAt, StoreAt, Branch, BranchImmediate}
+use Rattle.cc_select.specs.declared.step.Step.TheVariants.{One, Immediate, LoadAt, StoreAt, LoadNear, StoreNear, Branch, BranchImmediate}
 use Rattle.cc_rv32.specs.Machine.{globals_from}
 use Rattle.cc_emit.specs.declared.condition.Condition.{Condition}
 use Rattle.cc_emit.specs.declared.recipe.Recipe.{Recipe}
@@ -73,6 +73,8 @@ remembered base sets_pointer k (One (Load width object to index)) = known_of set
 remembered base sets_pointer k (One (Store width object index from)) = known_of sets_pointer k width (base object) index
 remembered base sets_pointer k (LoadAt width object to number) = known_at sets_pointer k (known_place width (base object) number)
 remembered base sets_pointer k (StoreAt width object number from) = known_at sets_pointer k (known_place width (base object) number)
+remembered base sets_pointer k (LoadNear width object to index word) = known_of sets_pointer k width (known_place width (base object) word) index
+remembered base sets_pointer k (StoreNear width object index word from) = known_of sets_pointer k width (known_place width (base object) word) index
 remembered base sets_pointer k step = Nothing
 
 -- ---- what the registers hold behind a step
@@ -152,6 +154,10 @@ behind_step base sets_pointer (Immediate operator to from word) k = behind_word_
 behind_step base sets_pointer (LoadAt width object to number) k =
     without to (behind_at (known_at sets_pointer k (known_place width (base object) number)) k (known_place width (base object) number))
 behind_step base sets_pointer (StoreAt width object number from) k = behind_at (known_at sets_pointer k (known_place width (base object) number)) k (known_place width (base object) number)
+behind_step base sets_pointer (LoadNear width object to index word) k =
+    without to (behind_element (known_of sets_pointer k width (known_place width (base object) word) index) k width (known_place width (base object) word) index)
+behind_step base sets_pointer (StoreNear width object index word from) k =
+    behind_element (known_of sets_pointer k width (known_place width (base object) word) index) k width (known_place width (base object) word) index
 behind_step base sets_pointer (Branch operator nonzero left right to) k = k
 behind_step base sets_pointer (BranchImmediate operator nonzero from word to) k = behind_word_branch (against_zero (word_recipe operator word) from) k
 
@@ -172,6 +178,8 @@ step_access_size known (One (Load width object to index)) = access_size known wi
 step_access_size known (One (Store width object index from)) = access_size known width
 step_access_size known (LoadAt width object to number) = known_access_size known
 step_access_size known (StoreAt width object number from) = known_access_size known
+step_access_size known (LoadNear width object to index word) = access_size known width
+step_access_size known (StoreNear width object index word from) = access_size known width
 step_access_size known step = 0
 
 -- the label to which a step may lead

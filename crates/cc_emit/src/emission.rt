@@ -324,6 +324,26 @@ fn put_items_of(
             number,
             from,
         } => put_store_at(items, known, width, bases.of(object), number, from.number()),
+        Step::LoadNear {
+            width,
+            object,
+            to,
+            index,
+            word,
+        } => {
+            let base = known_place(width, bases.of(object), word);
+            put_load(items, known, width, base, to.number(), index.number())
+        }
+        Step::StoreNear {
+            width,
+            object,
+            index,
+            word,
+            from,
+        } => {
+            let base = known_place(width, bases.of(object), word);
+            put_store(items, known, width, base, index.number(), from.number())
+        }
         Step::Branch {
             operator,
             nonzero,

@@ -212,7 +212,9 @@ fn target(step: &Step) -> Option<u8>
 {
     match step {
         Step::One(item) => item_target(item),
-        Step::Immediate { to, .. } | Step::LoadAt { to, .. } => Some(to.number()),
+        Step::Immediate { to, .. } | Step::LoadAt { to, .. } | Step::LoadNear { to, .. } => {
+            Some(to.number())
+        }
         _ => None,
     }
 }

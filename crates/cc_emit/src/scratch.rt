@@ -154,6 +154,26 @@ impl Scratch {
                 number,
                 from: _,
             } => self.known_at(sets_pointer, known_place(width, bases.of(object), number)),
+            Step::LoadNear {
+                width,
+                object,
+                to: _,
+                index,
+                word,
+            } => {
+                let base = known_place(width, bases.of(object), word);
+                self.known_of(sets_pointer, width, base, index.number())
+            }
+            Step::StoreNear {
+                width,
+                object,
+                index,
+                word,
+                from: _,
+            } => {
+                let base = known_place(width, bases.of(object), word);
+                self.known_of(sets_pointer, width, base, index.number())
+            }
             _ => Remembered::Nothing,
         }
     }
@@ -319,6 +339,27 @@ impl Scratch {
                 number,
                 ..
             } => self.go_behind_at(known, known_place(width, bases.of(object), number)),
+            Step::LoadNear {
+                width,
+                object,
+                to,
+                index,
+                word,
+            } => {
+                let base = known_place(width, bases.of(object), word);
+                self.go_behind_element(known, width, base, index.number());
+                self.write(to.number());
+            }
+            Step::StoreNear {
+                width,
+                object,
+                index,
+                word,
+                ..
+            } => {
+                let base = known_place(width, bases.of(object), word);
+                self.go_behind_element(known, width, base, index.number());
+            }
             Step::Branch { .. } => {}
             Step::BranchImmediate {
                 operator,
@@ -363,9 +404,9 @@ fn step_access_size(known: Remembered, step: Step) -> usize
     ensures few { result ≤ 4 }
 {
     match step {
-        Step::One(LinearItem::Load { width, .. } | LinearItem::Store { width, .. }) => {
-            access_size(known, width)
-        }
+        Step::One(LinearItem::Load { width, .. } | LinearItem::Store { width, .. })
+        | Step::LoadNear { width, .. }
+        | Step::StoreNear { width, .. } => access_size(known, width),
         Step::LoadAt { .. } | Step::StoreAt { .. } => known_access_size(known),
         _ => 0,
     }

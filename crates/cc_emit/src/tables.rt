@@ -200,6 +200,9 @@ pub(crate) fn long_size(frame: &Frame, step: &Addressed) -> usize
         Step::One(item) => long_size_of_one(frame, step.known, item),
         Step::Immediate { operator, word, .. } => WordRecipe::of(*operator, *word).size(),
         Step::LoadAt { .. } | Step::StoreAt { .. } => known_access_size(step.known),
+        Step::LoadNear { width, .. } | Step::StoreNear { width, .. } => {
+            access_size(step.known, *width)
+        }
         Step::Branch { .. } => 2,
         Step::BranchImmediate {
             operator,

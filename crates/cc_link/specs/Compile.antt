@@ -76,7 +76,8 @@ pub record IsFirstWithoutIn (mode : Mode) (text : List ℕ) (fault : PieceFault)
   pub none : IsBlamedIn mode text function fault
   pub earlier : (f : ℕ) → f < function → HasPieceIn mode text f
 
--- one piece of each function of a program, in their order, with what their types keep; together they make an image that is too large
+-- One piece of each function of a program, in their order, with what their types keep; together they make an image that is too large. Who made
+-- the pieces is not said, and one may be longer than what is emitted for its function: so tests alone show that 25 comes of none but large programs.
 pub record IsTooLargeIn (mode : Mode) (text : List ℕ) : Type 0 where
   pub tree : List External
   pub is : IsProgramText text tree

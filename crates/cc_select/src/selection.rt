@@ -7,6 +7,7 @@ ghost use Rattle.cc_select.specs.Selection.{trimmed, selected};
 
 use crate::constants::without_unread;
 use crate::fuse::fused;
+use crate::near::nearer;
 use crate::pair::SelectedPair;
 use crate::step::Step;
 use crate::table::settle;
@@ -33,7 +34,8 @@ fn trimmed(alloc: Global, steps: &[Step]) -> Result<Vec<Step>, AllocError>
 fn selected(alloc: Global, items: &[LinearItem]) -> Result<Vec<Step>, AllocError>
     ensures { IfOk result (λ made. made.items ≡ selected items.now) }
 {
-    let steps = chosen(alloc, items)?;
+    let plain = chosen(alloc, items)?;
+    let steps = nearer(alloc, plain.as_slice())?;
     trimmed(alloc, steps.as_slice())
 }
 

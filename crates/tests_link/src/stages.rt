@@ -17,10 +17,10 @@ use tests_texts::worked::LONG;
 
 /// A function with each form of step.
 const FORMS: &str =
-    "unsigned char c[2];int a[3];int f(int n,int k){do n=n+1;while(n>=k);do a[n&1]=c[1];while(n<=0);c[0]=a[2];if(n<k)return n<<3;return -n;}int main(void){write_word(f(read_word(),9));}";
+    "unsigned char c[2];int a[3];int f(int n,int k){do n=n+1;while(n>=k);do a[n&1]=c[1];while(n<=0);c[0]=a[2];c[0]=c[k-8];a[k-7]=n;if(n<k)return n<<3;return -n;}int main(void){write_word(f(read_word(),9));}";
 
-/// Its steps. The word of each constant stands in the operation that reads it, an element of a known number has the number, and a
-/// comparison and the test of its value are one branch.
+/// Its steps. The word of each constant stands in the operation that reads it, an element of a known number has the number, one whose number
+/// is a difference with a word has the register and the word's negative, and a comparison and the test of its value are one branch.
 const FORMS_SELECTED: &str = "== f: Selected
 f0 slots 0
 1:
@@ -33,10 +33,13 @@ f0 slots 0
   branch le_s x10, 0 -> 6
   x28 = object1[2]
   byte object0[0] = x28
-  branch lt_s x10, x11 -> 21
+  x28 = byte object0[x11 + 4294967288]
+  byte object0[0] = x28
+  object1[x11 + 4294967289] = x10
+  branch lt_s x10, x11 -> 29
   x10 = neg x10
   return
-21:
+29:
   x10 = shl x10, 3
   return
 ";

@@ -7,7 +7,7 @@ use Rattle.cc_ltl.specs.declared.operation.Move.TheVariants.{Reload, Spill}
 use Rattle.cc_linear_language.specs.declared.item.LinearItem.{LinearItem}
 use Rattle.cc_linear_language.specs.declared.item.LinearItem.TheVariants.{Label, Jump, IfZero, Copy, Const, Binary, Load, Store, Call, Write, Return}
 use Rattle.cc_select.specs.declared.step.WordOperator.TheVariants as immediate
-use Rattle.cc_select.specs.declared.step.Step.TheVariants.{One, Immediate, LoadAt, StoreAt, Branch, BranchImmediate}
+use Rattle.cc_select.specs.declared.step.Step.TheVariants.{One, Immediate, LoadAt, StoreAt, LoadNear, StoreNear, Branch, BranchImmediate}
 use Rattle.cc_rv32.specs.declared.instr.Instr.{Instr}
 use Rattle.cc_rv32.specs.declared.instr.Instr.TheVariants as instr
 use Rattle.cc_rv32.specs.declared.instr.Instr.TheVariants.{Jalr, Lui, Op, OpImm, Shift}
@@ -141,6 +141,19 @@ with_upper access items = Plain (Shift Slli 5 7 2) ∷ Plain (Op operation.Add 5
 -- the same element again, and that of another object with that upper part: the accesses alone
 again : function_items near_by 0 (One (Load Word 0 10 7) ∷ One (Load Word 0 11 7) ∷ One (Store Word 1 7 10) ∷ []) ≡ whole (load_word 10 5 0) (load_word 11 5 0 ∷ store_word 5 10 16 ∷ [])
 again = refl
+
+-- elements near by: the next one, and the one before the first of all globals
+near_elements : function_items near_by 0 (One (Load Word 0 10 7) ∷ LoadNear Word 0 11 7 1 ∷ StoreNear Word 0 7 0xffffffff 11 ∷ []) ≡ whole (load_word 10 5 0) (load_word 11 5 4 ∷ store_word 5 11 0xfffffffc ∷ [])
+near_elements = refl
+
+-- one beyond the reach of that upper part; by x3 it is within reach
+far_element : items_with near_by false 0 (One (Load Word 0 10 7) ∷ LoadNear Word 0 11 7 512 ∷ [])
+    ≡ whole (load_word 10 5 0) (Plain (Shift Slli 5 7 2) ∷ Plain (Lui 6 0x201) ∷ Plain (Op operation.Add 5 5 6) ∷ load_word 11 5 0xfffff800 ∷ [])
+far_element = refl
+
+far_by_x3 : function_items near_by 0 (One (Load Word 0 10 7) ∷ LoadNear Word 0 11 7 512 ∷ [])
+    ≡ Plain (Lui 3 0x201) ∷ addi 3 3 0xfffff800 ∷ Plain (Shift Slli 5 7 2) ∷ Plain (Op operation.Add 5 5 3) ∷ load_word 10 5 0xfffff800 ∷ load_word 11 5 0 ∷ []
+far_by_x3 = refl
 
 -- its number is another then; x6 holds the upper part still
 number_written : function_items near_by 0 (One (Load Word 0 10 7) ∷ Immediate immediate.Add 7 7 1 ∷ One (Load Word 0 11 7) ∷ []) ≡ whole (load_word 10 5 0) (addi 7 7 1 ∷ with_upper (load_word 11 5 0) [])
