@@ -1,6 +1,5 @@
 -- The least area, by halves.
-use Rattle.std.proofs.Common.{◌≡◌, ℕ, ◌<◌, ◌≤◌, IsTrue, Bool, true, false, arith}
-use Rattle.std.specs.Prelude.{◌↔◌}
+use Rattle.std.proofs.Common.{◌≡◌, ℕ, ◌<◌, ◌≤◌, IsTrue, Bool, false, arith}
 
 -- an area without room
 pub no_room : (room area asked : ℕ) (fits : Bool) → asked ≡ area → fits ≡ false → (room ≤ asked → IsTrue fits) → area < room

@@ -1,9 +1,8 @@
 -- One name more, and what an audit says of its unit.
-use Rattle.std.proofs.Common.{◌≡◌, ℕ, ◌+◌, ◌<◌, List, [], ◌∷◌, ◌++◌, length, take, get_or, refl, sym, ap, subst, ◌∙◌, append_assoc, append-nil, arith}
+use Rattle.std.proofs.Common.{◌≡◌, ℕ, ◌+◌, ◌<◌, List, [], ◌∷◌, ◌++◌, length, take, get_or, sym, ap, subst, ◌∙◌, append_assoc, append-nil}
 use Rattle.std.proofs.lemmas.List.{take_more}
 use Rattle.cc_link.specs.declared.audit_answer.Audit.{Audit}
 use Rattle.cc_library.specs.Apply.{Units}
-use Rattle.cc_copy.specs.declared.judging.LeftOut.{LeftOut}
 use Rattle.cc_copy.specs.declared.judging.Judged.{Judged}
 use Rattle.cc_copy.specs.Choice.{AreAudits, IsAuditOf, confirmed_of, if_confirmed, if_left_out, left_out_of}
 use Rattle.cc_copy.specs.internal.Judged.{IsJudged}

@@ -1,5 +1,5 @@
 -- Which units are chosen: those of the names so far.
-use Rattle.std.proofs.Common.{◌≡◌, ℕ, ◌+◌, ◌<◌, List, ◌++◌, length, take, drop, get_or, IsTrue, Bool, true, false, ◌||◌, refl, sym, ap, subst, ◌∙◌, cond, Option, Some, None}
+use Rattle.std.proofs.Common.{◌≡◌, ℕ, ◌+◌, ◌<◌, List, ◌++◌, length, take, drop, get_or, IsTrue, Bool, true, false, ◌||◌, refl, sym, ap, ◌∙◌, cond, Option, Some, None}
 use Rattle.std.specs.Prelude.{if◌then◌else◌, is_some, Err, Ok}
 use Rattle.std.specs.List.{list_any}
 use Rattle.std.specs.Str.{bytes_eq}

@@ -1,9 +1,9 @@
 -- A new library: the journal's faults are those of a copy, and what every image holds it recovers to.
-use Rattle.std.proofs.Common.{◌≡◌, ℕ, ◌<◌, ◌≤◌, ◌+◌, ◌^◌, Bool, false, IsTrue, List, [], refl, sym, ap, subst, ◌∙◌, arith}
-use Rattle.std.specs.Prelude.{Result, Err}
+use Rattle.std.proofs.Common.{◌≡◌, ℕ, ◌<◌, ◌≤◌, ◌+◌, Bool, false, IsTrue, List, [], ap, subst, ◌∙◌}
+use Rattle.std.specs.Prelude.{Err}
 use Rattle.cc_journal.specs.declared.fault.JournalFault.{JournalFault}
 use Rattle.cc_journal.specs.declared.fault.JournalFault.TheVariants as journal
-use Rattle.cc_journal.specs.Format.{HoldsAlone, IsArea, room_of}
+use Rattle.cc_journal.specs.Format.{HoldsAlone, room_of}
 use Rattle.cc_journal.specs.Answers.{CommitAnswers, FormatAnswers, OpenFaults}
 use Rattle.cc_library.specs.declared.fault.LibraryFault.{LibraryFault}
 use Rattle.cc_library.specs.declared.fault.LibraryFault.TheVariants.{Exists, Absent, Full, DiskFault, Closed, Damaged, NotALibrary, OutOfMemory}

@@ -1,5 +1,5 @@
 -- What is put back: what a crash leaves of a disk that was read and then changed, and the map that an add or a replace makes.
-use Rattle.std.proofs.Common.{◌≡◌, ◌⊎◌, inl, inr, ℕ, ◌+◌, ◌≤◌, Bool, true, false, IsTrue, List, refl, sym, ap, subst, ◌∙◌, Result, Ok, Err, Some, arith}
+use Rattle.std.proofs.Common.{◌≡◌, ◌⊎◌, inl, inr, ℕ, Bool, true, false, List, refl, ap, subst, ◌∙◌, Result, Ok, Err, arith}
 use Rattle.std.specs.Prelude.{if◌then◌else◌, OnOk}
 use Rattle.std.specs.FinMap as map
 use Rattle.cc_disk.specs.Images.{LeavesOnly, OnlyReads}

@@ -1,5 +1,5 @@
 -- The units of the names so far, each of which has one.
-use Rattle.std.proofs.Common.{ℕ, List, take, IsTrue, ◌≡◌}
+use Rattle.std.proofs.Common.{ℕ, List, take, IsTrue}
 use Rattle.std.specs.Prelude.{All}
 use Rattle.std.specs.FinMap as map
 use Rattle.cc_copy.specs.Choice.{is_among}

@@ -1,6 +1,5 @@
 -- The journal that is opened is the empty one that was made.
-use Rattle.std.proofs.Common.{◌≡◌, ◌≤◌, ℕ, IsTrue, List, []}
-use Rattle.cc_library.specs.Fault.{fault_of}
+use Rattle.std.proofs.Common.{◌≤◌}
 use Rattle.cc_copy.specs.Copy.{room_for}
 use Rattle.cc_copy.proofs.Filled.{open_refused}
 use Rattle.cc_copy.proofs.filling.copy_units.Goals as goal

@@ -1,6 +1,5 @@
 -- The records are one Add a name, which stand for the map.
-use Rattle.std.proofs.Common.{◌≡◌, ℕ, List, sym, subst}
-use Rattle.cc_library.specs.Fault.{fault_of}
+use Rattle.std.proofs.Common.{ℕ, List, sym, subst}
 use Rattle.cc_library.specs.Recovered.{StandFor}
 use Rattle.cc_library.proofs.Compacting.{adds_stand, spelled_compacted}
 use Rattle.cc_library.proofs.Standing.{holds_recovers}

@@ -1,5 +1,5 @@
 -- The names that are judged are the map's keys.
-use Rattle.std.proofs.Common.{◌≡◌, ◌∙◌, sym, ap, subst}
+use Rattle.std.proofs.Common.{◌∙◌}
 use Rattle.cc_copy.proofs.Chosen.{key_there}
 use Rattle.cc_copy.proofs.judging.confirm.Goals as goal
 

@@ -1,5 +1,5 @@
 -- The add or the replace sets the unit, and the map before it is the one to which the disk recovered.
-use Rattle.std.proofs.Common.{◌≡◌, ℕ, true, false, IsTrue, List, sym, ap, subst, ◌∙◌}
+use Rattle.std.proofs.Common.{◌≡◌, ℕ, IsTrue, List, sym, ap, subst, ◌∙◌}
 use Rattle.std.specs.FinMap as map
 use Rattle.cc_disk.specs.Images.{LeavesOnly}
 use Rattle.cc_library.specs.Apply.{Units, after}

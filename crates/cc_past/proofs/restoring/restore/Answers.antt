@@ -1,8 +1,7 @@
 -- What is put is what the command stored, and the disk was only read before.
-use Rattle.std.proofs.Common.{◌≡◌, ℕ, IsTrue, List, sym, ap, subst, ◌∙◌}
+use Rattle.std.proofs.Common.{ℕ, List, sym, subst}
 use Rattle.std.specs.FinMap as map
-use Rattle.cc_disk.specs.Images.{LeavesOnly}
-use Rattle.cc_library.specs.Apply.{Units, library_of}
+use Rattle.cc_library.specs.Apply.{library_of}
 use Rattle.cc_library.specs.Recovered.{Recovers, RecoversAlone}
 use Rattle.cc_library.proofs.Standing.{weaker}
 use Rattle.cc_past.specs.Restored.{MayBeRestored}

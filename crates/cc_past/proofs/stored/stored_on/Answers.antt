@@ -1,5 +1,5 @@
 -- The commands among which `stored_among` looks are those of which the disk has the records.
-use Rattle.std.proofs.Common.{◌≡◌, IsTrue, List, sym, subst}
+use Rattle.std.proofs.Common.{IsTrue, List, sym, subst}
 use Rattle.cc_library.specs.declared.command.LibraryCommand.{LibraryCommand}
 use Rattle.cc_log.specs.Commands.{HasCommands}
 use Rattle.cc_past.specs.Past.{IsStored}
