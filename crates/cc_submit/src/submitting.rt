@@ -438,13 +438,5 @@ pub fn submit_script<R: AllocGlobal + Input + Print, E: Write + Drop>(
         is_quiet: persons.is_quiet,
     };
     let layout = FolderLayout::new(*files, alloc, asked.folder.as_str())?;
-    submit_to(
-        rt,
-        &layout,
-        process,
-        asked,
-        persons,
-        &mut writer,
-        &mut told,
-    )
+    submit_to(rt, &layout, process, asked, persons, &mut writer, &mut told)
 }
