@@ -9,7 +9,7 @@ use Rattle.cc_simulation.specs.World.{Size}
 use Rattle.cc_cminor.specs.Cminor.{Expression, Constant, Local, Unary, Binary, Load, Statement, Skip, Set, Store, Call, Read, Write, Sequence, If, Loop, Block, Exit, Return}
 use Rattle.cc_cminor.specs.Size.{partial, partials, all_partials, code_partials}
 use Rattle.cc_guard.specs.declared.known.Limit.{Limit}
-use Rattle.cc_guard.specs.Guard.{Guarded, most, is_below, always, reads_left, elements_in, waits_as, waiting, waiting_if, with_binary, with_test, bounded, indexed, first_index, guarded, guarded_all, sets, kept, known_after, known_within, variables_after}
+use Rattle.cc_guard.specs.Guard.{Guarded, most, is_below, always, reads_left, elements_in, waits_as, waiting, waiting_if, with_binary, with_test, bounded, indexed, first_index, guarded, guarded_all, head, known_after, known_within, variables_after}
 use Rattle.cc_guard.specs.Laws.{GuardsSetFew}
 
 waits_next : (e : Expression) (g : Guarded) → (waits_as e g).next ≤ suc g.next
@@ -102,10 +102,10 @@ module _ (objects : List Size) where
   code_few n (Sequence s t) ks = let x = code_few n s ks in let y = code_few n t (known_after objects n ks s) in max-le (omega arith) (omega arith)
   code_few n (If e s t) ks =
       let z = few e ks n in
-      let x = code_few n s (known_within objects n ks e) in
-      let y = code_few n t (known_within objects n ks e) in
+      let x = code_few n s (known_within objects n true ks e) in
+      let y = code_few n t (known_within objects n false ks e) in
       max-le (omega arith) (max-le (omega arith) (omega arith))
-  code_few n (Loop s) ks = code_few n s (kept n (sets s) ks)
+  code_few n (Loop s) ks = code_few n s (head objects n ks s)
   code_few n (Block s) ks = code_few n s ks
   code_few n (Exit k) ks = omega arith
   code_few n (Return e) ks = few e ks n

@@ -21,7 +21,7 @@ use Rattle.cc_cminor.specs.Breaks.{TracksOrBreaks}
 use Rattle.cc_cminor.specs.Variables.{above, above_result, above_expression, above_expressions, above_statement}
 use Rattle.cc_cminor.specs.Pair.{Pair, tree_of, code_of, AreCalls, KeepsUp, FailsAlike, GoesWrong, IsPair}
 use Rattle.cc_guard.specs.declared.known.Limit.{Limit}
-use Rattle.cc_guard.specs.Guard.{Guard, Put, Stop, StopBoth, first_index, stored_word, guards_then, guarded, guarded_all, sets, kept, known_after, known_within, code_after, guarded_code, has_guards, with_loop, guarded_function, variables_in}
+use Rattle.cc_guard.specs.Guard.{Guard, Put, Stop, StopBoth, first_index, stored_word, guards_then, guarded, guarded_all, head, known_after, known_within, code_after, guarded_code, has_guards, with_loop, guarded_function, variables_in}
 use Rattle.cc_guard.specs.internal.Fits.{Under, AllUnder, Fits, KeepsSizes}
 use Rattle.cc_guard.specs.Safe.{CodeConstantsFit, NeedsNoGuard}
 use Rattle.cc_guard.proofs.Sizing.{unnamed, unnamed_sizes}
@@ -146,8 +146,8 @@ module _ (unit : List External) (objects : List Size) (n : ℕ) where
   guarded_calls b (Read to) ks h = tt
   guarded_calls b (Write e) ks h = then_calls b (guarded objects ks n e).before _ tt
   guarded_calls b (Sequence s t) ks h = (guarded_calls b s ks h.0, guarded_calls b t (known_after objects n ks s) h.1)
-  guarded_calls b (If e s t) ks h = then_calls b (guarded objects ks n e).before _ (guarded_calls b s (known_within objects n ks e) h.0, guarded_calls b t (known_within objects n ks e) h.1)
-  guarded_calls b (Loop a) ks h = guarded_calls b a (kept n (sets a) ks) h
+  guarded_calls b (If e s t) ks h = then_calls b (guarded objects ks n e).before _ (guarded_calls b s (known_within objects n true ks e) h.0, guarded_calls b t (known_within objects n false ks e) h.1)
+  guarded_calls b (Loop a) ks h = guarded_calls b a (head objects n ks a) h
   guarded_calls b (Block a) ks h = guarded_calls (suc b) a ks h
   guarded_calls b (Exit k) ks h = tt
   guarded_calls b (Return e) ks h = then_calls b (guarded objects ks n e).before _ tt

@@ -1,19 +1,20 @@
 -- Each move of the code is matched by the guarded code: one case a statement. What is known where a statement begins is known of the variables then.
-use Rattle.std.proofs.Common.{◌≡◌, ℕ, zero, suc, ◌<◌, ◌≤◌, ◌==◌, cond, Bool, false, List, [], ◌++◌, map, option_map, Option, Some, None, refl, sym, ap, ◌∙◌, subst, arith}
+use Rattle.std.proofs.Common.{◌≡◌, ℕ, zero, suc, ◌<◌, ◌≤◌, ◌==◌, cond, Bool, true, false, List, [], ◌∷◌, ◌++◌, map, option_map, Option, Some, None, refl, sym, ap, ◌∙◌, subst, arith}
+use Rattle.std.specs.Prelude.{if◌then◌else◌, ◌||◌}
 use Rattle.cc_words.specs.declared.operators.Width.{Width}
 use Rattle.cc_words.specs.Widths as widths
 use Rattle.cc_simulation.specs.World.{Size, size_of, World, Question, Answer, Effect, Gives, element, with_element, stored, next_word, after_read, after_write}
 use Rattle.cc_simulation.specs.Run.{Move, Goes, Calls, Returns, tried}
 use Rattle.cc_cminor.specs.Cminor.{Expression, Statement, Skip, Set, Store, Call, Read, Write, Sequence, If, Loop, Block, Exit, Return, Continuation, Ends, Then, Again, Leaving, Variables, value, values, put, put_result, then_value, Config, config, chosen, skips, exits, moves, cminor_move, cminor_output}
 use Rattle.cc_guard.specs.declared.known.Limit.{Limit}
-use Rattle.cc_guard.specs.Guard.{Guard, forever, most, first_index, stored_word, guards_then, guarded, guarded_all, sets, sets_result, kept, set_to, known_after, known_within, code_after}
+use Rattle.cc_guard.specs.Guard.{Guard, forever, most, first_index, stored_word, guards_then, guarded, guarded_all, sets, sets_result, told, with_told, falls, leaves, head, kept, set_to, known_after, known_within, code_after}
 use Rattle.cc_guard.specs.internal.Next.{Noted, Last, AndThen, InLoop, InBlock, plain_next, blocks_of, exits_of, guarded_next}
 use Rattle.cc_guard.specs.internal.Fits.{Under}
 use Rattle.cc_guard.proofs.Passing.{Meets}
-use Rattle.cc_guard.proofs.Evident.{Within, Holds, within}
+use Rattle.cc_guard.proofs.Evident.{Within, Holds, within, IsWay, tells, told_holds}
 use Rattle.cc_guard.proofs.Tests.{stored_sizes}
 use Rattle.cc_guard.proofs.Values.{Agree, agree_on, put_there, same_value, same_values, under_more, LimitsUnder, limits_push, holds_push, sound, sound_indexed, HasValue, HaveValues, IsGuarded, both_guarded, no_more, here, lying, lies_there, indexed_guarded, guards, guards_all}
-use Rattle.cc_guard.proofs.Flow.{Yields, Flows, Leads, leads_of, Continues, continues_more, kept_under, kept_holds, yields_kept}
+use Rattle.cc_guard.proofs.Flow.{Yields, Flows, Leads, leads_of, Continues, continues_more, kept_under, kept_holds, met_under, yields_head, head_under}
 use Rattle.cc_guard.proofs.Matching.{Spins, Matches, guards_match}
 
 module _ (objects : List Size) (n : ℕ) (quiet : Bool) where
@@ -52,6 +53,13 @@ module _ (objects : List Size) (n : ℕ) (quiet : Bool) where
   limits_set x None ks lt u = u
   limits_set x (Some m) ks lt u = limits_push objects n ks (record { variable = x; most = m }) u lt
 
+  within_under : (way : Bool) (ks : List Limit) (e : Expression) → LimitsUnder n (known_within objects n way ks e)
+  within_under way ks e = let g = guarded objects ks n e in kept_under n (sets Skip) (with_told g.known (told g.known way e))
+
+  block_under : (b : Bool) (s : Statement) (ks : List Limit) → LimitsUnder n (known ks s) → LimitsUnder n (if b then kept n (sets s) ks else known ks s)
+  block_under true s ks u = kept_under n (sets s) ks
+  block_under false s ks u = u
+
   pub under_after : (s : Statement) (E : List (List Limit)) (ks : List Limit) → LimitsUnder n ks → Flows objects n quiet E ks s → LimitsUnder n (known ks s)
   under_after Skip E ks u f = u
   under_after (Set x e) E ks u f = limits_set x (most (guarded objects ks n e).known e) (kept n (sets (Set x e)) (guarded objects ks n e).known) f.0 (kept_under n (sets (Set x e)) (guarded objects ks n e).known)
@@ -60,9 +68,13 @@ module _ (objects : List Size) (n : ℕ) (quiet : Bool) where
   under_after (Read to) E ks u f = kept_under n (sets (Read to)) ks
   under_after (Write e) E ks u f = kept_under n (sets (Write e)) (guarded objects ks n e).known
   under_after (Sequence s t) E ks u f = under_after t E (known ks s) (under_after s E ks u f.0) f.1
-  under_after (If e s t) E ks u f = kept_under n (sets (If e s t)) (guarded objects ks n e).known
+  under_after (If e s t) E ks u f =
+      let K = known_within objects n true ks e in
+      let N = known_within objects n false ks e in
+      met_under (falls s) (falls t) n (If e s t) (kept n (sets (If e s t)) (guarded objects ks n e).known) (known K s) (known N t) (kept_under n (sets (If e s t)) (guarded objects ks n e).known)
+      (under_after s E K (within_under true ks e) f.2) (under_after t E N (within_under false ks e) f.4)
   under_after (Loop s) E ks u f = kept_under n (sets s) ks
-  under_after (Block s) E ks u f = kept_under n (sets s) ks
+  under_after (Block s) E ks u f = block_under (leaves 0 s) s ks (under_after s (known ks (Block s) ∷ E) ks u f.0)
   under_after (Exit k) E ks u f = u
   under_after (Return e) E ks u f = kept_under n (sets (Return e)) (guarded objects ks n e).known
 
@@ -114,7 +126,7 @@ module _ (objects : List Size) (n : ℕ) (quiet : Bool) where
 
     -- what comes next, where this is known
     done : (ks gs : List Limit) (ν : Noted) (l m : Variables) (h : World) → Agree n m l → LimitsUnder n ks → Holds ks m → Yields ks gs → Continues objects n quiet gs ν → map size_of h.globals ≡ objects → At Skip ks ν l m h
-    done ks gs ν l m h agree u k y c sizes = record { agree = agree; under = u; holds = k; flows = tt; after = gs; leads = y; continues = c; sizes = sizes }
+    done ks gs ν l m h agree u k y c sizes = record { agree = agree; under = u; holds = k; flows = tt; after = gs; leads = λ e. y; continues = c; sizes = sizes }
 
     skip_matched : (ν : Noted) (ks : List Limit) (l m : Variables) (h : World) → At Skip ks ν l m h → Matched h.output (skips (plain_next ν) l h) (config Skip (next ν) m h)
     skip_matched Last ks l m h p = record {
@@ -126,29 +138,32 @@ module _ (objects : List Size) (n : ℕ) (quiet : Bool) where
     }
     skip_matched (AndThen gs s ν) ks l m h p =
         let c = p.continues in
-        goes s h.output gs ν l m h _ refl (record { agree = p.agree; under = c.1; holds = c.0 m (p.leads m p.holds); flows = c.2; after = c.3; leads = c.4; continues = c.5; sizes = p.sizes })
+        goes s h.output gs ν l m h _ refl (record { agree = p.agree; under = c.1; holds = c.0 m (p.leads refl m p.holds); flows = c.2; after = c.3; leads = c.4; continues = c.5; sizes = p.sizes })
     skip_matched (InLoop gs s ν) ks l m h p =
         let c = p.continues in
         goes s h.output gs (InLoop gs s ν) l m h _ refl
-        (record { agree = p.agree; under = c.1; holds = c.0 m (p.leads m p.holds); flows = c.2; after = gs; leads = c.3; continues = (λ k q. q, c.1, c.2, c.3, c.4, c.5); sizes = p.sizes })
+        (record { agree = p.agree; under = c.1; holds = c.0 m (p.leads refl m p.holds); flows = c.2; after = gs; leads = c.3; continues = (λ k q. q, c.1, c.2, c.3, c.4, c.5); sizes = p.sizes })
     skip_matched (InBlock gs ν) ks l m h p =
         let c = p.continues in
-        goes Skip h.output gs ν l m h _ refl (done gs gs ν l m h p.agree c.1 (c.0 m (p.leads m p.holds)) (λ k q. q) c.2 p.sizes)
+        goes Skip h.output gs ν l m h _ refl (done gs gs ν l m h p.agree c.1 (c.0 m (p.leads refl m p.holds)) (λ k q. q) c.2 p.sizes)
+
+    never_falls : {A : Type 0} → false ≡ true → A
+    never_falls e = absurd (let f : false ≡ true = e in cc)
 
     exit_matched : (k : ℕ) (ν : Noted) (ks : List Limit) (l m : Variables) (h : World) → At (Exit k) ks ν l m h → Matched h.output (exits k (plain_next ν) l h) (config (Exit k) (next ν) m h)
     exit_matched k Last ks l m h p = absurd p.flows
     exit_matched k (AndThen gs s ν) ks l m h p =
         let c = p.continues in
-        goes (Exit k) h.output ks ν l m h _ refl (record { agree = p.agree; under = p.under; holds = p.holds; flows = p.flows; after = c.3; leads = tt; continues = c.5; sizes = p.sizes })
+        goes (Exit k) h.output ks ν l m h _ refl (record { agree = p.agree; under = p.under; holds = p.holds; flows = p.flows; after = c.3; leads = never_falls; continues = c.5; sizes = p.sizes })
     exit_matched k (InLoop gs s ν) ks l m h p =
         let c = p.continues in
-        goes (Exit k) h.output ks ν l m h _ refl (record { agree = p.agree; under = p.under; holds = p.holds; flows = p.flows; after = c.4; leads = tt; continues = c.5; sizes = p.sizes })
+        goes (Exit k) h.output ks ν l m h _ refl (record { agree = p.agree; under = p.under; holds = p.holds; flows = p.flows; after = c.4; leads = never_falls; continues = c.5; sizes = p.sizes })
     exit_matched zero (InBlock gs ν) ks l m h p =
         let c = p.continues in
         goes Skip h.output gs ν l m h _ refl (done gs gs ν l m h p.agree c.1 (p.flows m p.holds) (λ k q. q) c.2 p.sizes)
     exit_matched (suc k) (InBlock gs ν) ks l m h p =
         let c = p.continues in
-        goes (Exit k) h.output ks ν l m h _ refl (record { agree = p.agree; under = p.under; holds = p.holds; flows = p.flows; after = gs; leads = tt; continues = c.2; sizes = p.sizes })
+        goes (Exit k) h.output ks ν l m h _ refl (record { agree = p.agree; under = p.under; holds = p.holds; flows = p.flows; after = gs; leads = never_falls; continues = c.2; sizes = p.sizes })
 
     -- ---- statements with one expression
 
@@ -248,6 +263,14 @@ module _ (objects : List Size) (n : ℕ) (quiet : Bool) where
         (λ k g q is. goes Skip h.output hs ν l k g _ (sym (same_store w o i' e' k h (λ g. Goes (config Skip (next ν) k g))) ∙ ap (λ o. tried o (λ g. Goes (config Skip (next ν) k g))) q.1)
         (then_at k g (agree_on n n k m l (omega arith) q.0 agree) q.2 (store_keeps w o i e m h g is sizes)))))
 
+    left_falls : (a b : Bool) → a ≡ true → (a || b) ≡ true
+    left_falls true b e = refl
+    left_falls false b e = never_falls e
+
+    right_falls : (a b : Bool) → b ≡ true → (a || b) ≡ true
+    right_falls true b e = refl
+    right_falls false b e = e
+
     -- ---- every statement
 
     matched : (s : Statement) (ks : List Limit) (ν : Noted) (l m : Variables) (h : World) → At s ks ν l m h → Matched h.output (moves s (plain_next ν) l h) (config (code ks (blocks_of ν) s) (next ν) m h)
@@ -259,12 +282,12 @@ module _ (objects : List Size) (n : ℕ) (quiet : Bool) where
         (λ k w a v is held. goes Skip h.output (known ks (Set x e)) ν (put l x w) (put k x w) h _ (ap (λ o. tried o (λ w. Goes (config Skip (next ν) (put k x w) h))) is)
         (done (known ks (Set x e)) p.after ν (put l x w) (put k x w) h (agree_both x w k l a) (under_after (Set x e) (exits_of ν) ks p.under p.flows)
         (set_holds x w (most g.known e) (kept n (sets (Set x e)) g.known) k h p.sizes (kept_holds n (sets (Set x e)) g.known k (put k x w) held (λ y f. other x w y k f)) (within k h g.known held e w v))
-        p.leads p.continues p.sizes))
+        (p.leads refl) p.continues p.sizes))
     matched (Store w o i e) ks ν l m h p =
         let gi = first_index objects ks n w o i in
         let ge = stored_word objects gi e in
         store_matched w o i e gi.value ge.value (gi.before ++ ge.before) ge.known (known ks (Store w o i e)) ν l m h p.flows.0 p.flows.1 p.agree p.sizes (store_guarded w o i e ks m h p.flows.0 p.flows.1 p.under p.holds p.sizes)
-        (λ k g a held sized. done (known ks (Store w o i e)) p.after ν l k g a (under_after (Store w o i e) (exits_of ν) ks p.under p.flows) (kept_holds n (sets (Store w o i e)) ge.known k k held (λ y f. refl)) p.leads p.continues sized)
+        (λ k g a held sized. done (known ks (Store w o i e)) p.after ν l k g a (under_after (Store w o i e) (exits_of ν) ks p.under p.flows) (kept_holds n (sets (Store w o i e)) ge.known k k held (λ y f. refl)) (p.leads refl) p.continues sized)
     matched (Call to f es) ks ν l m h p =
         let gs = guarded_all objects ks n es in
         let κ = plain_next ν in
@@ -280,17 +303,17 @@ module _ (objects : List Size) (n : ℕ) (quiet : Bool) where
           calls = ap (λ o. tried o (λ ws. Calls (record { function = f; arguments = ws; world = h }) (λ a. config Skip (next ν) (put_result k to a.value) a.world))) q.1;
           related = λ j left a gives. related Skip K ν (put_result l to a.value) (put_result k to a.value) a.world
               (done K p.after ν (put_result l to a.value) (put_result k to a.value) a.world (agree_result to a.value k l (agree_on n n k m l (omega arith) q.0 p.agree)) (under_after (Call to f es) (exits_of ν) ks p.under p.flows)
-              (kept_holds n (sets (Call to f es)) gs.known k (put_result k to a.value) q.2 (λ y e. other_result to a.value y k e)) p.leads p.continues (keeps j left (record { function = f; arguments = ws; world = h }) a gives p.sizes));
+              (kept_holds n (sets (Call to f es)) gs.known k (put_result k to a.value) q.2 (λ y e. other_result to a.value y k e)) (p.leads refl) p.continues (keeps j left (record { function = f; arguments = ws; world = h }) a gives p.sizes));
         }))
     matched (Read to) ks ν l m h p =
         goes Skip h.output (known ks (Read to)) ν (put_result l to (next_word h)) (put_result m to (next_word h)) (after_read h) _ refl
         (done (known ks (Read to)) p.after ν (put_result l to (next_word h)) (put_result m to (next_word h)) (after_read h) (agree_result to (next_word h) m l p.agree) (under_after (Read to) (exits_of ν) ks p.under p.flows)
-        (kept_holds n (sets (Read to)) ks m (put_result m to (next_word h)) p.holds (λ y e. other_result to (next_word h) y m e)) p.leads p.continues p.sizes)
+        (kept_holds n (sets (Read to)) ks m (put_result m to (next_word h)) p.holds (λ y e. other_result to (next_word h) y m e)) (p.leads refl) p.continues p.sizes)
     matched (Write e) ks ν l m h p =
         let g = guarded objects ks n e in
         with_value (Write g.value) e ks ν l m h (λ w. Goes (config Skip (plain_next ν) l (after_write w h))) p.flows.0 p.under p.holds p.agree p.sizes
         (λ k w a v is held. goes Skip h.output (known ks (Write e)) ν l k (after_write w h) _ (ap (λ o. tried o (λ w. Goes (config Skip (next ν) k (after_write w h)))) is)
-        (done (known ks (Write e)) p.after ν l k (after_write w h) a (under_after (Write e) (exits_of ν) ks p.under p.flows) (kept_holds n (sets (Write e)) g.known k k held (λ y f. refl)) p.leads p.continues p.sizes))
+        (done (known ks (Write e)) p.after ν l k (after_write w h) a (under_after (Write e) (exits_of ν) ks p.under p.flows) (kept_holds n (sets (Write e)) g.known k k held (λ y f. refl)) (p.leads refl) p.continues p.sizes))
     matched (Sequence a b) ks ν l m h p =
         let K = known ks a in
         goes a h.output ks (AndThen K b ν) l m h _ refl (record {
@@ -300,66 +323,69 @@ module _ (objects : List Size) (n : ℕ) (quiet : Bool) where
           flows = p.flows.0;
           after = K;
           leads = leads_of objects n quiet a ks K (λ k q. q);
-          continues = (λ k q. q, under_after a (exits_of ν) ks p.under p.flows.0, p.flows.1, p.after, leads_of objects n quiet b K p.after p.leads, p.continues);
+          continues = (λ k q. q, under_after a (exits_of ν) ks p.under p.flows.0, p.flows.1, p.after, p.leads, p.continues);
           sizes = p.sizes;
         })
     matched (If e a b) ks ν l m h p =
         let g = guarded objects ks n e in
-        let K = known_within objects n ks e in
         let κ = plain_next ν in
-        with_value (If g.value (code K (blocks_of ν) a) (code K (blocks_of ν) b)) e ks ν l m h (λ w. Goes (config (chosen w a b) κ l h)) p.flows.0 p.under p.holds p.agree p.sizes
-        (λ k w agree v is held. goes (chosen w a b) h.output K ν l k h _
-        (ap (λ o. tried o (λ w. Goes (config (chosen w (code K (blocks_of ν) a) (code K (blocks_of ν) b)) (next ν) k h))) is ∙ ap (λ s. Goes (config s (next ν) k h)) (sym (chosen_code w)))
-        (chosen_at w k agree (kept_holds n (sets Skip) g.known k k held (λ y f. refl))))
+        with_value (If g.value (code (known_within objects n true ks e) (blocks_of ν) a) (code (known_within objects n false ks e) (blocks_of ν) b)) e ks ν l m h (λ w. Goes (config (chosen w a b) κ l h)) p.flows.0 p.under p.holds p.agree p.sizes chosen_matched
       where
-        chosen_code : (w : ℕ) → code (known_within objects n ks e) (blocks_of ν) (chosen w a b) ≡ chosen w (code (known_within objects n ks e) (blocks_of ν) a) (code (known_within objects n ks e) (blocks_of ν) b)
-        chosen_code zero = refl
-        chosen_code (suc w) = refl
+        held_within : (way : Bool) (k : Variables) (w : ℕ) → value e k h ≡ Some w → IsWay k h way w → Holds (guarded objects ks n e).known k → Holds (known_within objects n way ks e) k
+        held_within way k w v i held =
+            let g = guarded objects ks n e in
+            kept_holds n (sets Skip) (with_told g.known (told g.known way e)) k k (told_holds k h g.known (told g.known way e) held (tells k h g.known held way e w v i)) (λ y f. refl)
 
-        chosen_at : (w : ℕ) (k : Variables) → Agree n k l → Holds (known_within objects n ks e) k → At (chosen w a b) (known_within objects n ks e) ν l k h
-        chosen_at zero k agree held = record {
-          agree = agree;
-          under = kept_under n (sets Skip) (guarded objects ks n e).known;
-          holds = held;
-          flows = p.flows.4;
-          after = p.after;
-          leads = leads_of objects n quiet b (known_within objects n ks e) p.after (λ y q. p.leads y (p.flows.5 y q));
-          continues = p.continues;
-          sizes = p.sizes;
-        }
-        chosen_at (suc w) k agree held = record {
-          agree = agree;
-          under = kept_under n (sets Skip) (guarded objects ks n e).known;
-          holds = held;
-          flows = p.flows.2;
-          after = p.after;
-          leads = leads_of objects n quiet a (known_within objects n ks e) p.after (λ y q. p.leads y (p.flows.3 y q));
-          continues = p.continues;
-          sizes = p.sizes;
-        }
+        choice : Statement
+        choice = If (guarded objects ks n e).value (code (known_within objects n true ks e) (blocks_of ν) a) (code (known_within objects n false ks e) (blocks_of ν) b)
+
+        chosen_matched : (k : Variables) (w : ℕ) → Agree n k l → value e k h ≡ Some w → value (guarded objects ks n e).value k h ≡ Some w → Holds (guarded objects ks n e).known k → Matched h.output (Goes (config (chosen w a b) (plain_next ν) l h)) (config choice (next ν) k h)
+        chosen_matched k zero agree v is held =
+            let N = known_within objects n false ks e in
+            goes b h.output N ν l k h _ (ap (λ o. tried o (λ w. Goes (config (chosen w (code (known_within objects n true ks e) (blocks_of ν) a) (code N (blocks_of ν) b)) (next ν) k h))) is) (record {
+              agree = agree;
+              under = within_under false ks e;
+              holds = held_within false k zero v refl held;
+              flows = p.flows.4;
+              after = p.after;
+              leads = λ z y q. p.leads (right_falls (falls a) (falls b) z) y (p.flows.5 z y q);
+              continues = p.continues;
+              sizes = p.sizes;
+            })
+        chosen_matched k (suc w) agree v is held =
+            let K = known_within objects n true ks e in
+            goes a h.output K ν l k h _ (ap (λ o. tried o (λ w. Goes (config (chosen w (code K (blocks_of ν) a) (code (known_within objects n false ks e) (blocks_of ν) b)) (next ν) k h))) is) (record {
+              agree = agree;
+              under = within_under true ks e;
+              holds = held_within true k (suc w) v (w, refl) held;
+              flows = p.flows.2;
+              after = p.after;
+              leads = λ z y q. p.leads (left_falls (falls a) (falls b) z) y (p.flows.3 z y q);
+              continues = p.continues;
+              sizes = p.sizes;
+            })
     matched (Loop a) ks ν l m h p =
-        let K = kept n (sets a) ks in
-        let leads = leads_of objects n quiet a K K p.flows.1 in
-        goes a h.output K (InLoop K a ν) l m h _ refl (record {
+        let H = head objects n ks a in
+        goes a h.output H (InLoop H a ν) l m h _ refl (record {
           agree = p.agree;
-          under = kept_under n (sets a) ks;
-          holds = yields_kept n (sets a) ks m p.holds;
+          under = head_under objects n a ks;
+          holds = yields_head objects n a ks m p.holds;
           flows = p.flows.0;
-          after = K;
-          leads = leads;
-          continues = (λ k q. q, kept_under n (sets a) ks, p.flows.0, leads, p.after, p.continues);
+          after = H;
+          leads = p.flows.1;
+          continues = (λ k q. q, head_under objects n a ks, p.flows.0, p.flows.1, p.after, p.continues);
           sizes = p.sizes;
         })
     matched (Block a) ks ν l m h p =
-        let K = kept n (sets a) ks in
+        let K = known ks (Block a) in
         goes a h.output ks (InBlock K ν) l m h _ refl (record {
           agree = p.agree;
           under = p.under;
           holds = p.holds;
           flows = p.flows.0;
           after = K;
-          leads = leads_of objects n quiet a ks K p.flows.1;
-          continues = (λ k q. q, kept_under n (sets a) ks, continues_more objects n quiet K p.after ν p.leads p.continues);
+          leads = p.flows.1;
+          continues = (λ k q. q, under_after (Block a) (exits_of ν) ks p.under p.flows, continues_more objects n quiet K p.after ν (p.leads refl) p.continues);
           sizes = p.sizes;
         })
     matched (Exit k) ks ν l m h p = exit_matched k ν ks l m h p

@@ -9,7 +9,7 @@ use Rattle.cc_simulation.specs.World.{Size}
 use Rattle.cc_cminor.specs.Cminor.{Expression, Constant, Local, Unary, Binary, Load, Statement, Skip, Set, Store, Call, Read, Write, Sequence, If, Loop, Block, Exit, Return}
 use Rattle.cc_cminor.specs.Numbers.{most_variables, ExpressionBelow, ExpressionsBelow, StatementFits}
 use Rattle.cc_guard.specs.declared.known.Limit.{Limit}
-use Rattle.cc_guard.specs.Guard.{Guard, Put, Stop, StopBoth, Guarded, most, is_below, always, asked, reads_left, elements_in, waits_as, waiting, waiting_if, with_binary, with_test, bounded, indexed, first_index, stored_word, guards_then, guarded, guarded_all, sets, kept, known_after, known_within, code_after, guarded_code, has_guards, variables_after, variables_in, with_loop, guarded_function}
+use Rattle.cc_guard.specs.Guard.{Guard, Put, Stop, StopBoth, Guarded, most, is_below, always, asked, reads_left, elements_in, waits_as, waiting, waiting_if, with_binary, with_test, bounded, indexed, first_index, stored_word, guards_then, guarded, guarded_all, head, known_after, known_within, code_after, guarded_code, has_guards, variables_after, variables_in, with_loop, guarded_function}
 
 -- ---- guards
 
@@ -214,16 +214,17 @@ module _ (objects : List Size) where
         (code_fits b s ks u.0 (omega arith), code_fits b t K u.1 (omega arith))
     code_fits b (If e s t) ks u le =
         let g = guarded objects ks n e in
-        let K = known_within objects n ks e in
+        let K = known_within objects n true ks e in
+        let N = known_within objects n false ks e in
         let p = variables_after objects n K s in
-        let q = variables_after objects n K t in
+        let q = variables_after objects n N t in
         let x = le-max_left g.next (max p q) in
         let y = le-max_right g.next (max p q) in
         let z = le-max_left p q in
         let v = le-max_right p q in
         let f = fits e ks n u.0 (omega arith) in
-        then_fits b g.before _ f.guards (f.value, code_fits b s K u.1 (omega arith), code_fits b t K u.2 (omega arith))
-    code_fits b (Loop s) ks u le = code_fits b s (kept n (sets s) ks) u le
+        then_fits b g.before _ f.guards (f.value, code_fits b s K u.1 (omega arith), code_fits b t N u.2 (omega arith))
+    code_fits b (Loop s) ks u le = code_fits b s (head objects n ks s) u le
     code_fits b (Block s) ks u le = code_fits (suc b) s ks u le
     code_fits b (Exit k) ks u le = tt
     code_fits b (Return e) ks u le = let f = fits e ks n u le in then_fits b (guarded objects ks n e).before _ f.guards f.value

@@ -9,7 +9,7 @@ use Rattle.cc_simulation.specs.Run.{Move, Goes, Calls, Returns, Fails, tried}
 use Rattle.cc_cminor.specs.Cminor.{Expression, Constant, Local, Unary, Binary, Load, Statement, Skip, Set, Store, Call, Read, Write, Sequence, If, Loop, Block, Exit, Return, Continuation, Ends, Then, Again, Leaving, Variables, value, values, put, put_result, Config, config, chosen, skips, exits, moves, cminor_move, cminor_output}
 use Rattle.cc_cminor.specs.Breaks.{broken, broken_act, broken_resumed, BreaksAt}
 use Rattle.cc_guard.specs.declared.known.Limit.{Limit}
-use Rattle.cc_guard.specs.Guard.{Guard, Guarded, most, is_below, always, asked, reads_left, elements_in, waiting, waiting_if, with_binary, with_test, bounded, first_index, stored_word, guards_then, guarded, guarded_all, sets, kept, known_after, known_within, code_after, guarded_code, some_guard, guards_after, with_loop}
+use Rattle.cc_guard.specs.Guard.{Guard, Guarded, most, is_below, always, asked, reads_left, elements_in, waiting, waiting_if, with_binary, with_test, bounded, first_index, stored_word, guards_then, guarded, guarded_all, head, known_after, known_within, code_after, guarded_code, some_guard, guards_after, with_loop}
 use Rattle.cc_guard.specs.Laws.{UnguardedStays}
 use Rattle.cc_guard.specs.internal.Next.{Noted, Last, AndThen, InLoop, InBlock, plain_next, exits_of}
 use Rattle.cc_guard.specs.internal.Fits.{Under}
@@ -127,14 +127,15 @@ module _ (objects : List Size) where
         ap (λ x. Sequence x (code_after objects n K b t)) (same_code b s ks (or_left _ (guards_after objects n K t) none)) ∙ ap (λ x. Sequence s x) (same_code b t K (or_right (guards_after objects n ks s) _ none))
     same_code b (If e s t) ks none =
         let g = guarded objects ks n e in
-        let K = known_within objects n ks e in
+        let K = known_within objects n true ks e in
+        let N = known_within objects n false ks e in
         let c = guards_after objects n K s in
-        let d = guards_after objects n K t in
+        let d = guards_after objects n N t in
         let p = or_left (some_guard g.before) (c || d) none in
         let q = or_right (some_guard g.before) (c || d) none in
-        alone b g.before _ p ∙ ap (λ v. If v (code_after objects n K b s) (code_after objects n K b t)) (same_expression e ks n p)
-        ∙ ap (λ x. If e x (code_after objects n K b t)) (same_code b s K (or_left c d q)) ∙ ap (λ x. If e s x) (same_code b t K (or_right c d q))
-    same_code b (Loop s) ks none = ap (λ x. Loop x) (same_code b s (kept n (sets s) ks) none)
+        alone b g.before _ p ∙ ap (λ v. If v (code_after objects n K b s) (code_after objects n N b t)) (same_expression e ks n p)
+        ∙ ap (λ x. If e x (code_after objects n N b t)) (same_code b s K (or_left c d q)) ∙ ap (λ x. If e s x) (same_code b t N (or_right c d q))
+    same_code b (Loop s) ks none = ap (λ x. Loop x) (same_code b s (head objects n ks s) none)
     same_code b (Block s) ks none = ap (λ x. Block x) (same_code (suc b) s ks none)
     same_code b (Exit k) ks none = refl
     same_code b (Return e) ks none = alone b (guarded objects ks n e).before _ none ∙ ap (λ v. Return v) (same_expression e ks n none)

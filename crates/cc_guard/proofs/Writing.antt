@@ -13,7 +13,7 @@ use Rattle.cc_cminor.specs.declared.code.Statement as code
 use Rattle.cc_guard.specs.declared.known.Limit.{Limit}
 use Rattle.cc_guard.specs.declared.guards.Guards.{Guards}
 use Rattle.cc_guard.specs.declared.guards.Seen.{Seen}
-use Rattle.cc_guard.specs.Guard.{Guard, Guarded, guard_code, waits_as, waiting, waiting_if, indexed, first_index, stored_word, guards_then, guarded, guarded_all, known_after, code_after, some_guard, guards_after, variables_after}
+use Rattle.cc_guard.specs.Guard.{Guard, Guarded, guard_code, waits_as, waiting, waiting_if, indexed, first_index, stored_word, guards_then, guarded, guarded_all, falls, known_after, code_after, some_guard, guards_after, variables_after}
 use Rattle.cc_guard.specs.internal.Written.{codes, Adds, AddsAll, here, some_of, Sees, SeesStatement}
 
 -- ---- guards that are written
@@ -167,6 +167,19 @@ if_is x a b = search (rules, code.the_lemmas)
 
 pub same_sequence : (s : code.Statement) (all : _) (l : List code.Statement) → s ≡ code.Sequence all → l ≡ all.items → in_sequence (statements_of l) ≡ statement_of s
 same_sequence s all l is same = sym (ap statement_of is ∙ sequence_is all ∙ ap (λ k. in_sequence (statements_of k)) (sym same))
+
+-- whether the last of some statements falls, if there is one
+abbrev pub last_falls : Bool → List Statement → Bool
+last_falls b [] = b
+last_falls b (s ∷ ss) = last_falls (falls s) ss
+
+falls_first : (s : Statement) (ss : List Statement) → last_falls (falls s) ss ≡ falls (in_sequence (s ∷ ss))
+falls_first s [] = refl
+falls_first s (t ∷ ss) = falls_first t ss
+
+pub last_is : (ss : List Statement) → last_falls true ss ≡ falls (in_sequence ss)
+last_is [] = refl
+last_is (s ∷ ss) = falls_first s ss
 
 -- ---- what was seen
 

@@ -1,6 +1,6 @@
 -- What the pass makes: the same code, in which a test comes before an operation that may have no answer. If a test fails the run leaves all
 -- blocks, to a loop at the end of the function that goes on for ever and does nothing.
-use Rattle.std.specs.Prelude.{ℕ, suc, ◌-◌, ◌^◌, ◌==◌, nat_lt, min, max, Bool, true, false, not, ◌&&◌, ◌||◌, List, [], ◌∷◌, ◌++◌, Option, Some, None, if◌then◌else◌}
+use Rattle.std.specs.Prelude.{ℕ, zero, suc, ◌+◌, ◌-◌, ◌*◌, ◌/◌, ◌^◌, ◌==◌, nat_lt, nat_le, min, max, Bool, true, false, not, ◌&&◌, ◌||◌, List, [], ◌∷◌, ◌++◌, Option, Some, None, if◌then◌else◌}
 use Rattle.std.specs.Option.{option_or}
 use Rattle.cc_words.specs.declared.operators.Unary as one
 use Rattle.cc_words.specs.declared.operators.Unary.TheVariants.{IsZero}
@@ -51,6 +51,20 @@ least None b = b
 least (Some m) None = Some m
 least (Some m) (Some k) = Some (min m k)
 
+-- a sum and a product that are words
+abbrev pub if_word : ℕ → Option ℕ
+if_word m = if nat_lt m (2 ^ 32) then Some m else None
+
+abbrev pub most_sum : Option ℕ → Option ℕ → Option ℕ
+most_sum None b = None
+most_sum (Some m) None = None
+most_sum (Some m) (Some k) = if_word (m + k)
+
+abbrev pub most_product : Option ℕ → Option ℕ → Option ℕ
+most_product None b = None
+most_product (Some m) None = None
+most_product (Some m) (Some k) = if_word (m * k)
+
 -- a remainder by a constant
 abbrev pub below_divisor : Expression → Option ℕ
 below_divisor (Constant (suc w)) = Some w
@@ -69,8 +83,12 @@ abbrev pub most : List Limit → Expression → Option ℕ
 most ks (Constant w) = Some w
 most ks (Local x) = most_in ks x
 most ks (Unary op e) = None
+most ks (Binary Add a b) = most_sum (most ks a) (most ks b)
+most ks (Binary Mul a b) = most_product (most ks a) (most ks b)
+most ks (Binary DivU a b) = most ks a
+most ks (Binary RemU a b) = least (below_divisor b) (most ks a)
+most ks (Binary ShrU a b) = most ks a
 most ks (Binary And a b) = least (most ks a) (most ks b)
-most ks (Binary RemU a b) = below_divisor b
 most ks (Binary Eq a b) = Some 1
 most ks (Binary Ne a b) = Some 1
 most ks (Binary LtS a b) = Some 1
@@ -84,6 +102,46 @@ most ks (Load w o i) = None
 abbrev pub is_below : Option ℕ → ℕ → Bool
 is_below None n = false
 is_below (Some m) n = nat_lt m n
+
+-- ---- what a condition tells of a variable
+
+-- the greatest word below another
+abbrev pub less_one : Option ℕ → Option ℕ
+less_one None = None
+less_one (Some zero) = None
+less_one (Some (suc m)) = Some m
+
+-- a variable holds at most this word
+abbrev pub told_of : Expression → Option ℕ → Option Limit
+told_of (Local x) (Some m) = Some (record { variable = x; most = m })
+told_of e m = None
+
+-- the first of two values is below the second, or is not; it is at most the second, or is not
+abbrev pub told_less : (way : Bool) → (a b : Expression) → (most_a most_b : Option ℕ) → Option Limit
+told_less true a b m k = told_of a (less_one k)
+told_less false a b m k = told_of b m
+
+abbrev pub told_most : (way : Bool) → (a b : Expression) → (most_a most_b : Option ℕ) → Option Limit
+told_most true a b m k = told_of a k
+told_most false a b m k = told_of b (less_one m)
+
+-- signed words compare as words do if both are below 2^31
+abbrev pub if_small : Option ℕ → Option ℕ → Option Limit → Option Limit
+if_small m k told = if is_below m (2 ^ 31) && is_below k (2 ^ 31) then told else None
+
+-- if a condition is not 0, and if it is 0
+abbrev pub told : List Limit → (way : Bool) → Expression → Option Limit
+told ks way (Binary LtS a b) = if_small (most ks a) (most ks b) (told_less way a b (most ks a) (most ks b))
+told ks way (Binary LtU a b) = told_less way a b (most ks a) (most ks b)
+told ks way (Binary LeS a b) = if_small (most ks a) (most ks b) (told_most way a b (most ks a) (most ks b))
+told ks way (Binary LeU a b) = told_most way a b (most ks a) (most ks b)
+told ks way e = None
+
+abbrev pub with_told : List Limit → Option Limit → List Limit
+with_told ks None = ks
+with_told ks (Some k) = ks ++ k ∷ []
+
+-- ---- operations that evidently have an answer
 
 -- it is a word but 0, and but -1
 abbrev pub is_divisor : Expression → Bool
@@ -239,7 +297,7 @@ first_index objects ks n w o i = indexed objects ks w o i (guarded objects ks n 
 abbrev pub stored_word : List Size → Guarded → Expression → Guarded
 stored_word objects i e = guarded objects i.known i.next e
 
--- ---- what is known after a statement: that of variables which no part of it sets
+-- ---- what is known after a statement
 
 -- a statement, or a part of it, sets a variable
 abbrev pub sets_result : Option ℕ → (variable : ℕ) → Bool
@@ -276,6 +334,61 @@ abbrev pub set_to : (variable : ℕ) → Option ℕ → List Limit → List Limi
 set_to x None ks = ks
 set_to x (Some m) ks = ks ++ record { variable = x; most = m } ∷ []
 
+-- what both of two ways know of a variable, where one of them knows this
+abbrev pub either : Limit → Option ℕ → List Limit → List Limit
+either k None ks = ks
+either k (Some m) ks = record { variable = k.variable; most = max k.most m } ∷ ks
+
+abbrev pub joined : (one other : List Limit) → List Limit
+joined [] other = []
+joined (k ∷ ks) other = either k (most_in other k.variable) (joined ks other)
+
+-- no part of a statement sets a variable
+abbrev pub unset : Statement → (variable : ℕ) → Bool
+unset s x = not (sets s x)
+
+-- what is after a statement can be done next
+abbrev pub falls : Statement → Bool
+falls Skip = true
+falls (Set x e) = true
+falls (Store w o i e) = true
+falls (Call to f es) = true
+falls (Read to) = true
+falls (Write e) = true
+falls (Sequence s t) = falls t
+falls (If e s t) = falls s || falls t
+falls (Loop s) = false
+falls (Block s) = true
+falls (Exit k) = false
+falls (Return e) = false
+
+-- an exit in a statement leaves the block that it is in, or so many more
+abbrev pub leaves : (outer : ℕ) → Statement → Bool
+leaves k Skip = false
+leaves k (Set x e) = false
+leaves k (Store w o i e) = false
+leaves k (Call to f es) = false
+leaves k (Read to) = false
+leaves k (Write e) = false
+leaves k (Sequence s t) = leaves k s || leaves k t
+leaves k (If e s t) = leaves k s || leaves k t
+leaves k (Loop s) = leaves k s
+leaves k (Block s) = leaves (suc k) s
+leaves k (Exit j) = j == k
+leaves k (Return e) = false
+
+-- after an `If`, of which each way knows this at its end if it comes there; `before` is what was known before of variables that no part sets
+abbrev pub met : (first second : Bool) → (n : ℕ) → Statement → (before one other : List Limit) → List Limit
+met true true n s before one other = before ++ joined (kept n (unset s) one) other
+met true false n s before one other = one
+met false true n s before one other = other
+met false false n s before one other = before
+
+-- what is known where a way of an `If` begins
+abbrev pub known_within : List Size → (n : ℕ) → (way : Bool) → List Limit → Expression → List Limit
+known_within objects n way ks e = kept n (sets Skip) (with_told (guarded objects ks n e).known (told (guarded objects ks n e).known way e))
+
+-- loops are not entered, since the end of a loop is never come to, and a block only if no exit leaves just it
 abbrev pub known_after : List Size → (n : ℕ) → List Limit → Statement → List Limit
 known_after objects n ks Skip = ks
 known_after objects n ks (Set x e) = set_to x (most (guarded objects ks n e).known e) (kept n (sets (Set x e)) (guarded objects ks n e).known)
@@ -284,20 +397,55 @@ known_after objects n ks (Call to f es) = kept n (sets (Call to f es)) (guarded_
 known_after objects n ks (Read to) = kept n (sets (Read to)) ks
 known_after objects n ks (Write e) = kept n (sets (Write e)) (guarded objects ks n e).known
 known_after objects n ks (Sequence s t) = known_after objects n (known_after objects n ks s) t
-known_after objects n ks (If e s t) = kept n (sets (If e s t)) (guarded objects ks n e).known
+known_after objects n ks (If e s t) =
+    met (falls s) (falls t) n (If e s t) (kept n (sets (If e s t)) (guarded objects ks n e).known) (known_after objects n (known_within objects n true ks e) s) (known_after objects n (known_within objects n false ks e) t)
 known_after objects n ks (Loop s) = kept n (sets s) ks
-known_after objects n ks (Block s) = kept n (sets s) ks
+known_after objects n ks (Block s) = if leaves 0 s then kept n (sets s) ks else known_after objects n ks s
 known_after objects n ks (Exit k) = ks
 known_after objects n ks (Return e) = kept n (sets (Return e)) (guarded objects ks n e).known
+
+-- ---- what is known at a loop's head
+
+-- a turn leaves known at most what is known at the head: of one variable, of all, and of which
+abbrev pub at_most : Option ℕ → ℕ → Bool
+at_most None n = false
+at_most (Some m) n = nat_le m n
+
+abbrev pub all_again : (after head : List Limit) → Bool
+all_again after [] = true
+all_again after (k ∷ ks) = at_most (most_in after k.variable) k.most && all_again after ks
+
+abbrev pub still : (after head : List Limit) → List Limit
+still after [] = []
+still after (k ∷ ks) = kept_if (at_most (most_in after k.variable) k.most) k (still after ks)
+
+-- the greatest word that is not negative
+abbrev pub widened : List Limit → List Limit
+widened [] = []
+widened (k ∷ ks) = record { variable = k.variable; most = max k.most (2 ^ 31 - 1) } ∷ widened ks
+
+-- after a turn with these facts of variables that the loop sets
+abbrev pub turn : List Size → (n : ℕ) → List Limit → Statement → (more : List Limit) → List Limit
+turn objects n ks s more = known_after objects n (kept n (sets s) ks ++ more) s
+
+-- what is known before it, and what a turn from there leaves known
+abbrev pub narrowed : List Size → (n : ℕ) → List Limit → Statement → (before : List Limit) → List Limit
+narrowed objects n ks s before = joined before (turn objects n ks s (widened before))
+
+abbrev pub found : List Size → (n : ℕ) → List Limit → Statement → List Limit
+found objects n ks s = still (turn objects n ks s (narrowed objects n ks s (kept n (unset s) ks))) (narrowed objects n ks s (kept n (unset s) ks))
+
+-- it is tried: nothing is known of a variable that the loop sets if a turn does not leave all of that known
+abbrev pub if_again : (after head : List Limit) → List Limit
+if_again after head = if all_again after head then head else []
+
+abbrev pub head : List Size → (n : ℕ) → List Limit → Statement → List Limit
+head objects n ks s = kept n (sets s) ks ++ if_again (turn objects n ks s (found objects n ks s)) (found objects n ks s)
 
 -- ---- a statement
 
 abbrev pub with_store : (blocks : ℕ) → Width → (object : ℕ) → Guarded → Guarded → Statement
 with_store b w o i e = guards_then b (i.before ++ e.before) (Store w o i.value e.value)
-
--- what is known where both ways of an `If` begin
-abbrev pub known_within : List Size → (n : ℕ) → List Limit → Expression → List Limit
-known_within objects n ks e = kept n (sets Skip) (guarded objects ks n e).known
 
 -- a statement in so many blocks, where this is known; the guards of each set variables from n on
 abbrev pub code_after : List Size → (n : ℕ) → List Limit → (blocks : ℕ) → Statement → Statement
@@ -310,8 +458,8 @@ code_after objects n ks b (Write e) = guards_then b (guarded objects ks n e).bef
 code_after objects n ks b (Sequence s t) = Sequence (code_after objects n ks b s) (code_after objects n (known_after objects n ks s) b t)
 code_after objects n ks b (If e s t) =
     guards_then b (guarded objects ks n e).before
-    (If (guarded objects ks n e).value (code_after objects n (known_within objects n ks e) b s) (code_after objects n (known_within objects n ks e) b t))
-code_after objects n ks b (Loop s) = Loop (code_after objects n (kept n (sets s) ks) b s)
+    (If (guarded objects ks n e).value (code_after objects n (known_within objects n true ks e) b s) (code_after objects n (known_within objects n false ks e) b t))
+code_after objects n ks b (Loop s) = Loop (code_after objects n (head objects n ks s) b s)
 code_after objects n ks b (Block s) = Block (code_after objects n ks (suc b) s)
 code_after objects n ks b (Exit k) = Exit k
 code_after objects n ks b (Return e) = guards_then b (guarded objects ks n e).before (Return (guarded objects ks n e).value)
@@ -334,8 +482,8 @@ guards_after objects n ks (Read to) = false
 guards_after objects n ks (Write e) = some_guard (guarded objects ks n e).before
 guards_after objects n ks (Sequence s t) = guards_after objects n ks s || guards_after objects n (known_after objects n ks s) t
 guards_after objects n ks (If e s t) =
-    some_guard (guarded objects ks n e).before || (guards_after objects n (known_within objects n ks e) s || guards_after objects n (known_within objects n ks e) t)
-guards_after objects n ks (Loop s) = guards_after objects n (kept n (sets s) ks) s
+    some_guard (guarded objects ks n e).before || (guards_after objects n (known_within objects n true ks e) s || guards_after objects n (known_within objects n false ks e) t)
+guards_after objects n ks (Loop s) = guards_after objects n (head objects n ks s) s
 guards_after objects n ks (Block s) = guards_after objects n ks s
 guards_after objects n ks (Exit k) = false
 guards_after objects n ks (Return e) = some_guard (guarded objects ks n e).before
@@ -353,8 +501,8 @@ variables_after objects n ks (Read to) = 0
 variables_after objects n ks (Write e) = (guarded objects ks n e).next
 variables_after objects n ks (Sequence s t) = max (variables_after objects n ks s) (variables_after objects n (known_after objects n ks s) t)
 variables_after objects n ks (If e s t) =
-    max (guarded objects ks n e).next (max (variables_after objects n (known_within objects n ks e) s) (variables_after objects n (known_within objects n ks e) t))
-variables_after objects n ks (Loop s) = variables_after objects n (kept n (sets s) ks) s
+    max (guarded objects ks n e).next (max (variables_after objects n (known_within objects n true ks e) s) (variables_after objects n (known_within objects n false ks e) t))
+variables_after objects n ks (Loop s) = variables_after objects n (head objects n ks s) s
 variables_after objects n ks (Block s) = variables_after objects n ks s
 variables_after objects n ks (Exit k) = 0
 variables_after objects n ks (Return e) = (guarded objects ks n e).next

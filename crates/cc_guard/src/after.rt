@@ -1,18 +1,21 @@
 // What is known of variables after a statement. Nothing is written: the guards of its expressions are made once more, for what they leave known.
 //
-// Loops and blocks are not entered, since of what they set nothing is known after them.
+// Loops are not entered, since the end of a loop is never come to. Of a block nothing is known of what it sets, if an exit leaves just it. What is
+// known at a loop's head is found by turns that are tried: three, so a loop's own statements are walked three times more, for each loop that they
+// are in only the innermost.
 
 ghost use Rattle.std.specs.Prelude.{◌≡◌, IfOk};
 ghost use Rattle.cc_cminor.specs.Cminor as cminor;
 ghost use Rattle.cc_cminor.specs.Code.{expression_of, expressions_of, statement_of, in_sequence};
 ghost use Rattle.cc_cminor.specs.internal.Statements.{statements_of};
-ghost use Rattle.cc_guard.specs.Guard.{guarded, guarded_all, first_index, stored_word, known_after};
+ghost use Rattle.cc_guard.specs.Guard.{guarded, guarded_all, first_index, stored_word, told, with_told, kept, sets, met, falls, known_within, known_after, turn, narrowed, found, if_again, head};
 ghost use Rattle.cc_guard.specs.internal.Written.{sizes_of};
 
-use crate::changed::{kept, kept_but, set_to};
+use crate::changed::{add_told, falls, kept, kept_but, kept_set, leaves, set_to};
 use crate::expressions::{expression, expressions, index};
 use crate::guards::{Guards, begun};
-use crate::known::{Limit, most};
+use crate::heads::{all_again, joined, met_both, still, together, widened};
+use crate::known::{Limit, most, told};
 use crate::sizes::ObjectSize;
 use cc_cminor::{Expression, Statement};
 use cc_words::Width;
@@ -97,6 +100,55 @@ fn after_set(
     Ok(limits)
 }
 
+/// What is known where a way of an `If` begins, after the guards of its condition.
+pub fn within(
+    alloc: Global,
+    first: usize,
+    way: bool,
+    left: &[Limit],
+    e: &Expression,
+) -> Result<Vec<Limit>, AllocError>
+    ensures { IfOk result (λ limits. limits.items ≡ kept first (sets cminor.Skip) (with_told left.now (told left.now way (expression_of e.now)))) }
+{
+    let mut limits = Vec::from_slice(alloc, left)?;
+    add_told(&mut limits, told(left, way, e))?;
+    kept_but(alloc, first, None, limits.as_slice())
+}
+
+// What is known where the ways of an `If` meet.
+fn meet(
+    alloc: Global,
+    first: usize,
+    s: &Statement,
+    nonzero: &Statement,
+    otherwise: &Statement,
+    before: Vec<Limit>,
+    one: Vec<Limit>,
+    other: Vec<Limit>,
+) -> Result<Vec<Limit>, AllocError>
+    ensures { IfOk result (λ limits. limits.items ≡ met (falls (statement_of nonzero.now)) (falls (statement_of otherwise.now)) first (statement_of s.now) before.items one.items other.items) }
+{
+    let first_falls = falls(nonzero);
+    if falls(otherwise) {
+        if first_falls {
+            met_both(
+                alloc,
+                first,
+                s,
+                before.as_slice(),
+                one.as_slice(),
+                other.as_slice(),
+            )
+        } else {
+            Ok(other)
+        }
+    } else if first_falls {
+        Ok(one)
+    } else {
+        Ok(before)
+    }
+}
+
 /// What is known after a statement.
 #[cycle(after)]
 pub fn after(
@@ -129,12 +181,23 @@ pub fn after(
             kept_but(alloc, first, None, left.as_slice())
         }
         Statement::Sequence(all) => after_all(alloc, sizes, first, known, all.as_slice()),
-        Statement::If(e, _, _) => {
+        Statement::If(e, nonzero, otherwise) => {
             let left = after_value(alloc, sizes, first, known, e)?;
-            kept(alloc, first, s, left.as_slice())
+            let before = kept(alloc, first, s, left.as_slice())?;
+            let one = within(alloc, first, true, left.as_slice(), e)?;
+            let one = after(alloc, sizes, first, one.as_slice(), nonzero)?;
+            let other = within(alloc, first, false, left.as_slice(), e)?;
+            let other = after(alloc, sizes, first, other.as_slice(), otherwise)?;
+            meet(alloc, first, s, nonzero, otherwise, before, one, other)
         }
         Statement::Loop(body) => kept(alloc, first, body, known),
-        Statement::Block(body) => kept(alloc, first, body, known),
+        Statement::Block(body) => {
+            if leaves(0, body)? {
+                kept(alloc, first, body, known)
+            } else {
+                after(alloc, sizes, first, known, body)
+            }
+        }
     }
 }
 
@@ -153,4 +216,70 @@ fn after_all(
         limits = after(alloc, sizes, first, limits.as_slice(), s)?;
     }
     Ok(limits)
+}
+
+// After a turn with these facts of variables that the loop sets.
+fn turn(
+    alloc: Global,
+    sizes: &[ObjectSize],
+    first: usize,
+    known: &[Limit],
+    more: &[Limit],
+    body: &Statement,
+) -> Result<Vec<Limit>, AllocError>
+    ensures { IfOk result (λ limits. limits.items ≡ turn (sizes_of sizes.now) first known.now (statement_of body.now) more.now) }
+{
+    let kept = kept(alloc, first, body, known)?;
+    let limits = together(alloc, kept.as_slice(), more)?;
+    after(alloc, sizes, first, limits.as_slice(), body)
+}
+
+fn narrowed(
+    alloc: Global,
+    sizes: &[ObjectSize],
+    first: usize,
+    known: &[Limit],
+    before: &[Limit],
+    body: &Statement,
+) -> Result<Vec<Limit>, AllocError>
+    ensures { IfOk result (λ limits. limits.items ≡ narrowed (sizes_of sizes.now) first known.now (statement_of body.now) before.now) }
+{
+    let wide = widened(alloc, before)?;
+    let turned = turn(alloc, sizes, first, known, wide.as_slice(), body)?;
+    joined(alloc, before, turned.as_slice())
+}
+
+fn found(
+    alloc: Global,
+    sizes: &[ObjectSize],
+    first: usize,
+    known: &[Limit],
+    body: &Statement,
+) -> Result<Vec<Limit>, AllocError>
+    ensures { IfOk result (λ limits. limits.items ≡ found (sizes_of sizes.now) first known.now (statement_of body.now)) }
+{
+    let before = kept_set(alloc, first, body, known)?;
+    let near = narrowed(alloc, sizes, first, known, before.as_slice(), body)?;
+    let turned = turn(alloc, sizes, first, known, near.as_slice(), body)?;
+    still(alloc, turned.as_slice(), near.as_slice())
+}
+
+/// What is known at a loop's head, where this is known before the loop.
+pub fn head(
+    alloc: Global,
+    sizes: &[ObjectSize],
+    first: usize,
+    known: &[Limit],
+    body: &Statement,
+) -> Result<Vec<Limit>, AllocError>
+    ensures { IfOk result (λ limits. limits.items ≡ head (sizes_of sizes.now) first known.now (statement_of body.now)) }
+{
+    let kept = kept(alloc, first, body, known)?;
+    let found = found(alloc, sizes, first, known, body)?;
+    let turned = turn(alloc, sizes, first, known, found.as_slice(), body)?;
+    if all_again(turned.as_slice(), found.as_slice()) {
+        together(alloc, kept.as_slice(), found.as_slice())
+    } else {
+        Ok(kept)
+    }
 }

@@ -1,9 +1,9 @@
-// What is known of variables after a statement that sets some of them.
+// What is known of variables after a statement that sets some of them, and how a statement is left.
 
 ghost use Rattle.std.specs.Prelude.{◌≡◌, IfOk, OnOk};
 ghost use Rattle.cc_cminor.specs.Code.{statement_of, in_sequence};
 ghost use Rattle.cc_cminor.specs.internal.Statements.{statements_of};
-ghost use Rattle.cc_guard.specs.Guard.{sets_result, sets, stays, kept, set_to};
+ghost use Rattle.cc_guard.specs.Guard.{sets_result, sets, unset, stays, kept, set_to, with_told, falls, leaves};
 
 use crate::known::Limit;
 use cc_cminor::Statement;
@@ -97,4 +97,111 @@ pub fn set_to(known: &mut Vec<Limit>, variable: usize, most: Option<u32>) -> Res
         known.push(Limit { variable, most })?;
     }
     Ok(())
+}
+
+// No part of a statement sets a variable.
+fn unset(s: &Statement, variable: usize) -> bool
+    ensures { result ≡ unset (statement_of s.now) variable }
+{
+    !sets(s, variable)
+}
+
+/// What is known of variables below `first` that a statement sets.
+pub fn kept_set(
+    alloc: Global,
+    first: usize,
+    s: &Statement,
+    known: &[Limit],
+) -> Result<Vec<Limit>, AllocError>
+    ensures { IfOk result (λ limits. limits.items ≡ kept first (unset (statement_of s.now)) known.now) }
+{
+    let mut limits = Vec::new(alloc);
+    for limit in known {
+        if limit.variable < first && !unset(s, limit.variable) {
+            limits.push(*limit)?;
+        }
+    }
+    Ok(limits)
+}
+
+/// A condition told something of a variable, or nothing.
+pub fn add_told(known: &mut Vec<Limit>, told: Option<Limit>) -> Result<(), AllocError>
+    ensures { OnOk result (known.new.items ≡ with_told known.old.items told) }
+{
+    if let Some(limit) = told {
+        known.push(limit)?;
+    }
+    Ok(())
+}
+
+/// Whether what is after a statement can be done next.
+#[cycle(falling)]
+pub fn falls(s: &Statement) -> bool
+    ensures { result ≡ falls (statement_of s.now) }
+{
+    match s {
+        Statement::Sequence(all) => last_falls(all.as_slice()),
+        Statement::If(_, nonzero, otherwise) => falls(nonzero) || falls(otherwise),
+        Statement::Loop(_) | Statement::Exit(_) | Statement::Return(_) => false,
+        Statement::Skip
+        | Statement::Set(_, _)
+        | Statement::Store(_, _, _, _)
+        | Statement::Call(_, _, _)
+        | Statement::Read(_)
+        | Statement::Write(_)
+        | Statement::Block(_) => true,
+    }
+}
+
+#[cycle(falling)]
+fn last_falls(all: &[Statement]) -> bool
+    ensures { result ≡ falls (in_sequence (statements_of all.now)) }
+{
+    let mut last = true;
+    for s in all {
+        last = falls(s);
+    }
+    last
+}
+
+/// Whether an exit in a statement leaves the block that it is in, or so many more.
+#[cycle(leaving)]
+pub fn leaves(outer: usize, s: &Statement) -> Result<bool, AllocError>
+    ensures { IfOk result (λ left. left ≡ leaves outer (statement_of s.now)) }
+{
+    match s {
+        Statement::Sequence(all) => any_leaves(outer, all.as_slice()),
+        Statement::If(_, nonzero, otherwise) => {
+            let first = leaves(outer, nonzero)?;
+            let second = leaves(outer, otherwise)?;
+            Ok(first || second)
+        }
+        Statement::Loop(body) => leaves(outer, body),
+        Statement::Block(body) => {
+            let Some(more) = outer.checked_add(1) else {
+                return Err(AllocError);
+            };
+            leaves(more, body)
+        }
+        Statement::Exit(k) => Ok(*k == outer),
+        Statement::Skip
+        | Statement::Set(_, _)
+        | Statement::Store(_, _, _, _)
+        | Statement::Call(_, _, _)
+        | Statement::Read(_)
+        | Statement::Write(_)
+        | Statement::Return(_) => Ok(false),
+    }
+}
+
+#[cycle(leaving)]
+fn any_leaves(outer: usize, all: &[Statement]) -> Result<bool, AllocError>
+    ensures { IfOk result (λ left. left ≡ leaves outer (in_sequence (statements_of all.now))) }
+{
+    let mut found = false;
+    for s in all {
+        let left = leaves(outer, s)?;
+        found = found || left;
+    }
+    Ok(found)
 }

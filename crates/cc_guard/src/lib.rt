@@ -12,6 +12,7 @@ mod constants;
 mod expressions;
 mod fault;
 mod guards;
+mod heads;
 mod known;
 mod laws;
 mod pass;

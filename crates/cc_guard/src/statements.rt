@@ -9,9 +9,8 @@ ghost use Rattle.cc_cminor.specs.internal.Statements.{statements_of};
 ghost use Rattle.cc_guard.specs.Guard.{code_after};
 ghost use Rattle.cc_guard.specs.internal.Written.{SeesStatement, sizes_of};
 
-use crate::after::after;
+use crate::after::{after, head, within};
 use crate::boxes::{boxed_statement, sequence};
-use crate::changed::{kept, kept_but};
 use crate::expressions::{expression, expressions, index};
 use crate::guards::{Seen, begun, finished, note};
 use crate::known::Limit;
@@ -163,29 +162,22 @@ pub fn statement(
             let mut guards = begun(alloc, first, known)?;
             let value = expression(alloc, sizes, blocks, &mut guards, e)?;
             note(&guards, seen);
-            let within = kept_but(alloc, first, None, guards.known.as_slice())?;
-            let nonzero = statement(
-                alloc,
-                sizes,
-                first,
-                blocks,
-                seen,
-                within.as_slice(),
-                nonzero,
-            )?;
+            let one = within(alloc, first, true, guards.known.as_slice(), e)?;
+            let nonzero = statement(alloc, sizes, first, blocks, seen, one.as_slice(), nonzero)?;
+            let other = within(alloc, first, false, guards.known.as_slice(), e)?;
             let otherwise = statement(
                 alloc,
                 sizes,
                 first,
                 blocks,
                 seen,
-                within.as_slice(),
+                other.as_slice(),
                 otherwise,
             )?;
             finished(alloc, guards, Statement::If(value, nonzero, otherwise))
         }
         Statement::Loop(body) => {
-            let again = kept(alloc, first, body, known)?;
+            let again = head(alloc, sizes, first, known, body)?;
             let body = statement(alloc, sizes, first, blocks, seen, again.as_slice(), body)?;
             boxed_statement(alloc, Statement::Loop(body))
         }

@@ -1,5 +1,5 @@
 -- Sequences are their lists, and a choice is written after its guards.
-use Rattle.std.proofs.Common.{◌≡◌, ◌+◌, ◌∙◌, List, [], ◌∷◌, ◌++◌, drop, sym, ap, subst, append-nil, append_assoc}
+use Rattle.std.proofs.Common.{◌≡◌, ◌+◌, ◌∙◌, Bool, true, false, List, [], ◌∷◌, ◌++◌, drop, sym, ap, subst, append-nil, append_assoc}
 use Rattle.std.proofs.lemmas.List.{drop_all}
 use Rattle.cc_types.proofs.SameTypes.{drop-item}
 use Rattle.cc_cminor.specs.Cminor as cminor
@@ -8,7 +8,8 @@ use Rattle.cc_cminor.specs.internal.Statements.{statements_of}
 use Rattle.cc_cminor.specs.declared.code.Expression as expression
 use Rattle.cc_cminor.specs.declared.code.Statement as code
 use Rattle.cc_cminor.proofs.Codes.{if_ok, on_ok, statements_push}
-use Rattle.cc_guard.specs.Guard.{guards_then, guarded, sets, kept, known_after, known_within, code_after}
+use Rattle.cc_guard.specs.declared.known.Limit.{Limit}
+use Rattle.cc_guard.specs.Guard.{guards_then, guarded, told, with_told, sets, kept, known_after, known_within, code_after}
 use Rattle.cc_guard.specs.internal.Written.{SeesStatement, sizes_of}
 use Rattle.cc_guard.proofs.Writing.{all_code, sequence_code, sees_first, sees_none, first_wrote, first_value, first_known, written_then, if_is, same_sequence, on_ok_all}
 use Rattle.cc_guard.proofs.statements.+statements.Goals as goal
@@ -30,8 +31,8 @@ statement-returns-in_ok-otherwise-in-If-clause-code t c =
     let n = c.args.first in
     let ks = c.args.known.now in
     let e = expression_of c.deref-in-If.result.now in
-    let p = statement_of c.deref-in-If-2.result.now in
-    let q = statement_of c.deref-in-If-3.result.now in
+    let p = statement_of c.deref-in-If-3.result.now in
+    let q = statement_of c.deref-in-If-5.result.now in
     let g = guarded objects ks n e in
     let old = c.in_ok-guards-in-If.guards in
     let s = c.in_ok-guards-in-If.ensures in
@@ -40,17 +41,22 @@ statement-returns-in_ok-otherwise-in-If-clause-code t c =
     let x = c.in_ok-value-in-If.value in
     let y = c.in_ok-nonzero-in-If.nonzero in
     let z = c.in_ok-otherwise-in-If.otherwise in
-    let K = known_within objects n ks e in
-    let k : c.in_ok-within-in-If.within.items ≡ K = c.in_ok-within-in-If.ensures ∙ ap (λ hs. kept n (sets cminor.Skip) hs) (c.as_slice-in-If.ensures.value ∙ first_known objects n ks e old c.expression.new.guards s.next s.known c.in_ok-value-in-If.ensures.adds.known) in
+    let known = c.as_slice-in-If.ensures.value ∙ first_known objects n ks e old c.expression.new.guards s.next s.known c.in_ok-value-in-If.ensures.adds.known in
+    let known' = c.as_slice-in-If-3.ensures.value ∙ first_known objects n ks e old c.expression.new.guards s.next s.known c.in_ok-value-in-If.ensures.adds.known in
+    let K = known_within objects n true ks e in
+    let N = known_within objects n false ks e in
+    let F : Bool → List Limit → cminor.Expression → List Limit = λ way hs x. kept n (sets cminor.Skip) (with_told hs (told hs way x)) in
+    let k : c.in_ok-one-in-If.one.items ≡ K = c.in_ok-one-in-If.ensures ∙ ap (λ hs. F true hs (expression_of c.deref-in-If-2.result.now)) known ∙ ap (λ x. F true g.known (expression_of x)) (c.deref-in-If-2.ensures ∙ sym c.deref-in-If.ensures) in
+    let j : c.in_ok-other-in-If.other.items ≡ N = c.in_ok-other-in-If.ensures ∙ ap (λ hs. F false hs (expression_of c.deref-in-If-4.result.now)) known' ∙ ap (λ x. F false g.known (expression_of x)) (c.deref-in-If-4.ensures ∙ sym c.deref-in-If.ensures) in
     let is : statement_of c.args.s.now ≡ cminor.If e p q =
     ap statement_of c.in-If.is ∙ if_is c.in-If.e c.in-If.nonzero c.in-If.otherwise
     ∙ ap (λ (k : expression.Expression). cminor.If (expression_of k) (statement_of c.in-If.nonzero.value) (statement_of c.in-If.otherwise.value)) (sym c.deref-in-If.ensures)
-    ∙ ap (λ (k : code.Statement). cminor.If e (statement_of k) (statement_of c.in-If.otherwise.value)) (sym c.deref-in-If-2.ensures)
-    ∙ ap (λ (k : code.Statement). cminor.If e p (statement_of k)) (sym c.deref-in-If-3.ensures) in
+    ∙ ap (λ (k : code.Statement). cminor.If e (statement_of k) (statement_of c.in-If.otherwise.value)) (sym c.deref-in-If-3.ensures)
+    ∙ ap (λ (k : code.Statement). cminor.If e p (statement_of k)) (sym c.deref-in-If-5.ensures) in
     if_ok _ _ c.finished.result (λ r h. h ∙ written_then b g.next g.before c.expression.new.guards (statement_of (code.If x y z)) w
     ∙ ap (λ (k : cminor.Statement). guards_then b g.before k) (if_is x y z ∙ ap (λ k. cminor.If k (statement_of y.value) (statement_of z.value)) v
     ∙ ap (λ v. cminor.If g.value v (statement_of z.value)) (c.in_ok-nonzero-in-If.ensures.code ∙ ap (λ hs. code_after objects n hs b p) (c.as_slice-in-If-2.ensures.value ∙ k))
-    ∙ ap (λ v. cminor.If g.value (code_after objects n K b p) v) (c.in_ok-otherwise-in-If.ensures.code ∙ ap (λ hs. code_after objects n hs b q) (c.as_slice-in-If-3.ensures.value ∙ k)))
+    ∙ ap (λ v. cminor.If g.value (code_after objects n K b p) v) (c.in_ok-otherwise-in-If.ensures.code ∙ ap (λ hs. code_after objects n hs b q) (c.as_slice-in-If-4.ensures.value ∙ j)))
     ∙ sym (ap (λ (v : cminor.Statement). code_after objects n ks b v) is)) c.finished.ensures
 
 pub statements-loop-s-preserved : goal.statements-loop-s-preserved
