@@ -11,7 +11,7 @@ use Rattle.cc_cminor.specs.Size.{statement_size, partial, partials, all_partials
 use Rattle.cc_rtl.specs.Size.{function_nodes}
 use Rattle.cc_rtl.proofs.Sizes.{nodes_few}
 use Rattle.cc_guard.specs.declared.known.Limit.{Limit}
-use Rattle.cc_guard.specs.Guard.{Guard, Put, Stop, StopBoth, Guarded, most, is_below, always, asked, reads_left, elements_in, waits_as, waiting, waiting_if, with_binary, with_test, bounded, indexed, first_index, stored_word, guards_then, guarded, guarded_all, sets, kept, known_after, known_within, code_after, guarded_code, has_guards, with_loop, guarded_function}
+use Rattle.cc_guard.specs.Guard.{Guard, Put, Stop, StopBoth, Guarded, most, is_below, always, asked, reads_left, elements_in, waits_as, waiting, waiting_if, with_binary, with_test, bounded, indexed, first_index, stored_word, guards_then, guarded, guarded_all, head, known_after, known_within, code_after, guarded_code, has_guards, with_loop, guarded_function}
 
 -- ---- guards
 
@@ -149,11 +149,11 @@ module _ (objects : List Size) where
   code_nodes n b ks (If e s t) =
       let g = guarded objects ks n e in
       let a = (few e ks n).used in
-      let c = code_nodes n b (known_within objects n ks e) s in
-      let f = code_nodes n b (known_within objects n ks e) t in
-      let d = then_nodes b g.before (If g.value (code_after objects n (known_within objects n ks e) b s) (code_after objects n (known_within objects n ks e) b t)) in
+      let c = code_nodes n b (known_within objects n true ks e) s in
+      let f = code_nodes n b (known_within objects n false ks e) t in
+      let d = then_nodes b g.before (If g.value (code_after objects n (known_within objects n true ks e) b s) (code_after objects n (known_within objects n false ks e) b t)) in
       omega arith
-  code_nodes n b ks (Loop s) = let a = code_nodes n b (kept n (sets s) ks) s in omega arith
+  code_nodes n b ks (Loop s) = let a = code_nodes n b (head objects n ks s) s in omega arith
   code_nodes n b ks (Block s) = code_nodes n (suc b) ks s
   code_nodes n b ks (Exit k) = omega arith
   code_nodes n b ks (Return e) = let g = guarded objects ks n e in let a = (few e ks n).used in let c = then_nodes b g.before (Return g.value) in omega arith
