@@ -17,7 +17,7 @@ pub loop-preserved : goal.loop-preserved
 loop-preserved g c =
     let D = g.D.Disk in
     let by = given_by g.S.Spool.taken g.S.Spool.ended in
-    let Ends = ServingEnds D in
+    let Ends = ServingEnds c.args.mode D in
     let so_far = c.loop.invariant in
     let looked = c.goes_on.ensures in
     let now = c.goes_on.new.left in
@@ -33,7 +33,7 @@ pub returns-then-not-goes_on : goal.returns-then-not-goes_on
 returns-then-not-goes_on g c =
     let D = g.D.Disk in
     let by = given_by g.S.Spool.taken g.S.Spool.ended in
-    let Ends = ServingEnds D in
+    let Ends = ServingEnds c.args.mode D in
     let so_far = c.loop.invariant in
     let left = c.loop.left in
     let looked = c.goes_on.ensures in
