@@ -195,7 +195,14 @@ fn a_write_that_fails(rt: HostRuntime) {
     let mut reader = TWO.as_bytes();
     let mut writer = Refuses;
     let mut told = Vec::new(rt.alloc());
-    let status = perform_and_explain_stages(&rt, None, &mut reader, &mut writer, &mut told);
+    let status = perform_and_explain_stages(
+        &rt,
+        Kind::Plain,
+        None,
+        &mut reader,
+        &mut writer,
+        &mut told,
+    );
     assert!(rt;
         status == 1 && told.as_slice() == b"cclib: the answer could not be written\n".as_slice()
     );
