@@ -138,14 +138,28 @@ fn runner_command<'a>(alloc: Global, runner: &Runner) -> Result<Command<'a>, All
     with_file(alloc, begun.arg(words)?)
 }
 
-/// The word that asks for a checked image.
-pub(crate) fn checked_word<'a>(alloc: Global) -> Arg<'a> {
+// The word that asks for checked images.
+fn checked_option<'a>(alloc: Global, about: &'static str) -> Arg<'a> {
     Arg::new(alloc, CHECKED)
         .long(CHECKED)
         .action(ArgAction::SetTrue)
-        .help(
-            "The image stops in place where the program goes wrong by an index, a division or a shift",
-        )
+        .help(about)
+}
+
+/// The word that asks for a checked image.
+pub(crate) fn checked_word<'a>(alloc: Global) -> Arg<'a> {
+    checked_option(
+        alloc,
+        "The image stops in place where the program goes wrong by an index, a division or a shift",
+    )
+}
+
+/// The word that asks for a session in which all images are checked ones.
+pub(crate) fn checked_session<'a>(alloc: Global) -> Arg<'a> {
+    checked_option(
+        alloc,
+        "Compile checked images, which stop in place where the program goes wrong, and let `audit` confirm no others",
+    )
 }
 
 /// Whether a checked image is asked for.

@@ -3,9 +3,10 @@
 ghost use Rattle.std.specs.Prelude.{◌≤◌, IfOk, IfSome};
 ghost use Rattle.cc_command_line.specs.Work.{IsAllowed};
 
-use crate::command_line::Work;
+use crate::command_line::{Work, checked_session, kind_of};
 use crate::keeping::flag;
 use crate::numbers::number_in;
+use cc_task::Kind;
 use clap::error::ErrorKind;
 use clap::{Arg, ArgAction, ArgMatches, Command, Error};
 use std::alloc::{AllocError, Global};
@@ -59,6 +60,8 @@ pub struct Session {
     pub workers: usize,
     /// Whether a fault among the answers makes the status 1.
     pub is_strict: bool,
+    /// How the images of the session are compiled.
+    pub kind: Kind,
 }
 
 // An option with a value, which a person reads under that name.
@@ -103,7 +106,10 @@ pub(crate) fn library_command<'a>(alloc: Global) -> Result<Command<'a>, AllocErr
         STRICT,
         "End with the status 1 if an answer is a fault",
     );
-    begun.arg(workers_option(alloc))?.arg(strict)
+    begun
+        .arg(workers_option(alloc))?
+        .arg(strict)?
+        .arg(checked_session(alloc))
 }
 
 // The error of clap for a value that breaks this rule.
@@ -162,5 +168,6 @@ pub(crate) fn library_of(alloc: Global, given: &ArgMatches<'_>) -> Result<Work, 
         area,
         workers,
         is_strict: given.get_flag(STRICT),
+        kind: kind_of(given),
     }))
 }

@@ -1,7 +1,7 @@
 // The command line.
 
 use cc_command_line::{
-    Invocation, Session, Work, line, read_invocation, read_or_tell, refused_bytes,
+    Invocation, Server, Session, Work, line, read_invocation, read_or_tell, refused_bytes,
 };
 use cc_task::{Kind, Task};
 use std::alloc::Global;
@@ -56,6 +56,7 @@ fn asks_for_library(
                     area,
                     workers,
                     is_strict,
+                    kind: Kind::Plain,
                 },
             ),
         ) => disk.as_str() == path && area == wanted && workers == count && !is_strict,
@@ -120,6 +121,29 @@ fn checked_images(rt: HostRuntime) {
     assert!(rt; matches!(asked, Ok(Work::One(Task::Asm(Kind::Checked)))));
     let asked = line(alloc, &["cclib", "size", "--checked"]);
     assert!(rt; matches!(asked, Ok(Work::One(Task::Size(Kind::Checked)))));
+    let asked = line(alloc, &["cclib", "library", "units.disk", "--checked"]);
+    assert!(rt;
+        matches!(
+            asked,
+            Ok(Work::Library(Session {
+                kind: Kind::Checked,
+                ..
+            }))
+        )
+    );
+    let asked = line(
+        alloc,
+        &["cclib", "serve", "--checked", "units.disk", "spool"],
+    );
+    assert!(rt;
+        matches!(
+            asked,
+            Ok(Work::Serve(Server {
+                kind: Kind::Checked,
+                ..
+            }))
+        )
+    );
     let asked = line(alloc, &["cclib", "size"]);
     assert!(rt; matches!(asked, Ok(Work::One(Task::Size(Kind::Plain)))));
     let asked = line(alloc, &["cclib", "image", "--checked"]);
