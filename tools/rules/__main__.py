@@ -89,7 +89,7 @@ def plants():
         ("drawn_map", changed("crates/cc_link/src/lib.rt", more=arrows), "cc_link: more than 7 arrows"),
         ("version", {"VERSION": "9.9.9\n"}, "VERSION and command_line.rt"),
         ("help_texts", changed("docs/help.txt", ("\n\n", "\n\nplanted\n\n")), "./cclib --help"),
-        ("help_texts", changed("cclib", ('echo "cclib 0', 'echo "cclib 9')), "./cclib --version"),
+        ("help_texts", changed("cclib", ('echo "cclib $(cat', 'echo "cclib 9$(cat')), "./cclib --version"),
         ("programs", changed("bench/programs/crc.c", more="/* planted */\n"), "bench/programs/crc.c"),
         ("commands", changed("crates/cc_script/src/command.rt", ('verb == b"list"', 'verb == b"planted"')), "command.rt"),
         ("commands", changed("crates/cc_command_line/src/library.rt", ("\n  list ", "\n  planted ")), "LIBRARY_HELP"),
