@@ -1,6 +1,7 @@
 // Serving on and on: each generation is one service, and the next begins with the disk and the spools that it left.
 
 ghost use Rattle.std.specs.Prelude.{◌≡◌, ◌≤◌, ℕ, zero, suc, true, map};
+ghost use Rattle.cc_c_laws.specs.declared.mode.Mode.TheVariants.{Plain};
 ghost use Rattle.cc_session.specs.Generations.{GoesOn, ServesOn};
 ghost use Rattle.cc_session.specs.declared.end.SessionEnd.TheVariants.{Finished};
 ghost use Rattle.cc_session.specs.Spooling.{ServingEnds, given_by};
@@ -12,6 +13,7 @@ use crate::steward::Steward;
 use crate::telling::tell_end;
 use cc_answers::explain_words;
 use cc_disk::Disk;
+use cc_link::Mode;
 use cc_service::NoGate;
 use cc_spool::Spool;
 use std::alloc::Global;
@@ -120,6 +122,7 @@ fn goes_on<H: Clock, E: Write, D: Drop, S: Spool + Drop>(
 fn serve_all<H, S, E, D, T>(
     rt: &H,
     alloc: Global,
+    mode: Mode,
     spools: Vec<S>,
     explanations: &mut E,
     disk: D,
@@ -135,12 +138,13 @@ where
     T: Steward,
     requires some { 1 ≤ workers }
     requires few { workers ≤ 8 }
-    ensures generations { (earlier : ℕ) × ServesOn (ServingEnds D.Disk) earlier
+    ensures generations { (earlier : ℕ) × ServesOn (ServingEnds mode D.Disk) earlier
         (map (given_by S.taken S.ended) spools.items) (map (given_by S.taken S.ended) result.spools.items) disk result.disk result.end }
 {
     let mut left = serve_quietly(
         rt,
         alloc,
+        mode,
         spools,
         explanations,
         disk,
@@ -165,6 +169,7 @@ where
         left = serve_quietly(
             rt,
             alloc,
+            mode,
             spools,
             explanations,
             disk,
@@ -177,7 +182,7 @@ where
     left
 }
 
-/// Serves as `serve` does, one generation behind the other, until each spool is over or a service ends by a fault. A generation begins with
+/// Serves as `serve_in` does, one generation behind the other, until each spool is over or a service ends by a fault. A generation begins with
 /// the disk and the spools that the one before left; the numbers of its receipts begin at 1. Between two of them no script is taken, for as
 /// long as the service's end, the opening of the library and `steward` take.
 ///
@@ -185,7 +190,49 @@ where
 /// to a minute. The first fault of a row is explained on `explanations`. It ends by that fault only if each spool is over then. Any fault of the
 /// first generation ends it.
 ///
-/// What goes to `writer` and `explanations`, and what is handed back, is as with `serve`, of the last generation.
+/// What goes to `writer` and `explanations`, and what is handed back, is as with `serve_in`, of the last generation.
+pub fn serve_on_in<H, S, W, E, D, T>(
+    rt: &H,
+    alloc: Global,
+    mode: Mode,
+    spools: Vec<S>,
+    writer: &mut W,
+    explanations: &mut E,
+    disk: D,
+    workers: usize,
+    bounds: Bounds,
+    steward: &mut T,
+) -> Served<D, S>
+where
+    H: Threads + Wait + Clock + Copy + Send + Sync + 'static,
+    S: Spool + Send + Drop,
+    W: Write,
+    E: Write,
+    D: Disk + Send + Drop,
+    T: Steward,
+    requires some { 1 ≤ workers }
+    requires few { workers ≤ 8 }
+    ensures generations { (earlier : ℕ) × ServesOn (ServingEnds mode D.Disk) earlier
+        (map (given_by S.taken S.ended) spools.items) (map (given_by S.taken S.ended) result.spools.items) disk result.disk result.end }
+    // Nothing is written where no fault ended it.
+    ensures still { result.end ≡ Finished → W.contents writer.new ≡ W.contents writer.old }
+{
+    let left = serve_all(
+        rt,
+        alloc,
+        mode,
+        spools,
+        explanations,
+        disk,
+        workers,
+        bounds,
+        steward,
+    );
+    tell_end(alloc, left.end, writer, explanations);
+    left
+}
+
+/// Does so in the plain mode: `serve_on_in`.
 pub fn serve_on<H, S, W, E, D, T>(
     rt: &H,
     alloc: Global,
@@ -206,21 +253,21 @@ where
     T: Steward,
     requires some { 1 ≤ workers }
     requires few { workers ≤ 8 }
-    ensures generations { (earlier : ℕ) × ServesOn (ServingEnds D.Disk) earlier
+    ensures generations { (earlier : ℕ) × ServesOn (ServingEnds Plain D.Disk) earlier
         (map (given_by S.taken S.ended) spools.items) (map (given_by S.taken S.ended) result.spools.items) disk result.disk result.end }
     // Nothing is written where no fault ended it.
     ensures still { result.end ≡ Finished → W.contents writer.new ≡ W.contents writer.old }
 {
-    let left = serve_all(
+    serve_on_in(
         rt,
         alloc,
+        Mode::Plain,
         spools,
+        writer,
         explanations,
         disk,
         workers,
         bounds,
         steward,
-    );
-    tell_end(alloc, left.end, writer, explanations);
-    left
+    )
 }

@@ -1,7 +1,10 @@
 // Checked images: each writes what its source writes until that goes wrong, and then goes on for ever in place.
 
 use super::helpers::{Run, ends_well, image_runs};
-use cc_link::{Audit, CompiledUnit, Mode, audit_in, compile_in};
+use cc_link::{
+    Audit, CompiledUnit, Mode, audit_in, compile_functions_in, compile_in, link_pieces_in,
+    typed_unit,
+};
 use cc_rv32::outcome::MachineOutcome;
 use std::alloc::Global;
 use std::test::Fail;
@@ -25,11 +28,7 @@ static WRONG: [(&str, &[u32], &[i32]); 10] = [
         &[7, 7],
     ),
     // quotients: by 0, and the least number by -1
-    (
-        "int main(void){write_word(5);write_word(1/0);}",
-        &[],
-        &[5],
-    ),
+    ("int main(void){write_word(5);write_word(1/0);}", &[], &[5]),
     (
         "int main(void){int m=read_word();int d=read_word();write_word(m/2);write_word(m%d);}",
         &[2147483648, 4294967295],
@@ -90,7 +89,13 @@ fn is_confirmed(alloc: Global, mode: Mode, unit: &CompiledUnit) -> Result<bool, 
         Some(certificate) => Some(certificate.bytes()),
         None => None,
     };
-    let said = audit_in(alloc, mode, stored.source.bytes(), certificate, &stored.image)?;
+    let said = audit_in(
+        alloc,
+        mode,
+        stored.source.bytes(),
+        certificate,
+        &stored.image,
+    )?;
     Ok(matches!(said, Audit::Confirmed))
 }
 
@@ -161,5 +166,29 @@ fn sources_without_guards(rt: HostRuntime) -> Result<(), Fail> {
         let same = are_same(rt.alloc(), text.as_bytes())?;
         assert!(rt; same, "{text}");
     }
+    Ok(())
+}
+
+// The number with which pieces in one mode are refused in another; 0 if they link.
+fn linked_in_another(alloc: Global, of: Mode, asked: Mode) -> Result<u32, Fail> {
+    let unit = typed_unit(alloc, b"int f(void){return 1;}int main(void){return f();}")?;
+    let pieces = compile_functions_in(alloc, of, &unit)?;
+    match link_pieces_in(alloc, asked, &unit, pieces) {
+        Ok(made) => {
+            drop(made);
+            Ok(0)
+        }
+        Err(fault) => Ok(fault.number()),
+    }
+}
+
+#[test]
+fn pieces_in_another_mode(rt: HostRuntime) -> Result<(), Fail> {
+    let plain = linked_in_another(rt.alloc(), Mode::Checked, Mode::Plain)?;
+    assert_eq!(rt; plain, 28);
+    let checked = linked_in_another(rt.alloc(), Mode::Plain, Mode::Checked)?;
+    assert_eq!(rt; checked, 28);
+    let same = linked_in_another(rt.alloc(), Mode::Checked, Mode::Checked)?;
+    assert_eq!(rt; same, 0);
     Ok(())
 }

@@ -15,7 +15,7 @@ pub loop-preserved : goal.loop-preserved
 loop-preserved g c =
     let D = g.D.Disk in
     let by = given_by g.S.Spool.taken g.S.Spool.ended in
-    let Ends = ServingEnds D in
+    let Ends = ServingEnds c.args.mode D in
     let so_far = c.loop.invariant in
     let looked = c.goes_on.ensures in
     let now = c.goes_on.new.left in
@@ -31,7 +31,7 @@ pub returns : goal.returns
 returns g c =
     let D = g.D.Disk in
     let by = given_by g.S.Spool.taken g.S.Spool.ended in
-    let Ends = ServingEnds D in
+    let Ends = ServingEnds c.args.mode D in
     let so_far = c.loop.invariant in
     let left = c.loop.left in
     record {

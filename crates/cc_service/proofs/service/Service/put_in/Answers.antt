@@ -1,12 +1,13 @@
 -- A text that is handed in is put as its text; one that is not is refused as one that is not compiled.
 use Rattle.std.proofs.Common.{ℕ, IsTrue, List, refl, sym, ap, subst}
 use Rattle.cc_library.specs.Name.{is_name}
+use Rattle.cc_c_laws.specs.declared.mode.Mode.{Mode}
 use Rattle.cc_pool.specs.declared.item.Item.{Item}
 use Rattle.cc_service.specs.Client.{ClientView}
 use Rattle.cc_service.specs.Compiling.{HasSentFor}
 use Rattle.cc_service.specs.Serving.{PutAnswers, Puts}
 use Rattle.cc_service.proofs.Answering.{not_prepared, not_put}
-use Rattle.cc_service.proofs.service.Service.put.Goals as goal
+use Rattle.cc_service.proofs.service.Service.put_in.Goals as goal
 
 pub put_counted-requires-clause-named : goal.put_counted-requires-clause-named
 put_counted-requires-clause-named g c = λ _ _. subst (λ (n : List ℕ). IsTrue (is_name n)) (sym c.in-Ok.ensures.answer) (c.in-Ok.ensures.answers.0 refl)
@@ -15,9 +16,12 @@ pub returns-in-Ok-begun-clause-answers : goal.returns-in-Ok-begun-clause-answers
 returns-in-Ok-begun-clause-answers g c =
     let new = c.put_counted.new.client.member in
     let result = c.put_counted.result in
-    subst (λ (n : List ℕ). PutAnswers (Puts c.args.put n c.args.source.now) n c.args.source.now c.args.client.now.member new result) c.in-Ok.ensures.answer
-    (subst (λ (t : List ℕ). PutAnswers (Puts c.args.put c.in-Ok.name t) c.in-Ok.name t c.args.client.now.member new result) c.in-Ok-begun.ensures.text
-    (subst (λ (v : ClientView). PutAnswers (Puts c.args.put c.in-Ok.name c.in-Ok-begun.prepared) c.in-Ok.name c.in-Ok-begun.prepared v.member new result) c.client.view_is c.put_counted.ensures.answers))
+    let mode = c.args.mode in
+    let prepared = c.in-Ok-begun.prepared in
+    subst (λ (n : List ℕ). PutAnswers mode (Puts c.args.put mode n c.args.source.now) n c.args.source.now c.args.client.now.member new result) c.in-Ok.ensures.answer
+    (subst (λ (t : List ℕ). PutAnswers mode (Puts c.args.put mode c.in-Ok.name t) c.in-Ok.name t c.args.client.now.member new result) c.in-Ok-begun.ensures.text
+    (subst (λ (m : Mode). PutAnswers m (Puts c.args.put m c.in-Ok.name prepared.text) c.in-Ok.name prepared.text c.args.client.now.member new result) c.in-Ok-begun.ensures.mode
+    (subst (λ (v : ClientView). PutAnswers prepared.mode (Puts c.args.put prepared.mode c.in-Ok.name prepared.text) c.in-Ok.name prepared.text v.member new result) c.client.view_is c.put_counted.ensures.answers)))
 
 pub returns-in-Ok-begun-clause-sent : goal.returns-in-Ok-begun-clause-sent
 returns-in-Ok-begun-clause-sent g c =
@@ -33,5 +37,5 @@ pub returns-in-Err-clause-answers : goal.returns-in-Err-clause-answers
 returns-in-Err-clause-answers g c =
     let name = c.args.name.now in
     let source = c.args.source.now in
-    not_put (Puts c.args.put name source) name source c.args.client.now.member c.client.inside.member (c.in-Ok.ensures.answers.0 refl) (ap (λ (c : ClientView). c.member) c.client.view_is) c.in-Err.fault
-    (not_prepared source c.in-Err.fault c.in-Err.ensures.refused)
+    not_put c.args.mode (Puts c.args.put c.args.mode name source) name source c.args.client.now.member c.client.inside.member (c.in-Ok.ensures.answers.0 refl) (ap (λ (c : ClientView). c.member) c.client.view_is) c.in-Err.fault
+    (not_prepared c.args.mode source c.in-Err.fault c.in-Err.ensures.refused)

@@ -5,7 +5,7 @@ use Rattle.cc_script.specs.Reading.{Ahead}
 use Rattle.cc_service.specs.declared.fault.ServiceFault.TheVariants.{Opening}
 use Rattle.cc_session.specs.Session.{EndsSince, HaveCalled}
 use Rattle.cc_session.proofs.Ends.{ends_on}
-use Rattle.cc_session.proofs.running.session_and_explain.Goals as goal
+use Rattle.cc_session.proofs.running.session_and_explain_in.Goals as goal
 
 pub returns-in-Ok : goal.returns-in-Ok
 returns-in-Ok g c =
@@ -14,7 +14,7 @@ returns-in-Ok g c =
     let before = c.in-Ok.begun.before.value in
     let heard = ap (λ (a : Ahead). a.rest) c.new-script.ensures in
     let W = g.W.Write.contents in
-    let called = λ (script : Option (List ℕ)). HaveCalled script (W c.args.writer.now) (W c.do_script-disk.new.answers) c.do_script-disk.result.1 in
+    let called = λ (script : Option (List ℕ)). HaveCalled c.args.mode script (W c.args.writer.now) (W c.do_script-disk.new.answers) c.do_script-disk.result.1 in
     let ends = subst (λ (script : Option (List ℕ)). EndsSince D (D.moment before) (D.may_leave before) (Unit {0})
     (called script) c.in-Ok.begun.library.disk c.do_script-disk.result.0 c.do_script-disk.result.1) heard c.do_script-disk.ensures in
     record {
