@@ -5,7 +5,7 @@
                                                 no type's model, definitions of specs/internal/ on which a contract or a public
                                                 type's model does, contracts that rest on what stands in proofs/, clauses of more
                                                 than 100 characters that stand word for word in more than three contracts of the
-                                                product, and names in the crates' READMEs and five documents that nothing has any more
+                                                product, and names in the crates' READMEs and eight documents that nothing has any more
     bench/rooms.py CRATE FUNCTION [CLAUSE..]    what that function's contract rests on, or these clauses of it: the pages in
                                                 reading order, with how many of their lines, and how many lines in all
 
@@ -340,7 +340,8 @@ def unknown_in(path, words, pages):
 
 def check_documents(repository):
     wrong, words = 0, words_of_sources()
-    pages = [f"{TOP}/docs/{it}.md" for it in ("ARCHITECTURE", "DECISIONS", "DEVELOPING", "PROOFS", "THREADS")]
+    pages = [f"{TOP}/docs/{it}.md" for it in ("ARCHITECTURE", "DECISIONS", "DEVELOPING", "FIT", "PROOFS", "THREADS")]
+    pages += [f"{TOP}/CHANGELOG.md", f"{TOP}/CONTRIBUTING.md"]
     for path in [*sorted(glob.glob(f"{TOP}/crates/*/README.md")), *pages]:
         for it in unknown_in(path, words, repository.pages):
             wrong += 1
