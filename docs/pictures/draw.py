@@ -74,13 +74,13 @@ def has(crate, folder, pattern, what):
         fail(f"{crate}/{folder} has no {what}")
 
 
-def clause(crate, function, name):
-    """Sees that a function of a crate has a clause of that name."""
-    for path in sorted((CRATES / crate / "src").rglob("*.rt")):
+def clause(crate, file, function, name):
+    """Sees that a function in a file of a crate has a clause of that name."""
+    for path in (CRATES / crate / "src").rglob(file):
         for part in re.split(r"^\s*(?:pub(?:\(\w+\))? )?fn ", path.read_text(), flags=re.M)[1:]:
             if re.match(rf"{function}\b", part) and re.search(rf"ensures\*? {name}\b", part):
                 return
-    fail(f"{crate}: {function} has no clause {name}")
+    fail(f"{crate}/src/{file}: {function} has no clause {name}")
 
 
 def escape(text):
@@ -148,11 +148,11 @@ def steps_of_a_text():
             owner, _, name = page.partition(": ")
             if not re.search(rf"^.*pub (?:record )?{kept}\b", (CRATES / owner / "specs" / f"{name}.antt").read_text(), re.M):
                 fail(f"{page} does not define {kept}")
-    clause("cc_link", "compile_in", "follows")
-    clause("cc_link", "compile_in", "agrees")
-    clause("cc_validate", "validate", "follows")
-    clause("cc_cminor", "to_cminor", "fails_alike")
-    clause("cc_rv32", "run", "behavior")
+    clause("cc_link", "compiling.rt", "compile_in", "follows")
+    clause("cc_link", "compiling.rt", "compile_in", "agrees")
+    clause("cc_validate", "validator.rt", "validate", "follows")
+    clause("cc_cminor", "lower.rt", "to_cminor", "fails_alike")
+    clause("cc_rv32", "machine.rt", "run", "behavior")
     has("cc_link", "src", r"pub fn linked_units_follow\b", "linked_units_follow")
     return steps
 
@@ -215,9 +215,9 @@ def commit():
     for name in EDITS.values():
         if not (CRATES / "cc_journal" / "must-fail" / f"{name}.edit").is_file():
             fail(f"cc_journal has no edit {name}")
-    clause("cc_journal", "append", "moments")
-    clause("cc_journal", "rewrite", "moments")
-    clause("cc_journal", "make", "moments")
+    clause("cc_journal", "log.rt", "append", "moments")
+    clause("cc_journal", "log.rt", "rewrite", "moments")
+    clause("cc_journal", "commit.rt", "make", "moments")
     gate = lambda style, text: (34, style, text)
     tail = lambda style, next_gate: [(64, style, "length"), (98, style, "body"), (34, style, next_gate)]
     appends = [
