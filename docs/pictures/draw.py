@@ -35,7 +35,7 @@ STYLE = """
   }
 """
 
-# What each call's answer keeps: the type, its second line, the page with the clause, the clause, and what it says.
+# What is known of each call's answer: the type, its second line, the page with the definition, its name, and what it says.
 PASSES = {
     "parse": ("Unit", "the tree", "cc_ast: Parse", "SpellsText", "The text spells this tree."),
     "check": ("TypedUnit", "the typed unit", "cc_types: Typed", "IsTyped", "No rule of scope or type is broken."),
@@ -44,11 +44,11 @@ PASSES = {
     "to_rtl": ("RtlPair", "a graph of nodes", "cc_rtl_language: Pair", "KeepsUp", "The same, over as many pseudo-registers as are needed."),
     "drop_faint": ("RtlPair", "without dead nodes", "cc_live: Liveness", "IsWithoutFaint", "The same; only nodes that nobody needs are gone."),
     "colour": ("Ltl", "registers and slots", None, None, "Nothing: the allocator is not trusted."),
-    "validate": ("LtlPair", "LTL, validated", "cc_validate: Pair", "KeepsUp", "The same, whatever unknown registers hold. This LTL is the certificate."),
+    "validate": ("LtlPair", "LTL, validated", "cc_validate: Pair", "KeepsUp", "The same, whatever unknown registers hold. Its LTL goes into the certificate."),
     "linearise": ("LinearPair", "one list with jumps", "cc_linear_language: Pair", "KeepsUp", "The same, after blocks have become labels and jumps."),
     "select": ("SelectedPair", "the machine's steps", "cc_select: Pair", "KeepsUp", "The same, with the machine's own operations."),
     "emit": ("Piece", "instructions, a frame", "cc_emit: Piece", "AreOf", "The instructions do what the function does, within its frame."),
-    "link": ("CompiledUnit", "the image", "cc_link: Agree", "AgreeIn", "On every input the image follows the program, plain or checked."),
+    "link": ("CompiledUnit", "the image", "cc_link: Agree", "AgreeIn", "On every input the image follows the program, plain or checked (compile_in)."),
     "run_image": ("ImageRun", "words and the end", "cc_answers: Run", "IsRunOf", "The simulator does exactly what the machine of docs/MACHINE.md does."),
 }
 GROUPS = {"typed_unit", "compile_function"}  # rows of the table that only call the others
@@ -159,9 +159,9 @@ def steps_of_a_text():
 
 def passes():
     left, wide, tall, step, top = 30, 210, 40, 66, 118
-    out = [words(30, 36, "The way of a text, and what each step keeps", "title")]
-    out += [words(30, 58, "Each call takes the value above it. The type of its answer keeps a fact, so no later step can lose it.", "soft")]
-    out += [words(x, 92, it, "head") for x, it in ((left, "value"), (270, "what its type keeps"), (770, "refuses with"))]
+    out = [words(30, 36, "The way of a text, and the fact that each step keeps", "title")]
+    out += [words(30, 58, "Each call takes the value above it. The fact beside a value is kept by its type, so no later step can lose it, or promised by the call.", "soft")]
+    out += [words(x, 92, it, "head") for x, it in ((left, "value"), (270, "the fact"), (770, "refuses with"))]
     steps = steps_of_a_text()
     out += [box(left, top - 8, wide, 28, "box"), words(left + wide / 2, top + 11, "C text, 65,536 bytes at most", "", "middle")]
     y = top + 20
