@@ -55,9 +55,12 @@ GROUPS = {"typed_unit", "compile_function"}  # rows of the table that only call 
 EDITS = {1: "own_gate_open_in_the_bodys_write", 2: "the_deciding_byte_written_before_the_sync", 4: "ok_without_the_sync_after_it"}
 
 
+class Untrue(Exception):
+    """What a page or a source says, and the picture does not."""
+
+
 def fail(text):
-    """Ends the script: what a page says and what a picture shows are no longer the same."""
-    sys.exit(f"docs/pictures/draw.py: {text}")
+    raise Untrue(text)
 
 
 def table(page, heading, after=0):
@@ -278,21 +281,36 @@ def png_of(svg):
     return data[:33] + struct.pack(">I", len(body) - 4) + body + struct.pack(">I", zlib.crc32(body)) + data[33:]
 
 
-def main(asked):
-    wrong = 0
-    for name, draw in (("passes", passes), ("commit", commit)):
-        svg, file, png = draw(), HERE / f"{name}.svg", HERE / f"{name}.png"
-        if asked == ["--check"]:
-            mark = KEY + b"\0" + hashlib.sha256(svg.encode()).hexdigest().encode()
-            for path, same in ((file, file.is_file() and file.read_text() == svg), (png, png.is_file() and mark in png.read_bytes())):
-                wrong += not same
-                if not same:
-                    print(f"{path.relative_to(TOP)} is not what docs/pictures/draw.py draws")
-        else:
-            file.write_text(svg)
-            png.write_bytes(png_of(svg))
-    return 1 if wrong else 0
+def differences():
+    """Returns which files are not what the pages and the sources say."""
+    wrong = []
+    for name, draw in DRAWN.items():
+        try:
+            svg = draw()
+        except Untrue as it:
+            wrong.append(f"the picture {name}: {it}")
+            continue
+        mark = KEY + b"\0" + hashlib.sha256(svg.encode()).hexdigest().encode()
+        files = {HERE / f"{name}.svg": svg.encode(), HERE / f"{name}.png": mark}
+        wrong += [f"{path.relative_to(TOP)} is not what docs/pictures/draw.py draws" for path, text in files.items() if text not in bytes_of(path)]
+    return wrong
+
+
+def bytes_of(path):
+    return path.read_bytes() if path.is_file() else b""
+
+
+def write():
+    for name, draw in DRAWN.items():
+        svg = draw()
+        (HERE / f"{name}.svg").write_text(svg)
+        (HERE / f"{name}.png").write_bytes(png_of(svg))
+
+
+DRAWN = {"passes": passes, "commit": commit}
 
 
 if __name__ == "__main__":
-    sys.exit(main(sys.argv[1:]))
+    if sys.argv[1:] == ["--check"]:
+        sys.exit("\n".join(differences()) or 0)
+    write()

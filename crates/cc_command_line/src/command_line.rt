@@ -192,7 +192,7 @@ fn check_command<'a>(alloc: Global) -> Result<Command<'a>, AllocError> {
 fn asm_command<'a>(alloc: Global) -> Result<Command<'a>, AllocError> {
     let about = "Compile the program and list its image";
     let help = "The program comes on standard input, or in files: cclib asm -f main.c -f table.c";
-    plain_command(alloc, "asm", about, help)
+    plain_command(alloc, "asm", about, help)?.arg(checked_word(alloc))
 }
 
 fn stages_command<'a>(alloc: Global) -> Result<Command<'a>, AllocError> {

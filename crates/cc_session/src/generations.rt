@@ -220,6 +220,8 @@ where
     requires few { workers ≤ 8 }
     ensures generations { (earlier : ℕ) × ServesOn (ServingEnds mode D.Disk) earlier
         (map (given_by S.taken S.ended) spools.items) (map (given_by S.taken S.ended) result.spools.items) disk result.disk result.end }
+    // If no fault ended it, each spool has said that it is over.
+    ensures over { result.end ≡ Finished → All S.over result.spools.items }
     // Nothing is written where no fault ended it.
     ensures still { result.end ≡ Finished → W.contents writer.new ≡ W.contents writer.old }
 {

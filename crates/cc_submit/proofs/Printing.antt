@@ -40,4 +40,4 @@ pub not_fetch : (sent : Sent) → ((bytes : Vec ℕ Global) → sent ≡ Fetch b
 not_fetch Script other = refl
 not_fetch (Line bytes) other = refl
 not_fetch (Fetch bytes) other = absurd (other bytes refl)
-not_fetch (Source bytes count) other = refl
+not_fetch (Source bytes count origin) other = refl

@@ -60,7 +60,7 @@ unread input a b fault told (inr is) (inr by) mode = inr (inr (subst (λ (f : Fa
 -- a task that was not done, since memory ran out before a text was there
 pub undone : {T : Type 0} (answer : Result T Fault) (task : Task) (input a b : Option (List ℕ)) → IsErrAnd answer (λ told. RefusesBy OutOfMemory [] a b told) → IsDoneFor task input a b answer
 undone (Ok did) task input a b by = absurd by
-undone (Err told) task input a b by = unread input a b OutOfMemory told (inr refl) by
+undone (Err told) task input a b by = unread input a b OutOfMemory told (inr refl) by (mode_for task)
 
 -- a task that was done for the text that was read
 pub done : {T : Type 0} (answer : Result T Fault) (task : Task) (input a b c : Option (List ℕ)) (text : List ℕ) → IsTextOf input text → b ≡ a → TellsOf task text b c answer → IsDoneFor task input a c answer

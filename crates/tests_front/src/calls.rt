@@ -60,10 +60,9 @@ fn a_program_from_text_to_outcome(rt: HostRuntime) -> Result<(), Fail> {
 #[test]
 fn places(rt: HostRuntime) {
     let text = b"ab\n\ncd".as_slice();
-    for (offset, line, column) in [(0, 1, 1), (2, 1, 3), (3, 2, 1), (6, 3, 3)] {
-        let place = place_at(text, offset);
-        assert!(rt; place.line == line && place.column == column, "at {offset}");
-    }
+    let found = [0, 2, 3, 6].map(|offset| place_at(text, offset));
+    let wanted = [(1, 1), (1, 3), (2, 1), (3, 3)].map(|(line, column)| Place { line, column });
+    assert!(rt; found == wanted);
 }
 
 const HERE: Place = Place { line: 3, column: 2 };
@@ -96,21 +95,15 @@ static TYPE_FAULTS: [(TypeFault, u32); 12] = [
 
 #[test]
 fn numbers_and_places_of_faults(rt: HostRuntime) {
-    for (fault, number) in SYNTAX_FAULTS.iter() {
+    let of_syntax = SYNTAX_FAULTS.iter().all(|(fault, number)| {
         let wanted = if *number < 7 { Some(HERE) } else { None };
-        assert!(rt;
-            fault.number() == *number && fault.place() == wanted,
-            "{number}"
-        );
-    }
-    for (fault, number) in TYPE_FAULTS.iter() {
+        fault.number() == *number && fault.place() == wanted
+    });
+    let of_types = TYPE_FAULTS.iter().all(|(fault, number)| {
         let wanted = if *number < 40 { Some(HERE) } else { None };
-        assert!(rt;
-            fault.number() == *number && fault.place() == wanted,
-            "{number}"
-        );
-    }
-    assert!(rt; MeaningFault::OutOfMemory.number() == 40);
+        fault.number() == *number && fault.place() == wanted
+    });
+    assert!(rt; of_syntax && of_types && MeaningFault::OutOfMemory.number() == 40);
 }
 
 /// Whether this is the tree of `unsigned f(int i){return -i;}`.

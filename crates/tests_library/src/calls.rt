@@ -8,6 +8,8 @@ use std::alloc::Global;
 use std::test::Fail;
 use tests_texts::streams::Refuses;
 
+static PAIR: [u32; 2] = [3, 4];
+
 fn library(alloc: Global) -> Result<MemoryDisk, Fail> {
     let mut commands = Vec::new(alloc);
     commands.push(add(b"sum", unit(alloc, b"", &SUM, None)?)?)?;
@@ -51,12 +53,12 @@ fn answers_and_counts(rt: HostRuntime) -> Result<(), Fail> {
     for (name, words, steps, text) in [
         (
             b"sum".as_slice(),
-            [3u32, 4].as_slice(),
+            PAIR.as_slice(),
             1000u64,
             b"7\nexited 0\nexecuted 10\n".as_slice(),
         ),
-        (b"sum", &[3, 4], 10, b"7\nexited 0\nexecuted 10\n"),
-        (b"sum", &[3, 4], 9, b"7\ngoing\nexecuted 9\n"),
+        (b"sum", &PAIR, 10, b"7\nexited 0\nexecuted 10\n"),
+        (b"sum", &PAIR, 9, b"7\ngoing\nexecuted 9\n"),
         (b"sum", &[], 6, b"going\nexecuted 6\n"),
         (b"sum", &[], 0, b"going\nexecuted 0\n"),
         (b"loop", &[], 70_000, b"going\nexecuted 70000\n"),
@@ -65,7 +67,7 @@ fn answers_and_counts(rt: HostRuntime) -> Result<(), Fail> {
     ] {
         assert!(rt; called(alloc, name, words, steps, true)?.0.as_slice() == text);
     }
-    let plain = called(alloc, b"sum", &[3, 4], 1000, false)?;
+    let plain = called(alloc, b"sum", &PAIR, 1000, false)?;
     assert!(rt; plain.0.as_slice() == b"7\nexited 0\n".as_slice());
     Ok(())
 }

@@ -23,6 +23,9 @@ fn three(alloc: Global) -> Result<UnitMap, Fail> {
 
 // How many lines there are between a map and its copy in areas of so many bytes, or the number of the refusal.
 fn copied(alloc: Global, units: &UnitMap, area: u32) -> Result<Result<usize, u32>, Fail> {
+    if area < 64 || area > 1_073_741_824 {
+        return Err(Fail::from("no area has so many bytes"));
+    }
     let (answer, disk) = copy_units(alloc, units, blank(alloc, 1024)?, area);
     if let Err(fault) = answer {
         drop(disk);
@@ -38,18 +41,15 @@ fn copied(alloc: Global, units: &UnitMap, area: u32) -> Result<Result<usize, u32
     Ok(Ok(count))
 }
 
-// The bodies take 86, 24 and 27 bytes, each with 5 more, and the last gate one.
+// The bodies take 75, 21 and 24 bytes, each with 5 more, and the last gate one: 136.
 #[test]
 fn all_units_to_the_byte(rt: HostRuntime) -> Result<(), Fail> {
     let alloc = rt.alloc();
     let units = three(alloc)?;
     assert!(rt; copied(alloc, &units, 1024)? == Ok(0));
-    let Some(least) = least_area(&units) else {
-        return Err(Fail::from("three units have room"));
-    };
-    let least = least as u32;
-    assert!(rt; copied(alloc, &units, least)? == Ok(0));
-    assert!(rt; copied(alloc, &units, least - 1)? == Err(34));
+    assert!(rt; least_area(&units) == Some(136));
+    assert!(rt; copied(alloc, &units, 136)? == Ok(0));
+    assert!(rt; copied(alloc, &units, 135)? == Err(34));
     assert!(rt; copied(alloc, &units, 1025)? == Err(34));
     Ok(())
 }

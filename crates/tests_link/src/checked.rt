@@ -75,11 +75,10 @@ fn stops(alloc: Global, text: &str, input: &[u32], words: &[i32]) -> Result<bool
         words,
         outcome: MachineOutcome::Going,
     };
-    let right = image_runs(alloc, &unit, run);
-    let checked = is_confirmed(alloc, Mode::Checked, &unit);
-    let plain = is_confirmed(alloc, Mode::Plain, &unit);
-    drop(unit);
-    Ok(right? && checked? && !plain?)
+    let right = image_runs(alloc, &unit, run)?;
+    let checked = is_confirmed(alloc, Mode::Checked, &unit)?;
+    let plain = is_confirmed(alloc, Mode::Plain, &unit)?;
+    Ok(right && checked && !plain)
 }
 
 // Whether an audit in a mode confirms a unit.

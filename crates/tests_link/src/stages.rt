@@ -13,6 +13,7 @@ use std::alloc::{AllocError, Global};
 use std::test::Fail;
 use tests_texts::parts::{Part, text_of};
 use tests_texts::programs::{CRC, FIB, GCD, MATMUL, NEST, REGS, SIEVE, SORT};
+use tests_texts::verdict::{each_passes, passes};
 use tests_texts::worked::LONG;
 
 /// A function with each form of step.
@@ -95,8 +96,8 @@ fn row_text(alloc: Global, function: &str) -> Result<Vec<u8>, AllocError> {
 }
 
 // Whether the stages of the row are these, of all functions (an empty name) or of one.
-fn shows_row(alloc: Global, function: &str) -> Result<bool, Fail> {
-    let wanted = match function {
+fn shows_row(alloc: Global, function: &&'static str) -> Result<bool, Fail> {
+    let wanted = match *function {
         "" => None,
         name => Some(name.as_bytes()),
     };
@@ -110,11 +111,7 @@ fn shows_row(alloc: Global, function: &str) -> Result<bool, Fail> {
 
 #[test]
 fn texts_of_the_row(rt: HostRuntime) -> Result<(), Fail> {
-    for function in ["", "f", "main"] {
-        let right = shows_row(rt.alloc(), function)?;
-        assert!(rt; right, "{function}");
-    }
-    Ok(())
+    each_passes(rt.alloc(), &["", "f", "main"], shows_row)
 }
 
 #[test]
@@ -123,8 +120,7 @@ fn each_form_of_step(rt: HostRuntime) -> Result<(), Fail> {
     let text = str::from_utf8(found.text.as_slice())?;
     let right = found.number == 0 && text.contains(FORMS_SELECTED);
     drop(found);
-    assert!(rt; right);
-    Ok(())
+    passes(Ok(right))
 }
 
 // The labels of a stage: those that its code leads to, and those that stand.
@@ -188,16 +184,17 @@ fn stages_lacking_labels(alloc: Global, text: &str) -> Result<(usize, usize), Fa
     Ok((count, lacking))
 }
 
+fn all_labels_stand(alloc: Global, program: &&'static str) -> Result<bool, Fail> {
+    let found = shown(alloc, program.as_bytes(), None)?;
+    let text = str::from_utf8(found.text.as_slice())?;
+    let (count, lacking) = stages_lacking_labels(alloc, text)?;
+    drop(found);
+    Ok(count >= 7 && count % 7 == 0 && lacking == 0)
+}
+
 #[test]
 fn labels_stand(rt: HostRuntime) -> Result<(), Fail> {
-    for program in PROGRAMS.iter() {
-        let found = shown(rt.alloc(), program.as_bytes(), None)?;
-        let text = str::from_utf8(found.text.as_slice())?;
-        let (count, lacking) = stages_lacking_labels(rt.alloc(), text)?;
-        drop(found);
-        assert!(rt; count >= 7 && count % 7 == 0 && lacking == 0, "{program}");
-    }
-    Ok(())
+    each_passes(rt.alloc(), PROGRAMS.as_slice(), all_labels_stand)
 }
 
 // The lines of code in the stages of a text.
@@ -230,7 +227,7 @@ fn behind_start(listing: &[u8]) -> &[u8] {
 }
 
 // Whether the code in the stages of a program is its image's listing.
-fn code_is_listing(alloc: Global, program: &str) -> Result<bool, Fail> {
+fn code_is_listing(alloc: Global, program: &&'static str) -> Result<bool, Fail> {
     let found = shown(alloc, program.as_bytes(), None)?;
     let lines = code_lines(alloc, str::from_utf8(found.text.as_slice())?)?;
     let unit = compile(alloc, program.as_bytes())?;
@@ -246,22 +243,20 @@ fn code_is_listing(alloc: Global, program: &str) -> Result<bool, Fail> {
 
 #[test]
 fn all_code_is_the_listing(rt: HostRuntime) -> Result<(), Fail> {
-    for program in PROGRAMS.iter() {
-        let right = code_is_listing(rt.alloc(), program)?;
-        assert!(rt; right, "{program}");
-    }
-    Ok(())
+    each_passes(rt.alloc(), PROGRAMS.as_slice(), code_is_listing)
+}
+
+fn is_unknown(alloc: Global, name: &&'static str) -> Result<bool, Fail> {
+    let found = shown(alloc, LONG.as_bytes(), Some(name.as_bytes()))?;
+    let right = found.number == 59 && found.text.is_empty();
+    drop(found);
+    Ok(right)
 }
 
 #[test]
 fn unknown_names(rt: HostRuntime) -> Result<(), Fail> {
-    for name in ["g", "", "mai", "main1", "write_word", "x"] {
-        let found = shown(rt.alloc(), LONG.as_bytes(), Some(name.as_bytes()))?;
-        let right = found.number == 59 && found.text.is_empty();
-        drop(found);
-        assert!(rt; right, "{name}");
-    }
-    Ok(())
+    let names = ["g", "", "mai", "main1", "write_word", "x"];
+    each_passes(rt.alloc(), &names, is_unknown)
 }
 
 /// The parts of a text whose `main` would have more than 4,096 nodes.
@@ -286,11 +281,9 @@ fn ends_large(alloc: Global, function: Option<&[u8]>, end: &str) -> Result<bool,
 fn a_function_with_too_many_nodes(rt: HostRuntime) -> Result<(), Fail> {
     let refused = "  v0 = 0\n== main: RTL\nrefused: more than 4096 nodes\n";
     let other = "  return\n== f: code\nnone: the program has no image\n";
-    let all = ends_large(rt.alloc(), None, refused)?;
-    let alone = ends_large(rt.alloc(), Some(b"main"), refused)?;
-    let another = ends_large(rt.alloc(), Some(b"f"), other)?;
-    assert!(rt; all && alone && another);
-    Ok(())
+    passes(ends_large(rt.alloc(), None, refused))?;
+    passes(ends_large(rt.alloc(), Some(b"main"), refused))?;
+    passes(ends_large(rt.alloc(), Some(b"f"), other))
 }
 
 #[test]
@@ -302,6 +295,5 @@ fn a_writer_that_fails(rt: HostRuntime) -> Result<(), Fail> {
     let right = matches!(told, Err(StagesFault::Write));
     drop(told);
     drop(unit);
-    assert!(rt; right);
-    Ok(())
+    passes(Ok(right))
 }

@@ -108,7 +108,7 @@ static CHECKED: [(&[(&str, &str)], &str, &str); 6] = [
             ("B\n.c", "int main(void){\n return c;\n}"),
         ],
         "fault 11 Unknown at 1:21\n",
-        "A.c:1:21: 'b' is not declared: did you mean 'a'?\n    1 | int f(int a){return b;}\n      |                     ^\nB?.c:2:9: 'c' is not declared\n    2 |  return c;\n      |         ^\n",
+        "A.c:1:21: 'b' is not declared\n    1 | int f(int a){return b;}\n      |                     ^\nB?.c:2:9: 'c' is not declared\n    2 |  return c;\n      |         ^\n",
     ),
     (
         &[
@@ -116,7 +116,7 @@ static CHECKED: [(&[(&str, &str)], &str, &str); 6] = [
             ("-", "int f(void);\nint main(void){}\n"),
         ],
         "fault 12 Redeclared at 2:5\n",
-        "-:1:5: 'f' is declared otherwise at A.c:1:5\n    1 | int f(void);\n      |     ^\n",
+        "-:1:5: 'f' is declared otherwise at A.c:1:5\n    1 | int f(void);\n      |     ^\nA.c:1:5: note: the first declaration\n    1 | int f(int a);\n      |     ^\n",
     ),
     (
         &[("A.c", "int main(void)"), ("B.c", "{return 1;")],

@@ -7,7 +7,7 @@ use cc_types::TypedUnit;
 use std::alloc::{AllocError, Global};
 use std::sync::Arc;
 use std::test::Fail;
-use tests_texts::stages::{Stage, first_unlike};
+use tests_texts::stages::{Stage, shows_all};
 
 // Whether the function with this number goes through, and the pair names it.
 fn goes_through(alloc: Global, unit: &Arc<TypedUnit>, function: usize) -> Result<bool, Fail> {
@@ -181,9 +181,5 @@ static SHOWN: [(&str, usize, &str); 5] = [
 
 #[test]
 fn texts_of_functions(rt: HostRuntime) -> Result<(), Fail> {
-    assert_eq!(rt;
-        first_unlike::<GuardedStage>(rt.alloc(), SHOWN.as_slice())?,
-        None
-    );
-    Ok(())
+    shows_all::<GuardedStage>(rt.alloc(), SHOWN.as_slice())
 }

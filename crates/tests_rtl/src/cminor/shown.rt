@@ -2,7 +2,7 @@
 
 use super::helpers::CminorStage;
 use std::test::Fail;
-use tests_texts::stages::first_unlike;
+use tests_texts::stages::shows_all;
 
 /// A text, the number of a function, and the text of its Cminor.
 static SHOWN: [(&str, usize, &str); 13] = [
@@ -223,9 +223,5 @@ static SHOWN: [(&str, usize, &str); 13] = [
 
 #[test]
 fn texts_of_functions(rt: HostRuntime) -> Result<(), Fail> {
-    assert_eq!(rt;
-        first_unlike::<CminorStage>(rt.alloc(), SHOWN.as_slice())?,
-        None
-    );
-    Ok(())
+    shows_all::<CminorStage>(rt.alloc(), SHOWN.as_slice())
 }

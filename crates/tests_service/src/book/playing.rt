@@ -18,6 +18,7 @@ use std::sync::Wait;
 use std::sync::ledger::{Blank, Share};
 use std::test::Fail;
 use std::thread::Threads;
+use tests_texts::lists::both;
 
 /// What has been answered so far.
 #[derive(Clone, Copy)]
@@ -205,9 +206,7 @@ fn ended<N: Named, D: Disk + Drop>(
     requires parts { rest.parts + 2 ≡ N.parts }
     requires amount { rest.amount ≡ 0 }
 {
-    let mut clients = Vec::new(alloc);
-    clients.push(one)?;
-    clients.push(other)?;
+    let clients = both(alloc, one, other)?;
     match close(alloc, book, 2, rest, clients) {
         Ok(closed) => if closed.history.len() == state.entries && closed.receipts.len() == 2 {
             Ok(Played {
@@ -224,7 +223,31 @@ fn ended<N: Named, D: Disk + Drop>(
     }
 }
 
-// Plays the calls on a book over the disk, each by the first client or the other one, and ends the book with both.
+// The state after all calls, each by the first client or the other one.
+fn stepped<N: Named, D: Disk>(
+    alloc: Global,
+    book: &mut Book<N, D>,
+    one: &mut Client<N>,
+    other: &mut Client<N>,
+    calls: &[(bool, Call)],
+) -> Result<State, Fail> {
+    let mut state = State {
+        model: EMPTY,
+        failed: None,
+        with: EMPTY,
+        entries: 0,
+    };
+    for (place, (first, call)) in calls.iter().enumerate() {
+        state = if *first {
+            step(alloc, book, one, &state, place, *call)?
+        } else {
+            step(alloc, book, other, &state, place, *call)?
+        };
+    }
+    Ok(state)
+}
+
+// Plays the calls on a book over the disk, and ends the book with both clients.
 fn run<N, D, R>(
     rt: &R,
     alloc: Global,
@@ -258,16 +281,7 @@ where
     };
     let mut one = Client::new(alloc, 1, rest.split_off(1, 0), pool.pass(rt));
     let mut other = Client::new(alloc, 2, rest.split_off(1, 0), pool.pass(rt));
-    let mut state = State {
-        model: EMPTY,
-        failed: None,
-        with: EMPTY,
-        entries: 0,
-    };
-    for (place, (first, call)) in calls.iter().enumerate() {
-        let client = if *first { &mut one } else { &mut other };
-        state = step(alloc, &mut book, client, &state, place, *call)?;
-    }
+    let state = stepped(alloc, &mut book, &mut one, &mut other, calls)?;
     // It answers 41, since the clients have its passes.
     drop(pool.finish(rt, Vec::new(alloc)));
     ended(alloc, book, rest, one, other, state)

@@ -1,22 +1,22 @@
 #!/usr/bin/env python3
-"""Which definitions a public contract rests on, and whether each stands in the room where a reader looks for it.
+"""Which definitions a public contract rests on, and whether each is in the room in which a reader looks for it.
 
-    bench/rooms.py                              of every crate: definitions directly in specs/ on which no public contract rests and
-                                                no type's model, definitions of specs/internal/ on which a contract or a public
-                                                type's model does, contracts that rest on what stands in proofs/, clauses of more
-                                                than 100 characters that stand word for word in more than three contracts of the
-                                                product, and names in the crates' READMEs and eight documents that nothing has any more
-    bench/rooms.py CRATE FUNCTION [CLAUSE..]    what that function's contract rests on, or these clauses of it: the pages in
-                                                reading order, with how many of their lines, and how many lines in all
+    tools/rules/rooms.py CRATE FUNCTION [CLAUSE..]    what that function's contract rests on, or these clauses of it: the pages in
+                                                      reading order, with how many of their lines, and how many lines in all
+
+As rules: definitions directly in specs/ on which no public contract rests and no type's model; definitions of specs/internal/ on which a
+contract or a public type's model does; contracts that rest on something of proofs/; clauses of more than 100 characters that are word for
+word in more than three contracts of the product; names in the crates' READMEs and eight documents that nothing has any more.
 
 It reads the text alone: names in clauses, followed through the `use` lines of the pages. What a Rust type is (`declared`)
-counts as code, and std's words are taken as known. Its status is 1 where it finds something misplaced or a name that nothing has."""
+counts as code, and std's words are taken as known."""
+import functools
 import glob
 import os
 import re
 import sys
 
-TOP = os.path.dirname(os.path.dirname(os.path.abspath(__file__)))
+TOP = os.path.dirname(os.path.dirname(os.path.dirname(os.path.abspath(__file__))))
 WORD = re.compile(r"[^\s(){}\[\],;⟨⟩⟦⟧\"]+")
 DECLARATION = re.compile(r"(?:abbrev |opaque |unfoldable |pub |data |record )+([^\s(){}:]+)|([^\s(){}:=]+) : ")
 USE = re.compile(r"use (Rattle\.(\w+)\.specs\.[\w.]+?)(?:\.\{([^}]*)\}| as (\w+))(?: as (\w+))?[;\s]")
@@ -254,36 +254,45 @@ def repeated_clauses():
     return {text: found for text, found in places.items() if len(found) > MOST}
 
 
-def check(repository):
-    wrong, used, kept, seen = 0, set(), set(), set()
+@functools.cache
+def read_all():
+    """Returns the repository, and of its definitions those on which public contracts rest, public types' models, and types too."""
+    repository, used, seen, kept = Repository(), set(), set(), set()
     for crate in repository.crates:
         used |= repository.rests_on(repository.contracts(crate))
         seen |= repository.rests_on(repository.contracts(crate, views=True))
         kept |= repository.rests_on(repository.contracts(crate, types=True))
+    return repository, used, seen, kept
+
+
+def rooms():
+    """A definition directly in specs/ is one on which a public contract or a type's model rests; one of specs/internal/ or specs/rows/ is none."""
+    repository, used, seen, kept = read_all()
+    wrong = []
     for crate in repository.crates:
         for name, page in repository.pages[crate].items():
             is_apart = name.startswith(("internal.", "rows."))
             for item in page.items:
                 it = (crate, name, item)
-                told = None
                 if is_apart and it in used:
-                    told = "a public contract rests on it"
+                    wrong.append(f"{page.where()}: {item}: a public contract rests on it")
                 elif is_apart and it in seen:
-                    told = "the model of a public type rests on it"
+                    wrong.append(f"{page.where()}: {item}: the model of a public type rests on it")
                 elif not is_apart and it not in kept:
-                    told = "no public contract rests on it"
-                if told:
-                    wrong += 1
-                    print(f"{page.where()}: {item}: {told}")
-    for it, page in repository.taken_from_proofs(used):
-        wrong += 1
-        print(f"{repository.pages[it[0]][it[1]].where()}: {it[2]}: a public contract rests on it, and it takes from {page}")
-    print(f"{wrong} definitions in another room than their readers look for")
-    repeated = repeated_clauses()
-    for text, found in repeated.items():
-        print(f"{len(found)} contracts repeat: {text}\n    {' '.join(found)}")
-    print(f"{len(repeated)} clauses of more than {LONGEST} characters stand in more than {MOST} contracts")
-    return 1 if wrong or repeated else 0
+                    wrong.append(f"{page.where()}: {item}: no public contract rests on it")
+    return wrong
+
+
+def of_proofs():
+    """No public contract rests on a definition that takes something from proofs/."""
+    repository, used, _, _ = read_all()
+    taken = repository.taken_from_proofs(used)
+    return [f"{repository.pages[it[0]][it[1]].where()}: {it[2]}: a public contract rests on it, and it takes from {page}" for it, page in taken]
+
+
+def repetitions():
+    """No clause of more than 100 characters is word for word in more than three contracts of the product."""
+    return [f"{len(found)} contracts repeat: {text}\n    {' '.join(found)}" for text, found in repeated_clauses().items()]
 
 
 def words_of_sources():
@@ -299,7 +308,7 @@ def words_of_sources():
     return found
 
 
-def clauses_of(crate):
+def clause_names_of(crate):
     """Returns the clauses of a crate's functions, by the function's name."""
     found = {}
     for path in glob.glob(f"{TOP}/crates/{crate}/src/**/*.rt", recursive=True):
@@ -329,7 +338,7 @@ def unknown_in(path, words, pages):
         unknown += [it for it in re.findall(r"(?<![\w*])[A-Za-z]\w*(?![\w*])", quoted) if it not in words and not it.endswith("_")]
     for name, there in PAGES.findall(text):
         unknown += [f"{name}: {it}" for it in re.findall(r"\w+", there) if it not in pages.get(name, ())]
-    clauses = clauses_of(crate)
+    clauses = clause_names_of(crate)
     for calls, cited in CITED.findall(text):
         names = [it.rpartition(":")[2] for it in QUOTED.findall(calls)]
         have = set().union(*(clauses.get(it, set()) for it in names))
@@ -338,18 +347,17 @@ def unknown_in(path, words, pages):
     return unknown
 
 
-def check_documents(repository):
-    wrong, words = 0, words_of_sources()
+def documents():
+    """What the crates' READMEs and eight documents name in backquotes is there: files, words, clauses of calls, pages of crates."""
+    repository, words, wrong = read_all()[0], words_of_sources(), []
     pages = [f"{TOP}/docs/{it}.md" for it in ("ARCHITECTURE", "DECISIONS", "DEVELOPING", "FIT", "PROOFS", "THREADS")]
     pages += [f"{TOP}/CHANGELOG.md", f"{TOP}/CONTRIBUTING.md"]
     for path in [*sorted(glob.glob(f"{TOP}/crates/*/README.md")), *pages]:
-        for it in unknown_in(path, words, repository.pages):
-            wrong += 1
-            print(f"{os.path.relpath(path, TOP)}: {it} is not there")
-    print(f"{wrong} names in documents that nothing has")
-    return 1 if wrong else 0
+        wrong += [f"{os.path.relpath(path, TOP)}: {it} is not there" for it in unknown_in(path, words, repository.pages)]
+    return wrong
 
 
 if __name__ == "__main__":
-    every = Repository()
-    sys.exit(show(every, *sys.argv[1:]) if len(sys.argv) > 2 else check(every) | check_documents(every))
+    if len(sys.argv) < 3:
+        sys.exit("tools/rules/rooms.py CRATE FUNCTION [CLAUSE..]")
+    sys.exit(show(Repository(), *sys.argv[1:]))

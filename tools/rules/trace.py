@@ -1,16 +1,15 @@
 #!/usr/bin/env python3
-"""Sees that the clauses, tests and wrong bodies that documents name are in the sources.
+"""Whether the clauses, tests and wrong bodies that documents name are in the sources.
 
-    bench/trace.py           of docs/TRACE.md each row, and of all pages what they cite as `call` of `crate` (`clause`): says what is not
-                             there, and ends with 1 if anything is not
-    bench/trace.py --left    which wrong bodies and test modules no row of docs/TRACE.md names
+    tools/rules/trace.py --left    which wrong bodies and test modules no row of docs/TRACE.md names
 
-Each promise of README.md has a number, and docs/TRACE.md a row for each number. A row without a clause says `tested only` or `argued only`."""
+As a rule: of docs/TRACE.md each row, and of all pages what they cite as `call` of `crate` (`clause`). Each promise of README.md has a number,
+and docs/TRACE.md a row for each number. A row without a clause says `tested only` or `argued only`."""
 import pathlib
 import re
 import sys
 
-TOP = pathlib.Path(__file__).resolve().parent.parent
+TOP = pathlib.Path(__file__).resolve().parent.parent.parent
 CRATES = TOP / "crates"
 CITED = re.compile(r"`([\w:]+)` of `(cc_\w+)`(?: \(((?:`\w+`(?:, )?)+)\))?")
 NAMED = re.compile(r"`(\w+)`: ((?:`[\w/]+`(?:, )?)+)")
@@ -38,26 +37,31 @@ def not_cited(text, known):
     for call, crate, clauses in CITED.findall(text):
         if crate not in known:
             known[crate] = clauses_of(crate) if (CRATES / crate).is_dir() else {}
-        have, name = known[crate].get(call.rpartition(":")[2]), call.rpartition(":")[2]
-        if have is None:
-            # A definition or a type, of which no clause is asked.
-            if clauses or not any(re.search(rf"\b{name}\b", it.read_text()) for it in (CRATES / crate).rglob("*.[ra][tn]*") if it.is_file()):
-                yield f"`{call}` of `{crate}`"
-        else:
-            yield from (f"`{call}` of `{crate}` (`{it}`)" for it in QUOTED.findall(clauses) if it not in have)
+        name = call.rpartition(":")[2]
+        if name in known[crate]:
+            yield from (f"`{call}` of `{crate}` (`{it}`)" for it in QUOTED.findall(clauses) if it not in known[crate][name])
+        elif clauses or not is_word_of(crate, name):
+            yield f"`{call}` of `{crate}`"
+
+
+def is_word_of(crate, name):
+    """Returns whether a crate's code or pages have that name, as a type or a definition, of which no clause is asked."""
+    files = [*(CRATES / crate / "src").rglob("*.rt"), *(CRATES / crate / "specs").rglob("*.antt")]
+    return any(re.search(rf"\b{name}\b", it.read_text()) for it in files)
 
 
 def rows():
+    """Returns the rows of the first table of docs/TRACE.md, each as its cells."""
     text = (TOP / "docs" / "TRACE.md").read_text()
     table = re.search(r"^\| \| Promise .*\n\|[-|]*\n((?:\|.*\n)+)", text, re.M)
     return [[cell.strip() for cell in row[1:-1].split("|")] for row in table[1].strip().split("\n")]
 
 
-def not_in_row(row, known):
+def not_in_row(row):
     """Yields what a row of docs/TRACE.md names that is not there."""
     _, promise, clause, tests, edits = row
     if not CITED.search(clause) and not clause.startswith(WITHOUT):
-        yield f"{promise}: no clause"
+        yield f"a clause of '{promise}'"
     for crate, modules in NAMED.findall(tests):
         yield from (f"{crate}: `{it}`" for it in QUOTED.findall(modules) if not (CRATES / crate / "src" / f"{it}.rt").is_file())
     yield from (it for it in re.findall(r"`(bench/[\w.]+)`", tests) if not (TOP / it).is_file())
@@ -71,34 +75,30 @@ def promised():
     return set(re.findall(r"^(\d+)\. ", text, re.M))
 
 
-def left(table):
-    named = {(crate, it) for row in table for cell in row[3:] for crate, names in NAMED.findall(cell) for it in QUOTED.findall(names)}
-    for path in sorted(CRATES.glob("*/must-fail/*.edit")):
-        if (path.parts[-3], path.stem) not in named:
-            print(f"{path.relative_to(TOP)}")
-    for path in sorted(CRATES.glob("tests_*/src/**/*.rt")):
-        module = str(path.relative_to(path.parents[len(path.parts) - path.parts.index("src") - 2]).with_suffix(""))
-        if (path.parts[path.parts.index("src") - 1], module) not in named:
-            print(f"{path.relative_to(TOP)}")
-
-
-def main(asked):
+def traced():
+    """Each promise has its row in docs/TRACE.md, and what rows and pages cite is there: clauses, tests, wrong bodies."""
     table, known = rows(), {}
-    if asked == ["--left"]:
-        left(table)
-        return 0
-    wrong = [f"docs/TRACE.md: {it} is not there" for row in table for it in not_in_row(row, known)]
+    wrong = [f"docs/TRACE.md: {it} is not there" for row in table for it in not_in_row(row)]
     for path in sorted([*TOP.glob("*.md"), *(TOP / "docs").glob("*.md")]):
         text = re.sub(r"\s*\n\s*", " ", path.read_text())
         wrong += [f"{path.relative_to(TOP)}: {it} is not there" for it in not_cited(text, known)]
     numbers = {row[0] for row in table if row[0]}
     wrong += [f"docs/TRACE.md: promise {it} of README.md has no row" for it in sorted(promised() - numbers)]
-    wrong += [f"docs/TRACE.md: README.md has no promise {it}" for it in sorted(numbers - promised())]
-    for it in wrong:
-        print(it)
-    print(f"{len(table)} promises traced, {len(wrong)} names that nothing has")
-    return 1 if wrong else 0
+    return wrong + [f"docs/TRACE.md: README.md has no promise {it}" for it in sorted(numbers - promised())]
+
+
+def left():
+    """Prints the wrong bodies and test modules that no row names."""
+    named = {(crate, it) for row in rows() for cell in row[3:] for crate, names in NAMED.findall(cell) for it in QUOTED.findall(names)}
+    for crate in sorted(it for it in CRATES.iterdir() if it.is_dir()):
+        tests = crate.rglob("src/**/*.rt") if crate.name.startswith("tests_") else []
+        files = {str(it.relative_to(crate / "src").with_suffix("")): it for it in tests} | {it.stem: it for it in crate.glob("must-fail/*.edit")}
+        for name, path in sorted(files.items()):
+            if (crate.name, name) not in named:
+                print(path.relative_to(TOP))
 
 
 if __name__ == "__main__":
-    sys.exit(main(sys.argv[1:]))
+    if sys.argv[1:] != ["--left"]:
+        sys.exit("tools/rules/trace.py --left")
+    left()

@@ -5,15 +5,14 @@ A crate uses another where its `src/` names it outside comments, contracts and l
 out. An arrow is left out of the map where a longer way leads to the same crate. A crate's layer is one above the highest of those that it
 uses.
 
-    bench/map.py            compare; says what differs, and ends with 1 where something does
-    bench/map.py --print    write the map
-    bench/map.py --write    put layers and arrows into the rows that the page has, and compare
+    tools/rules/map.py --print    write the map
+    tools/rules/map.py --write    put layers and arrows into the rows that the page has
 """
 import pathlib
 import re
 import sys
 
-TOP = pathlib.Path(__file__).resolve().parent.parent
+TOP = pathlib.Path(__file__).resolve().parent.parent.parent
 PAGE = TOP / "docs" / "ARCHITECTURE.md"
 ROW = re.compile(r"^\| (\d*) ?\| `(cc\w+)` \| ((?:`\w+` ?)*)\| ", re.M)
 MOST_ARROWS = 7  # cc_link, where the passes, the front end and the unit meet
@@ -55,34 +54,40 @@ def layer(crate, uses):
     return 1 + max((layer(other, uses) for other in uses[crate]), default=0)
 
 
-def main(asked):
+def computed():
+    """Returns each crate's layer, its arrows, and what its row of the page has to say."""
     names = product()
     uses = {crate: used(crate, set(names)) for crate in names}
     arrows, level = reduced(uses), {crate: layer(crate, uses) for crate in names}
-    wanted = {
-        crate: (str(level[crate]), " ".join(f"`{it}`" for it in sorted(arrows[crate], key=lambda it: (-level[it], it)))) for crate in names
-    }
+    rows = {crate: (str(level[crate]), " ".join(f"`{it}`" for it in sorted(arrows[crate], key=lambda it: (-level[it], it)))) for crate in names}
+    return level, arrows, rows
+
+
+def drawn_map():
+    """The table "The map of the crates" of docs/ARCHITECTURE.md has each crate's layer and arrows, and no crate has more than 7 arrows."""
+    _, arrows, rows = computed()
+    drawn = {crate: (number, there.strip()) for number, crate, there in ROW.findall(PAGE.read_text())}
+    wrong = [f"{crate}: layer and arrows are {rows[crate]}" for crate in rows if drawn.get(crate) != rows[crate]]
+    wrong += [f"{crate} is no crate" for crate in drawn if crate not in rows]
+    wrong += [f"{crate}: more than {MOST_ARROWS} arrows" for crate in rows if len(arrows[crate]) > MOST_ARROWS]
+    return [f"docs/ARCHITECTURE.md, the map: {it}" for it in wrong]
+
+
+def main(asked):
+    level, _, rows = computed()
     if asked == ["--print"]:
-        for crate in sorted(names, key=lambda it: (level[it], it)):
-            print(f"{level[crate]:3}  {crate:22}{wanted[crate][1]}".rstrip())
-        return 0
-    page = PAGE.read_text()
-    if asked == ["--write"]:
+        for crate in sorted(rows, key=lambda it: (level[it], it)):
+            print(f"{level[crate]:3}  {crate:22}{rows[crate][1]}".rstrip())
+    elif asked == ["--write"]:
 
         def row(match):
-            number, there = wanted.get(match[2], match.group(1, 3))
+            number, there = rows.get(match[2], match.group(1, 3))
             return f"| {number} | `{match[2]}` | {there.strip() + ' ' if there else ''}| "
 
-        page = ROW.sub(row, page)
-        PAGE.write_text(page)
-    drawn = {crate: (number, there.strip()) for number, crate, there in ROW.findall(page)}
-    wrong = [f"{crate}: layer and arrows are {wanted[crate]}" for crate in names if drawn.get(crate) != wanted[crate]]
-    wrong += [f"{crate} is no crate" for crate in drawn if crate not in wanted]
-    wrong += [f"{crate}: {len(arrows[crate])} arrows" for crate in names if len(arrows[crate]) > MOST_ARROWS]
-    for it in wrong:
-        print(f"docs/ARCHITECTURE.md, the map: {it}")
-    print(f"{len(names)} crates in {max(level.values())} layers, {len(wrong)} wrong in the map")
-    return 1 if wrong else 0
+        PAGE.write_text(ROW.sub(row, PAGE.read_text()))
+    else:
+        return "tools/rules/map.py --print, or --write"
+    return 0
 
 
 if __name__ == "__main__":

@@ -1,8 +1,8 @@
 #!/usr/bin/env python3
 """What a power cut leaves of a server's library: everything that was answered until then, by images.
 
-handed.py [--program PROGRAM] [SCRIPTS] [SEED] [FOLDER]: a server under 16 submitters, of which each sends SCRIPTS scripts (12), one behind
-the other, with changes of units of its own; handed.c records each call that changes or settles the library's file, and each answer at the
+answered_cuts.py [--program PROGRAM] [SCRIPTS] [SEED] [FOLDER]: a server under 16 submitters, of which each sends SCRIPTS scripts (12), one behind
+the other, with changes of units of its own; answered_cuts.c records each call that changes or settles the library's file, and each answer at the
 moment at which it is handed over, before a client can read it. Then the power is cut behind each call and within each write: of what was
 not synced all is lost, all kept, all zeros, a piece of it kept from either end, or each byte one of these or any other (docs/DISK.md). Each
 image is read here, by docs/FORMATS.md alone. Of each submitter it has to have the units that its scripts make up to some command, and that
@@ -73,8 +73,8 @@ def submit_all(place, owner, count, seed, told):
 
 def record(place, count, seed):
     """A server under submitters: the recorded calls, and each submitter's scripts with their answers."""
-    library, calls = f"{place.work}/handed.so", f"{place.work}/calls"
-    subprocess.run(["gcc", "-O1", "-shared", "-fPIC", "-o", library, os.path.join(serve.HERE, "handed.c"), "-ldl"], check=True)
+    library, calls = f"{place.work}/answered_cuts.so", f"{place.work}/calls"
+    subprocess.run(["gcc", "-O1", "-shared", "-fPIC", "-o", library, os.path.join(serve.HERE, "answered_cuts.c"), "-ldl"], check=True)
     place.library("", "--format", str(AREA))
     with open(place.disk, "rb") as file:
         first = file.read()
@@ -248,7 +248,7 @@ def main():
         submitters = {owner: Submitter(scripts) for owner, scripts in told.items()}
         tried, opened = cut(place, first, calls, submitters, random.Random(seed))
     except serve.Wrong as wrong:
-        sys.exit(f"handed.py: {wrong}")
+        sys.exit(f"answered_cuts.py: {wrong}")
     finally:
         shutil.rmtree(place.work)
     kinds = collections.Counter(it[0] for it in calls)
