@@ -16,7 +16,9 @@ sys.dont_write_bytecode = True
 import edits  # noqa: E402
 import lists  # noqa: E402
 import map as drawn  # noqa: E402
+import pictures  # noqa: E402
 import rooms  # noqa: E402
+import trace  # noqa: E402
 
 TOP = os.path.dirname(os.path.dirname(os.path.dirname(os.path.abspath(__file__))))
 RULES = {
@@ -35,6 +37,8 @@ RULES = {
         lists.from_help,
         lists.example,
         lists.costs,
+        pictures.pictures,
+        trace.traced,
     )
 }
 
@@ -99,6 +103,16 @@ def plants():
         ("from_help", changed("README.md", ("| Command | What it does |\n", "| Command | What it does |\n| planted | |\n")), "README.md"),
         ("costs", changed("docs/GATE.md", ("|   52 |", "|   53 |")), "docs/GATE.md"),
         ("example", changed("docs/SERVICE.md", ("```rust\n", "```rust\n// Planted.\n")), "docs/SERVICE.md"),
+        ("pictures", changed("docs/pictures/passes.svg", ("<svg ", "<svg  ")), "docs/pictures/passes.svg is not what"),
+        ("pictures", changed("docs/FORMATS.md", ("torn or not, a gate", "planted, a gate")), "docs/pictures/commit.png is not what"),
+        ("pictures", changed("docs/ARCHITECTURE.md", ("| .. `drop_faint` |", "| .. `planted` |")), "has the step 'planted'"),
+        ("pictures", changed("crates/cc_select/specs/Pair.antt", ("pub KeepsUp", "pub Planted")), "does not define KeepsUp"),
+        ("pictures", changed("crates/cc_journal/src/log.rt", ("ensures moments", "ensures planted")), "append has no clause moments"),
+        ("traced", changed("docs/TRACE.md", ("(`sized`)", "(`planted`)")), "`size_in` of `cc_size` (`planted`) is not there"),
+        ("traced", changed("docs/TRACE.md", ("`tests_link`: `checked`", "`tests_link`: `planted`")), "tests_link: `planted` is not there"),
+        ("traced", changed("docs/TRACE.md", ("`cc_log`: `a_log", "`cc_log`: `planted_a_log")), "cc_log: `planted_a_log"),
+        ("traced", changed("docs/FIT.md", ("`run_counted` of", "`planted` of")), "docs/FIT.md: `planted` of `cc_runs` is not there"),
+        ("traced", changed("README.md", ("\n4. ", "\n5. ")), "README.md has no promise 4"),
     ]
 
 

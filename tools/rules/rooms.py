@@ -6,7 +6,7 @@
 
 As rules: definitions directly in specs/ on which no public contract rests and no type's model; definitions of specs/internal/ on which a
 contract or a public type's model does; contracts that rest on something of proofs/; clauses of more than 100 characters that are word for
-word in more than three contracts of the product; names in the crates' READMEs and five documents that nothing has any more.
+word in more than three contracts of the product; names in the crates' READMEs and eight documents that nothing has any more.
 
 It reads the text alone: names in clauses, followed through the `use` lines of the pages. What a Rust type is (`declared`)
 counts as code, and std's words are taken as known."""
@@ -348,9 +348,10 @@ def unknown_in(path, words, pages):
 
 
 def documents():
-    """What the crates' READMEs and five documents name in backquotes is there: files, words, clauses of calls, pages of crates."""
+    """What the crates' READMEs and eight documents name in backquotes is there: files, words, clauses of calls, pages of crates."""
     repository, words, wrong = read_all()[0], words_of_sources(), []
-    pages = [f"{TOP}/docs/{it}.md" for it in ("ARCHITECTURE", "DECISIONS", "DEVELOPING", "PROOFS", "THREADS")]
+    pages = [f"{TOP}/docs/{it}.md" for it in ("ARCHITECTURE", "DECISIONS", "DEVELOPING", "FIT", "PROOFS", "THREADS")]
+    pages += [f"{TOP}/CHANGELOG.md", f"{TOP}/CONTRIBUTING.md"]
     for path in [*sorted(glob.glob(f"{TOP}/crates/*/README.md")), *pages]:
         wrong += [f"{os.path.relpath(path, TOP)}: {it} is not there" for it in unknown_in(path, words, repository.pages)]
     return wrong
