@@ -115,8 +115,8 @@ pub fn within(
     kept_but(alloc, first, None, limits.as_slice())
 }
 
-// What is known where the ways of an `If` meet.
-fn meet(
+/// What is known where the ways of an `If` meet.
+pub fn meet(
     alloc: Global,
     first: usize,
     s: &Statement,
