@@ -7,9 +7,10 @@ use Rattle.cc_cminor.specs.Code.{expression_of, statement_of, in_sequence}
 use Rattle.cc_cminor.specs.internal.Statements.{statements_of}
 use Rattle.cc_cminor.specs.declared.code.Expression as expression
 use Rattle.cc_cminor.specs.declared.code.Statement as code
-use Rattle.cc_cminor.proofs.Codes.{if_ok, on_ok, statements_push}
+use Rattle.cc_cminor.proofs.Codes.{on_ok, statements_push}
 use Rattle.cc_guard.specs.declared.known.Limit.{Limit}
-use Rattle.std.specs.Prelude.{◌||◌, max}
+use Rattle.std.specs.Prelude.{◌||◌, max, IfOk}
+use Rattle.cc_guard.specs.declared.statements.Done.{Done}
 use Rattle.cc_guard.specs.Guard.{guards_then, guarded, told, with_told, sets, kept, known_after, known_within, code_after, some_guard, guards_after, variables_after}
 use Rattle.cc_guard.specs.internal.Written.{SeesStatement, sizes_of}
 use Rattle.cc_guard.proofs.Writing.{all_code, sequence_code, known_first, sees_first, sees_then, sees_wrote, sees_none, first_wrote, first_value, first_known, written_then, if_is, same_sequence}
@@ -18,7 +19,7 @@ use Rattle.cc_guard.proofs.statements.+statements.Goals as goal
 pub statement-returns-in-Sequence-clause-code : goal.statement-returns-in-Sequence-clause-code
 statement-returns-in-Sequence-clause-code t c =
     let same = same_sequence c.args.s.now c.in-Sequence.all c.as_slice-in-Sequence.result.now c.in-Sequence.is c.as_slice-in-Sequence.ensures.value in
-    if_ok _ _ c.statements.result (λ s h. h ∙ ap (λ (x : cminor.Statement). code_after (sizes_of c.args.sizes.now) c.args.first c.args.known.now c.args.blocks x) same) c.statements.ensures.code
+    subst (λ (x : cminor.Statement). IfOk c.statements.result (λ (d : Done). statement_of d.code.value ≡ code_after (sizes_of c.args.sizes.now) c.args.first c.args.known.now c.args.blocks x)) same c.statements.ensures.code
 
 pub statement-returns-in-Sequence-clause-seen : goal.statement-returns-in-Sequence-clause-seen
 statement-returns-in-Sequence-clause-seen t c =
@@ -28,7 +29,7 @@ statement-returns-in-Sequence-clause-seen t c =
 pub statement-returns-in-Sequence-clause-known : goal.statement-returns-in-Sequence-clause-known
 statement-returns-in-Sequence-clause-known t c =
     let same = same_sequence c.args.s.now c.in-Sequence.all c.as_slice-in-Sequence.result.now c.in-Sequence.is c.as_slice-in-Sequence.ensures.value in
-    if_ok _ _ c.statements.result (λ s h. h ∙ ap (λ (x : cminor.Statement). known_after (sizes_of c.args.sizes.now) c.args.first c.args.known.now x) same) c.statements.ensures.known
+    subst (λ (x : cminor.Statement). IfOk c.statements.result (λ (d : Done). d.known.items ≡ known_after (sizes_of c.args.sizes.now) c.args.first c.args.known.now x)) same c.statements.ensures.known
 
 pub statement-returns-in_ok-code-in-If-clause-code : goal.statement-returns-in_ok-code-in-If-clause-code
 statement-returns-in_ok-code-in-If-clause-code t c =
