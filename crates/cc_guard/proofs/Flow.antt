@@ -327,7 +327,7 @@ module _ (objects : List Size) where
         let before = kept n (unset s) ks in
         let near = narrowed objects n ks s before in
         let gs = found objects n ks s in
-        let held = still_holds (turn objects n ks s near) near l (joined_left before (turn objects n ks s (widened before)) l (yields_kept n (unset s) ks l h)) in
+        let held = still_holds (turn objects n ks s near) near l (joined_left before (turn objects n ks s (widened (turn objects n ks s before) before)) l (yields_kept n (unset s) ks l h)) in
         holds_both (kept n (sets s) ks) (if_again (turn objects n ks s gs) gs) l (yields_kept n (sets s) ks l h) (if_holds (all_again (turn objects n ks s gs) gs) gs l held)
 
     pub head_under : (s : Statement) (ks : List Limit) → LimitsUnder n (head objects n ks s)
@@ -335,7 +335,7 @@ module _ (objects : List Size) where
         let before = kept n (unset s) ks in
         let near = narrowed objects n ks s before in
         let gs = found objects n ks s in
-        let under = still_under n (turn objects n ks s near) near (joined_under n before (turn objects n ks s (widened before)) (kept_under n (unset s) ks)) in
+        let under = still_under n (turn objects n ks s near) near (joined_under n before (turn objects n ks s (widened (turn objects n ks s before) before)) (kept_under n (unset s) ks)) in
         under_both n (kept n (sets s) ks) (if_again (turn objects n ks s gs) gs) (kept_under n (sets s) ks) (if_under n (all_again (turn objects n ks s gs) gs) gs under)
 
     has_head : (s : Statement) (ks : List Limit) (f : Limit) → Has ks f → stays n (sets s) f ≡ true → Has (head objects n ks s) f

@@ -419,10 +419,13 @@ abbrev pub still : (after head : List Limit) → List Limit
 still after [] = []
 still after (k ∷ ks) = kept_if (at_most (most_in after k.variable) k.most) k (still after ks)
 
--- the greatest word that is not negative
-abbrev pub widened : List Limit → List Limit
-widened [] = []
-widened (k ∷ ks) = record { variable = k.variable; most = max k.most (2 ^ 31 - 1) } ∷ widened ks
+-- what grows in a turn is tried as far below 2^31 that sums of it are too
+abbrev pub widened_if : (again : Bool) → Limit → Limit
+widened_if again k = if again then k else record { variable = k.variable; most = max k.most (2 ^ 30) }
+
+abbrev pub widened : (after before : List Limit) → List Limit
+widened after [] = []
+widened after (k ∷ ks) = widened_if (at_most (most_in after k.variable) k.most) k ∷ widened after ks
 
 -- after a turn with these facts of variables that the loop sets
 abbrev pub turn : List Size → (n : ℕ) → List Limit → Statement → (more : List Limit) → List Limit
@@ -430,7 +433,7 @@ turn objects n ks s more = known_after objects n (kept n (sets s) ks ++ more) s
 
 -- what is known before it, and what a turn from there leaves known
 abbrev pub narrowed : List Size → (n : ℕ) → List Limit → Statement → (before : List Limit) → List Limit
-narrowed objects n ks s before = joined before (turn objects n ks s (widened before))
+narrowed objects n ks s before = joined before (turn objects n ks s (widened (turn objects n ks s before) before))
 
 abbrev pub found : List Size → (n : ℕ) → List Limit → Statement → List Limit
 found objects n ks s = still (turn objects n ks s (narrowed objects n ks s (kept n (unset s) ks))) (narrowed objects n ks s (kept n (unset s) ks))

@@ -1,8 +1,8 @@
 // What is known of variables after a statement. Nothing is written: the guards of its expressions are made once more, for what they leave known.
 //
 // Loops are not entered, since the end of a loop is never come to. Of a block nothing is known of what it sets, if an exit leaves just it. What is
-// known at a loop's head is found by turns that are tried: three, so a loop's own statements are walked three times more, for each loop that they
-// are in only the innermost.
+// known at a loop's head is found by four turns, of which the last tries it: so a statement is walked four times more for the innermost loop that it
+// is in, and never for the others.
 
 ghost use Rattle.std.specs.Prelude.{◌≡◌, IfOk};
 ghost use Rattle.cc_cminor.specs.Cminor as cminor;
@@ -115,8 +115,8 @@ pub fn within(
     kept_but(alloc, first, None, limits.as_slice())
 }
 
-// What is known where the ways of an `If` meet.
-fn meet(
+/// What is known where the ways of an `If` meet.
+pub fn meet(
     alloc: Global,
     first: usize,
     s: &Statement,
@@ -244,7 +244,8 @@ fn narrowed(
 ) -> Result<Vec<Limit>, AllocError>
     ensures { IfOk result (λ limits. limits.items ≡ narrowed (sizes_of sizes.now) first known.now (statement_of body.now) before.now) }
 {
-    let wide = widened(alloc, before)?;
+    let turned = turn(alloc, sizes, first, known, before, body)?;
+    let wide = widened(alloc, turned.as_slice(), before)?;
     let turned = turn(alloc, sizes, first, known, wide.as_slice(), body)?;
     joined(alloc, before, turned.as_slice())
 }

@@ -84,15 +84,21 @@ pub fn still(alloc: Global, after: &[Limit], head: &[Limit]) -> Result<Vec<Limit
     Ok(limits)
 }
 
-/// The same variables, each with the greatest word that is not negative, if it had no greater one.
-pub fn widened(alloc: Global, known: &[Limit]) -> Result<Vec<Limit>, AllocError>
-    ensures { IfOk result (λ limits. limits.items ≡ widened known.now) }
+/// What is tried at a loop's head, after a turn with what is known before the loop: what grows is tried far above.
+pub fn widened(alloc: Global, after: &[Limit], before: &[Limit]) -> Result<Vec<Limit>, AllocError>
+    ensures { IfOk result (λ limits. limits.items ≡ widened after.now before.now) }
 {
     let mut limits = Vec::new(alloc);
-    for limit in known {
+    for limit in before {
+        let again = at_most(most_in(after, limit.variable), limit.most);
+        let most = if again {
+            limit.most
+        } else {
+            limit.most.max(1073741824)
+        };
         limits.push(Limit {
             variable: limit.variable,
-            most: limit.most.max(2147483647),
+            most,
         })?;
     }
     Ok(limits)

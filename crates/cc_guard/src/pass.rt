@@ -17,7 +17,7 @@ use crate::constants::constants_fit;
 use crate::fault::GuardFault;
 use crate::guards::{Seen, with_loop};
 use crate::sizes::object_sizes;
-use crate::statements::statement;
+use crate::statements::{Done, statement};
 use cc_c_laws::{Mode, calls_keep_objects};
 use cc_cminor::{CminorPair, Statement, variables_above};
 use cc_types::TypedUnit;
@@ -40,7 +40,9 @@ fn guarded_body(
     let code = pair.code();
     let first = variables_above(0, code) as usize;
     let made = statement(alloc, sizes.as_slice(), first, 0, seen, &[], code)?;
-    Ok(made)
+    let Done { code, known } = made;
+    drop(known);
+    Ok(code)
 }
 
 // Nothing is seen yet.

@@ -6,11 +6,12 @@ ghost use Rattle.std.specs.Prelude.{◌≡◌, IfOk, OnOk};
 ghost use Rattle.cc_cminor.specs.Cminor as cminor;
 ghost use Rattle.cc_cminor.specs.Code.{expression_of, expressions_of, statement_of, in_sequence};
 ghost use Rattle.cc_cminor.specs.internal.Statements.{statements_of};
-ghost use Rattle.cc_guard.specs.Guard.{code_after};
+ghost use Rattle.cc_guard.specs.Guard.{known_after, code_after};
 ghost use Rattle.cc_guard.specs.internal.Written.{SeesStatement, sizes_of};
 
-use crate::after::{after, head, within};
+use crate::after::{after, head, meet, within};
 use crate::boxes::{boxed_statement, sequence};
+use crate::changed::{kept, leaves};
 use crate::expressions::{expression, expressions, index};
 use crate::guards::{Seen, begun, finished, note};
 use crate::known::Limit;
@@ -116,6 +117,29 @@ fn give_back(
     finished(alloc, guards, Statement::Return(value))
 }
 
+/// A statement with its guards, and what is known after it.
+#[derive(Drop)]
+pub struct Done {
+    pub code: Box<Statement>,
+    pub known: Vec<Limit>,
+}
+
+// What is known after a statement is found once more, so this is for those that have no statement in them.
+fn alone(
+    alloc: Global,
+    sizes: &[ObjectSize],
+    first: usize,
+    known: &[Limit],
+    s: &Statement,
+    code: Box<Statement>,
+) -> Result<Done, AllocError>
+    ensures code { IfOk result (λ done. done.code ≡ code) }
+    ensures known { IfOk result (λ done. done.known.items ≡ known_after (sizes_of sizes.now) first known.now (statement_of s.now)) }
+{
+    let known = after(alloc, sizes, first, known, s)?;
+    Ok(Done { code, known })
+}
+
 /// A statement in so many blocks, with its guards, which set variables from `first` on, where this is known.
 #[cycle(statements)]
 pub fn statement(
@@ -126,22 +150,28 @@ pub fn statement(
     seen: &mut Seen,
     known: &[Limit],
     s: &Statement,
-) -> Result<Box<Statement>, AllocError>
-    ensures code { IfOk result (λ code. statement_of code.value ≡ code_after (sizes_of sizes.now) first known.now blocks (statement_of s.now)) }
+) -> Result<Done, AllocError>
+    ensures code { IfOk result (λ done. statement_of done.code.value ≡ code_after (sizes_of sizes.now) first known.now blocks (statement_of s.now)) }
+    ensures known { IfOk result (λ done. done.known.items ≡ known_after (sizes_of sizes.now) first known.now (statement_of s.now)) }
     ensures seen { OnOk result (SeesStatement (sizes_of sizes.now) first known.now (statement_of s.now) seen.old seen.new) }
 {
     match s {
-        Statement::Skip => boxed_statement(alloc, Statement::Skip),
+        Statement::Skip => {
+            let code = boxed_statement(alloc, Statement::Skip)?;
+            alone(alloc, sizes, first, known, s, code)
+        }
         Statement::Set(variable, e) => {
-            set(alloc, sizes, first, blocks, seen, known, *variable, e)
+            let code = set(alloc, sizes, first, blocks, seen, known, *variable, e)?;
+            alone(alloc, sizes, first, known, s, code)
         }
         Statement::Store(width, object, i, e) => {
-            store(
+            let code = store(
                 alloc, sizes, first, blocks, seen, known, *width, *object, i, e,
-            )
+            )?;
+            alone(alloc, sizes, first, known, s, code)
         }
         Statement::Call(to, function, es) => {
-            call(
+            let code = call(
                 alloc,
                 sizes,
                 first,
@@ -151,10 +181,17 @@ pub fn statement(
                 *to,
                 *function,
                 es.as_slice(),
-            )
+            )?;
+            alone(alloc, sizes, first, known, s, code)
         }
-        Statement::Read(to) => boxed_statement(alloc, Statement::Read(*to)),
-        Statement::Write(e) => write(alloc, sizes, first, blocks, seen, known, e),
+        Statement::Read(to) => {
+            let code = boxed_statement(alloc, Statement::Read(*to))?;
+            alone(alloc, sizes, first, known, s, code)
+        }
+        Statement::Write(e) => {
+            let code = write(alloc, sizes, first, blocks, seen, known, e)?;
+            alone(alloc, sizes, first, known, s, code)
+        }
         Statement::Sequence(all) => {
             statements(alloc, sizes, first, blocks, seen, known, all.as_slice())
         }
@@ -162,10 +199,15 @@ pub fn statement(
             let mut guards = begun(alloc, first, known)?;
             let value = expression(alloc, sizes, blocks, &mut guards, e)?;
             note(&guards, seen);
+            let before = kept(alloc, first, s, guards.known.as_slice())?;
             let one = within(alloc, first, true, guards.known.as_slice(), e)?;
-            let nonzero = statement(alloc, sizes, first, blocks, seen, one.as_slice(), nonzero)?;
+            let done = statement(alloc, sizes, first, blocks, seen, one.as_slice(), nonzero)?;
+            let Done {
+                code: nonzero_code,
+                known: one,
+            } = done;
             let other = within(alloc, first, false, guards.known.as_slice(), e)?;
-            let otherwise = statement(
+            let done = statement(
                 alloc,
                 sizes,
                 first,
@@ -174,22 +216,60 @@ pub fn statement(
                 other.as_slice(),
                 otherwise,
             )?;
-            finished(alloc, guards, Statement::If(value, nonzero, otherwise))
+            let Done {
+                code: otherwise_code,
+                known: other,
+            } = done;
+            let known = meet(alloc, first, s, nonzero, otherwise, before, one, other)?;
+            let code = finished(
+                alloc,
+                guards,
+                Statement::If(value, nonzero_code, otherwise_code),
+            )?;
+            Ok(Done { code, known })
         }
         Statement::Loop(body) => {
             let again = head(alloc, sizes, first, known, body)?;
-            let body = statement(alloc, sizes, first, blocks, seen, again.as_slice(), body)?;
-            boxed_statement(alloc, Statement::Loop(body))
+            let done = statement(alloc, sizes, first, blocks, seen, again.as_slice(), body)?;
+            let Done {
+                code: body_code,
+                known: after_turn,
+            } = done;
+            drop(after_turn);
+            let code = boxed_statement(alloc, Statement::Loop(body_code))?;
+            let known = kept(alloc, first, body, known)?;
+            Ok(Done { code, known })
         }
         Statement::Block(body) => {
             let Some(inside) = blocks.checked_add(1) else {
                 return Err(AllocError);
             };
-            let body = statement(alloc, sizes, first, inside, seen, known, body)?;
-            boxed_statement(alloc, Statement::Block(body))
+            let is_left = leaves(0, body)?;
+            let done = statement(alloc, sizes, first, inside, seen, known, body)?;
+            let Done {
+                code: body_code,
+                known: after_body,
+            } = done;
+            let code = boxed_statement(alloc, Statement::Block(body_code))?;
+            if is_left {
+                drop(after_body);
+                let known = kept(alloc, first, body, known)?;
+                Ok(Done { code, known })
+            } else {
+                Ok(Done {
+                    code,
+                    known: after_body,
+                })
+            }
         }
-        Statement::Exit(k) => boxed_statement(alloc, Statement::Exit(*k)),
-        Statement::Return(e) => give_back(alloc, sizes, first, blocks, seen, known, e),
+        Statement::Exit(k) => {
+            let code = boxed_statement(alloc, Statement::Exit(*k))?;
+            alone(alloc, sizes, first, known, s, code)
+        }
+        Statement::Return(e) => {
+            let code = give_back(alloc, sizes, first, blocks, seen, known, e)?;
+            alone(alloc, sizes, first, known, s, code)
+        }
     }
 }
 
@@ -202,16 +282,22 @@ fn statements(
     seen: &mut Seen,
     known: &[Limit],
     all: &[Statement],
-) -> Result<Box<Statement>, AllocError>
-    ensures code { IfOk result (λ code. statement_of code.value ≡ code_after (sizes_of sizes.now) first known.now blocks (in_sequence (statements_of all.now))) }
+) -> Result<Done, AllocError>
+    ensures code { IfOk result (λ done. statement_of done.code.value ≡ code_after (sizes_of sizes.now) first known.now blocks (in_sequence (statements_of all.now))) }
+    ensures known { IfOk result (λ done. done.known.items ≡ known_after (sizes_of sizes.now) first known.now (in_sequence (statements_of all.now))) }
     ensures seen { OnOk result (SeesStatement (sizes_of sizes.now) first known.now (in_sequence (statements_of all.now)) seen.old seen.new) }
 {
     let mut codes = Vec::new(alloc);
     let mut limits = Vec::from_slice(alloc, known)?;
     for s in all {
-        let code = statement(alloc, sizes, first, blocks, seen, limits.as_slice(), s)?;
+        let done = statement(alloc, sizes, first, blocks, seen, limits.as_slice(), s)?;
+        let Done { code, known } = done;
         codes.push(Box::into_inner(code))?;
-        limits = after(alloc, sizes, first, limits.as_slice(), s)?;
+        limits = known;
     }
-    sequence(alloc, codes)
+    let code = sequence(alloc, codes)?;
+    Ok(Done {
+        code,
+        known: limits,
+    })
 }

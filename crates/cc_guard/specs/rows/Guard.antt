@@ -2,9 +2,9 @@
 use Rattle.std.specs.Prelude.{◌≡◌, refl, ◌-◌, ◌^◌, false, List, [], ◌∷◌, Some}
 use Rattle.cc_words.specs.declared.operators.Width.TheVariants.{Byte, Word}
 use Rattle.cc_words.specs.declared.operators.Unary.TheVariants.{IsZero}
-use Rattle.cc_words.specs.declared.operators.Binary.TheVariants.{Add, DivS, DivU, RemU, Shl, And, Eq, LeU}
+use Rattle.cc_words.specs.declared.operators.Binary.TheVariants.{Add, DivS, DivU, RemU, Shl, And, Eq, LtS, LtU, LeS, LeU}
 use Rattle.cc_simulation.specs.World.{Size}
-use Rattle.cc_cminor.specs.Cminor.{Expression, Constant, Local, Unary, Binary, Load, Statement, Skip, Set, Store, Call, Sequence, If, Loop, Block, Exit}
+use Rattle.cc_cminor.specs.Cminor.{Expression, Constant, Local, Unary, Binary, Load, Statement, Skip, Set, Store, Call, Sequence, If, Loop, Block, Exit, Return}
 use Rattle.cc_guard.specs.Guard.{guarded_code, has_guards, guarded_function}
 
 abbrev objects : List Size
@@ -77,3 +77,25 @@ set_again = refl
 kept_in_loop : guarded_code objects 4 0 (Sequence (Set 1 (Constant 2)) (Sequence (Set 2 (Constant 2)) (Loop (Sequence (Set 0 (Load Word 0 (Local 1))) (Set 2 (Load Word 0 (Local 2)))))))
     ≡ Sequence (Set 1 (Constant 2)) (Sequence (Set 2 (Constant 2)) (Loop (Sequence (Set 0 (Load Word 0 (Local 1))) (Sequence (stop_from (Constant 3) (Local 2)) (Set 2 (Load Word 0 (Local 2)))))))
 kept_in_loop = refl
+
+-- a loop that counts to a limit: what its condition tells is known in its turns, and the counter at the head is at most that limit
+counted : guarded_code objects 4 0
+    (Sequence (Set 1 (Constant 0)) (Block (Loop (If (Binary LtS (Local 1) (Constant 3)) (Sequence (Set 0 (Load Word 0 (Local 1))) (Set 1 (Binary Add (Local 1) (Constant 1)))) (Exit 0)))))
+    ≡ Sequence (Set 1 (Constant 0)) (Block (Loop (If (Binary LtS (Local 1) (Constant 3)) (Sequence (Set 0 (Load Word 0 (Local 1))) (Set 1 (Binary Add (Local 1) (Constant 1)))) (Exit 0))))
+counted = refl
+
+-- to a limit that is too high by one, and with a body that is a block, which an exit leaves: the counter is not known after it
+too_far : guarded_code objects 4 0
+    (Sequence (Set 1 (Constant 0)) (Block (Loop (If (Binary LeS (Local 1) (Constant 3)) (Sequence (Set 0 (Load Word 0 (Local 1))) (Set 1 (Binary Add (Local 1) (Constant 1)))) (Exit 0)))))
+    ≡ Sequence (Set 1 (Constant 0)) (Block (Loop (If (Binary LeS (Local 1) (Constant 3))
+    (Sequence (Sequence (If (Binary LeU (Constant 3) (Local 1)) (Exit 1) Skip) (Set 0 (Load Word 0 (Local 1)))) (Set 1 (Binary Add (Local 1) (Constant 1)))) (Exit 0))))
+too_far = refl
+
+-- a way that goes on elsewhere tells the rest: `if (x < 3) ; else return`, and one that puts it right: `if (2 < x) x = 2`
+one_way : guarded_code objects 4 0 (Sequence (If (Binary LtU (Local 1) (Constant 3)) Skip (Return (Constant 0))) (Set 0 (Load Word 0 (Local 1))))
+    ≡ Sequence (If (Binary LtU (Local 1) (Constant 3)) Skip (Return (Constant 0))) (Set 0 (Load Word 0 (Local 1)))
+one_way = refl
+
+both_ways : guarded_code objects 4 0 (Sequence (If (Binary LtU (Constant 2) (Local 1)) (Set 1 (Constant 2)) Skip) (Set 0 (Load Word 0 (Local 1))))
+    ≡ Sequence (If (Binary LtU (Constant 2) (Local 1)) (Set 1 (Constant 2)) Skip) (Set 0 (Load Word 0 (Local 1)))
+both_ways = refl
