@@ -8,6 +8,8 @@ name; what each command stored; and what `restore` leaves.
 libraries.py cuts [SEED]: a copy that is killed in the place of each of its calls, refused each of them (EIO, and EIO though it was done), and
 killed at 200 moments. Nothing may have the new name, or all of the library; what else is there is a file NEW.N.copy. And what was written is
 synced before the new file gets its name.
+libraries.py calls [COUNT [SEED]]: COUNT random programs (1,000) in a library: what `call` answers of each on random words within a random bound, as
+`run` does and as the simulator of image.py, by which `executed M` is counted too; one after the other, and by `--lines`.
 The status is 1 where something differs. The program has to be built (./cclib)."""
 
 import os
@@ -19,6 +21,8 @@ import sys
 import tempfile
 import time
 
+import compare
+import image
 import records
 
 HERE = os.path.dirname(os.path.abspath(__file__))
@@ -274,6 +278,38 @@ def try_cuts(seed):
     print(f"copies that were cut: {found}; {wrong} differences")
 
 
+def counted(code, data, words, steps):
+    """What a simulator that counts says of a run."""
+    machine, done, how = image.Machine(code, data, words), 0, None
+    while done < steps and not how:
+        how, done = machine.step(), done + 1
+    return [str(it) for it in machine.written] + [how or "going", f"executed {done}"]
+
+
+def try_calls(count, seed):
+    chance = random.Random(seed)
+    texts = {f"u{it}": compare.Writer(seed * 1_000_000 + it).program(it) for it in range(count)}
+    with tempfile.TemporaryDirectory() as work:
+        disk = f"{work}/disk"
+        script = "".join(f"add {name} {len(text)}\n{text}\n" for name, text in texts.items())
+        subprocess.run([PROGRAM, "library", disk, "--format", "67108864", "--quiet"], input=script.encode(), capture_output=True)
+        units, tried = read(disk)[0], 0
+        for name, (_, code, data, _) in units.items():
+            words = [chance.choice([0, 1, 2**31, 2**32 - 1, chance.randrange(2**32)]) for _ in range(chance.randrange(4))]
+            steps = chance.choice([0, 1, 50, 3000, 200000])
+            told = counted(code, data, words, steps)
+            asked = [str(it) for it in (steps, *words)]
+            differs("call --count", lines(run("call", disk, name, *asked, "--count")), told)
+            differs("call", lines(run("call", disk, name, *asked)), told[:-1])
+            ran = subprocess.run([PROGRAM, "run", *asked, "--quiet"], input=texts[name].encode(), capture_output=True)
+            differs("run", lines(ran), told[:-1])
+            line = " ".join(asked[1:])
+            by_line = subprocess.run([PROGRAM, "call", disk, name, asked[0], "--lines", "--count"], input=f"{line}\n-1\n{line}\n".encode(), capture_output=True)
+            differs("call --lines", (lines(by_line), by_line.returncode), ([*told, "", "fault 50 BadLine", "", *told, ""], 1))
+            tried += 1
+    print(f"{tried} units, {wrong} differences")
+
+
 def main():
     global PROGRAM
     words = sys.argv[1:]
@@ -282,6 +318,8 @@ def main():
         words = words[2:]
     if words[:1] == ["random"] and len(words) <= 3:
         try_random(*map(int, words[1:2] or [1000]), *map(int, words[2:] or [1]))
+    elif words[:1] == ["calls"] and len(words) <= 3:
+        try_calls(*map(int, words[1:2] or [1000]), *map(int, words[2:] or [1]))
     elif words[:1] == ["cuts"] and len(words) <= 2:
         try_cuts(int(*(words[1:] or ["1"])))
     else:
