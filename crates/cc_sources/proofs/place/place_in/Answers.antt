@@ -13,12 +13,12 @@ returns-then-number-texts c =
     let number : c.loop-text.number ≡ c.loop-text.text-index = c.loop-text.invariant.number in
     let here : c.loop-text.number < length c.args.texts.now = omega (arith, number, c.loop-text-test.true) in
     let why : (suc c.loop-text.number ≡ length c.args.texts.now) ⊎ (c.loop-text.left < length text.bytes.items + length (newline_after text.bytes.items)) =
-      elim c.then-number-texts.branch [
-        | then-number-texts-via-then-number-texts w ↦ inl (omega (arith, w.if-number-texts.true))
-        | then-number-texts-via-else-number-texts+then-is_within w ↦ inr (search rules)
-      ] in
+    elim c.then-number-texts.branch [
+      | then-number-texts-via-then-number-texts w ↦ inl (omega (arith, w.if-number-texts.true))
+      | then-number-texts-via-else-number-texts+then-is_within w ↦ inr (search rules)
+    ] in
     lies c.args.texts.now c.loop-text.number c.args.at c.loop-text.left text c.found.result here (search rules) c.loop-text.invariant.begins why
-      c.found.ensures.number (search rules) (search rules) (search rules)
+    c.found.ensures.number (search rules) (search rules) (search rules)
 
 pub loop-text-preserved : goal.loop-text-preserved
 loop-text-preserved c =
@@ -27,5 +27,5 @@ loop-text-preserved c =
     record {
       number = omega (arith, number);
       begins = moved c.args.texts.now c.loop-text.number (c.loop-text.number + 1) c.args.at c.loop-text.left c.after-left.result text (omega arith)
-        (omega (arith, number, c.if-number-texts.false, c.loop-text-test.true)) (search rules) c.loop-text.invariant.begins (search rules);
+          (omega (arith, number, c.if-number-texts.false, c.loop-text-test.true)) (search rules) c.loop-text.invariant.begins (search rules);
     }
