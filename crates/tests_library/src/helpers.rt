@@ -67,8 +67,8 @@ pub fn withdraw(name: &[u8]) -> Result<LibraryCommand, Fail> {
 }
 
 /// A disk with two areas of so many bytes.
-pub fn blank(alloc: Global, area: usize) -> Result<MemoryDisk, Fail> {
-    Ok(MemoryDisk::new(alloc, 16 + 2 * area)?)
+pub fn blank(alloc: Global, area: u16) -> Result<MemoryDisk, Fail> {
+    Ok(MemoryDisk::new(alloc, 16 + 2 * usize::from(area))?)
 }
 
 /// A disk with a library in which these commands were done, in areas of 1,024 bytes.
