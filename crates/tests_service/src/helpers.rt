@@ -13,15 +13,10 @@ use std::test::Fail;
 /// The names, by their places.
 pub const NAMES: [&[u8]; 3] = [b"a", b"b", b"c"];
 
-/// The first two of these texts.
-pub const FIRST: &[u8] = b"int main(void) { return 1; }";
-
-pub const SECOND: &[u8] = b"int main(void) { return 22; }";
-
 /// Texts of units, by their places.
 pub const TEXTS: [&[u8]; 3] = [
-    FIRST,
-    SECOND,
+    b"int main(void) { return 1; }",
+    b"int main(void) { return 22; }",
     b"int three(void) { return 3; } int main(void) { return three(); }",
 ];
 

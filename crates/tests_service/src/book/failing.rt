@@ -8,7 +8,6 @@ use std::alloc::Global;
 use std::sync::Wait;
 use std::test::Fail;
 use std::thread::Threads;
-use tests_texts::verdict::passes;
 
 const A: usize = 0;
 
@@ -35,30 +34,28 @@ fn is_promised(alloc: Global, disk: MemoryDisk, state: &State) -> Result<bool, F
     Ok(shows(alloc, &library, &state.model)? || shows(alloc, &library, &state.with)?)
 }
 
-// The same after a crash that leaves this byte wherever it may.
-fn leaves(alloc: Global, disk: &MemoryDisk, byte: u8, state: &State) -> Result<bool, Fail> {
-    let choice = vec![in alloc; byte; SIZE]?;
-    is_promised(alloc, disk.crash(alloc, &choice)?, state)
-}
-
-// Plays the calls on a device that passes this many of its calls: whether the one in this place is answered 35, or none, and each crash leaves
-// a map that is promised.
-fn fails_at<R: Threads + Wait + Copy + Send + 'static>(
+// Plays the calls on a device that passes this many of its calls: the place of the one answered 35. An error where a crash leaves another
+// map than is promised.
+fn failed_at<R: Threads + Wait + Copy + Send + 'static>(
     rt: &R,
     alloc: Global,
-    calls: u64,
+    passes: u64,
     mode: FuseMode,
-    wanted: Option<usize>,
-) -> Result<bool, Fail> {
-    let fuse = FuseDisk::new(formatted(alloc)?, calls, mode);
-    let played = play(rt, alloc, fuse, &CALLS)?;
-    let (disk, state) = (played.disk.into_disk(), played.state);
-    Ok(
-        state.failed == wanted
-            && leaves(alloc, &disk, 0x00, &state)?
-            && leaves(alloc, &disk, 0xa5, &state)?
-            && leaves(alloc, &disk, 0xff, &state)?,
-    )
+) -> Result<Option<usize>, Fail> {
+    let played = play(
+        rt,
+        alloc,
+        FuseDisk::new(formatted(alloc)?, passes, mode),
+        &CALLS,
+    )?;
+    let disk = played.disk.into_disk();
+    for byte in [0x00u8, 0xa5, 0xff] {
+        let choice = vec![in alloc; byte; SIZE]?;
+        if !is_promised(alloc, disk.crash(alloc, &choice)?, &played.state)? {
+            return Err(Fail::from("another map after a crash"));
+        }
+    }
+    Ok(played.state.failed)
 }
 
 #[test]
@@ -70,7 +67,8 @@ fn a_device_that_fails_at_each_call(rt: HostRuntime) -> Result<(), Fail> {
             } else {
                 None
             };
-            passes(fails_at(&rt, rt.alloc(), OPENING + call, mode, wanted))?;
+            let found = failed_at(&rt, rt.alloc(), OPENING + call, mode)?;
+            assert!(rt; found == wanted, "device call {call}, {mode:?}: {found:?}");
         }
     }
     Ok(())

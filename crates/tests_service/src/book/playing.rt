@@ -18,7 +18,6 @@ use std::sync::Wait;
 use std::sync::ledger::{Blank, Share};
 use std::test::Fail;
 use std::thread::Threads;
-use tests_texts::lists::both;
 
 /// What has been answered so far.
 #[derive(Clone, Copy)]
@@ -206,7 +205,9 @@ fn ended<N: Named, D: Disk + Drop>(
     requires parts { rest.parts + 2 ≡ N.parts }
     requires amount { rest.amount ≡ 0 }
 {
-    let clients = both(alloc, one, other)?;
+    let mut clients = Vec::new(alloc);
+    clients.push(one)?;
+    clients.push(other)?;
     match close(alloc, book, 2, rest, clients) {
         Ok(closed) => if closed.history.len() == state.entries && closed.receipts.len() == 2 {
             Ok(Played {
@@ -223,31 +224,7 @@ fn ended<N: Named, D: Disk + Drop>(
     }
 }
 
-// The state after all calls, each by the first client or the other one.
-fn stepped<N: Named, D: Disk>(
-    alloc: Global,
-    book: &mut Book<N, D>,
-    one: &mut Client<N>,
-    other: &mut Client<N>,
-    calls: &[(bool, Call)],
-) -> Result<State, Fail> {
-    let mut state = State {
-        model: EMPTY,
-        failed: None,
-        with: EMPTY,
-        entries: 0,
-    };
-    for (place, (first, call)) in calls.iter().enumerate() {
-        state = if *first {
-            step(alloc, book, one, &state, place, *call)?
-        } else {
-            step(alloc, book, other, &state, place, *call)?
-        };
-    }
-    Ok(state)
-}
-
-// Plays the calls on a book over the disk, and ends the book with both clients.
+// Plays the calls on a book over the disk, each by the first client or the other one, and ends the book with both.
 fn run<N, D, R>(
     rt: &R,
     alloc: Global,
@@ -281,7 +258,16 @@ where
     };
     let mut one = Client::new(alloc, 1, rest.split_off(1, 0), pool.pass(rt));
     let mut other = Client::new(alloc, 2, rest.split_off(1, 0), pool.pass(rt));
-    let state = stepped(alloc, &mut book, &mut one, &mut other, calls)?;
+    let mut state = State {
+        model: EMPTY,
+        failed: None,
+        with: EMPTY,
+        entries: 0,
+    };
+    for (place, (first, call)) in calls.iter().enumerate() {
+        let client = if *first { &mut one } else { &mut other };
+        state = step(alloc, &mut book, client, &state, place, *call)?;
+    }
     // It answers 41, since the clients have its passes.
     drop(pool.finish(rt, Vec::new(alloc)));
     ended(alloc, book, rest, one, other, state)

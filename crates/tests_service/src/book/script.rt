@@ -6,7 +6,6 @@ use crate::model::{Call, Change, shows};
 use cc_disk::{Disk, FuseDisk, FuseMode};
 use std::alloc::Global;
 use std::test::Fail;
-use tests_texts::verdict::passes;
 
 const A: usize = 0;
 
@@ -51,6 +50,7 @@ fn is_whole<D: Disk + Drop>(alloc: Global, played: Played<D>) -> Result<bool, Fa
 fn twenty_calls_of_two_clients(rt: HostRuntime) -> Result<(), Fail> {
     let alloc = rt.alloc();
     let fuse = FuseDisk::new(formatted(alloc)?, u64::MAX, FuseMode::Once);
-    passes(is_whole(alloc, play(&rt, alloc, formatted(alloc)?, &CALLS)?))?;
-    passes(is_whole(alloc, play(&rt, alloc, fuse, &CALLS)?))
+    assert!(rt; is_whole(alloc, play(&rt, alloc, formatted(alloc)?, &CALLS)?)?);
+    assert!(rt; is_whole(alloc, play(&rt, alloc, fuse, &CALLS)?)?);
+    Ok(())
 }

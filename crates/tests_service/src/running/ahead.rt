@@ -2,9 +2,9 @@
 
 use super::gates::{Signs, held_until};
 use super::reading::{done_at, is_found, is_listed, number};
-use super::starting::{ALL, Fused, OPENING, Own, SMALL, entries_of, units_on};
+use super::starting::{ALL, Fused, OPENING, Own, SMALL, ended};
 use super::trial::{Trial, succeeds};
-use crate::helpers::{TEXTS, repeated};
+use crate::helpers::{TEXTS, opened as opened_library, repeated};
 use crate::model::{EMPTY, Model};
 use cc_pool::NoGate;
 use cc_service::{Client, Prepared, Put};
@@ -34,19 +34,6 @@ pub fn ahead<N: Own, R: Wait>(
     }
 }
 
-// The three texts, handed in.
-fn all_ahead<N: Own, R: Wait>(
-    rt: &R,
-    alloc: Global,
-    service: &Fused<N>,
-    client: &mut Client<N>,
-) -> Result<(Prepared<N>, Prepared<N>, Prepared<N>), Fail> {
-    let one = ahead(rt, alloc, service, client, TEXTS[0])?;
-    let two = ahead(rt, alloc, service, client, TEXTS[1])?;
-    let three = ahead(rt, alloc, service, client, TEXTS[2])?;
-    Ok((one, two, three))
-}
-
 #[test]
 fn texts_before_their_turn(rt: HostRuntime) -> Result<(), Fail> {
     succeeds(&rt, rt.alloc(), ALL, 2, NoGate, Trial::BeforeTheirTurn)
@@ -59,7 +46,9 @@ pub fn before_their_turn<N: Own, R: Wait>(
     service: Fused<N>,
 ) -> Result<bool, Fail> {
     let mut client = service.client(rt, alloc)?;
-    let (one, two, three) = all_ahead(rt, alloc, &service, &mut client)?;
+    let one = ahead(rt, alloc, &service, &mut client, TEXTS[0])?;
+    let two = ahead(rt, alloc, &service, &mut client, TEXTS[1])?;
+    let three = ahead(rt, alloc, &service, &mut client, TEXTS[2])?;
     let known = one.text() == TEXTS[0] && two.functions() == 1 && three.functions() == 2;
     let idle = client.receipts().len() == 0;
     let before = is_listed(service.list(rt, alloc, &mut client), 1, &EMPTY);
@@ -68,8 +57,9 @@ pub fn before_their_turn<N: Own, R: Wait>(
     drop(two);
     let found = is_found(service.get(rt, alloc, &mut client, b"b"), 4, TEXTS[2])
         && is_listed(service.list(rt, alloc, &mut client), 5, &AFTER);
+    let closed = ended(rt, alloc, service, alone(alloc, client)?)?;
     let right = known && idle && before && later == 2 && sooner == 3 && found;
-    Ok(right && entries_of(rt, alloc, service, client)? == 5)
+    Ok(right && closed.history.len() == 5)
 }
 
 #[test]
@@ -99,9 +89,9 @@ pub fn put_number<N: Own, R: Wait>(
 
 /// Names and texts that are none, a function that is too long, a unit that has no room, and names that have a unit or none.
 pub fn not_put<N: Own, R: Wait>(rt: &R, alloc: Global, service: Fused<N>) -> Result<bool, Fail> {
+    let mut client = service.client(rt, alloc)?;
     let nodes = repeated(alloc, b"int main(void){", b"write_word(0);", 4097, b"}")?;
     let full = repeated(alloc, b"", b" ", 5000, TEXTS[0])?;
-    let mut client = service.client(rt, alloc)?;
     let calls: [(Put, &[u8], &[u8], u32); 9] = [
         (Put::Add, b"A", SMALL, 33),
         (Put::Replace, b"", nodes.as_slice(), 33),
@@ -119,7 +109,8 @@ pub fn not_put<N: Own, R: Wait>(rt: &R, alloc: Global, service: Fused<N>) -> Res
         right = right && answer == *wanted;
     }
     let counted = client.receipts().len() == 3;
-    Ok(right && counted && entries_of(rt, alloc, service, client)? == 3)
+    let closed = ended(rt, alloc, service, alone(alloc, client)?)?;
+    Ok(right && counted && closed.history.len() == 3)
 }
 
 #[test]
@@ -134,14 +125,18 @@ pub fn fails_ahead<N: Own, R: Wait>(
     service: Fused<N>,
 ) -> Result<bool, Fail> {
     let mut client = service.client(rt, alloc)?;
-    let (one, two, three) = all_ahead(rt, alloc, &service, &mut client)?;
+    let one = ahead(rt, alloc, &service, &mut client, TEXTS[0])?;
+    let two = ahead(rt, alloc, &service, &mut client, TEXTS[1])?;
+    let three = ahead(rt, alloc, &service, &mut client, TEXTS[2])?;
     let failed = number(service.put_prepared(rt, alloc, &mut client, Put::Add, b"a", one));
     let closed = number(service.put_prepared(rt, alloc, &mut client, Put::Add, b"b", two));
-    let right = failed == 35 && closed == 36 && client.receipts().len() == 0;
-    let clients = alone(alloc, client)?;
-    let (disk, are_all) = service.give_up(rt, alloc, clients);
+    let counted = client.receipts().len() == 0;
+    let (disk, are_all) = service.give_up(rt, alloc, alone(alloc, client)?);
     drop(three);
-    Ok(right && are_all && units_on(alloc, disk)? <= 1)
+    let library = opened_library(alloc, disk)?;
+    let units = library.list(alloc)?.len();
+    drop(library);
+    Ok(failed == 35 && closed == 36 && counted && are_all && units <= 1)
 }
 
 #[test]
@@ -165,7 +160,6 @@ pub fn held_ahead<N: Own, R: Wait>(
     let second = done_at(service.put_prepared(rt, alloc, &mut client, Put::Add, b"b", two));
     signs.signs.fetch_add(1, Ordering::SeqCst);
     let first = done_at(service.put_prepared(rt, alloc, &mut client, Put::Add, b"a", one));
-    let entries = entries_of(rt, alloc, service, client)?;
-    let right = entries == 2 && second == 1 && first == 2;
-    Ok(right && signs.ended.load(Ordering::SeqCst) == 1)
+    drop(ended(rt, alloc, service, alone(alloc, client)?)?);
+    Ok(second == 1 && first == 2 && signs.ended.load(Ordering::SeqCst) == 1)
 }

@@ -3,7 +3,7 @@
 use super::reading::{done_at, is_found, is_listed, number};
 use super::starting::{ALL, Fused, Own, ended};
 use super::trial::{Trial, succeeds};
-use crate::helpers::{FIRST, SECOND, TEXTS, repeated};
+use crate::helpers::{TEXTS, repeated};
 use crate::model::{EMPTY, replayed, shows};
 use cc_disk::Disk;
 use cc_history::Receipt;
@@ -33,8 +33,7 @@ pub fn each_call<N: Own, R: Wait>(rt: &R, alloc: Global, service: Fused<N>) -> R
         None => 0,
     };
     let right = changed && seen && refused && last == 11 && client.receipts().len() == 11;
-    let clients = alone(alloc, client)?;
-    let closed = ended(rt, alloc, service, clients)?;
+    let closed = ended(rt, alloc, service, alone(alloc, client)?)?;
     Ok(right && is_whole(alloc, &closed)?)
 }
 
@@ -64,63 +63,24 @@ fn are_seen<N: Own, R: Wait>(
         && is_listed(service.list(rt, alloc, client), 7, &AFTER)
 }
 
-// A call, and the number that it is answered with.
-#[derive(Clone, Copy)]
-enum Asked {
-    Add(&'static [u8], &'static [u8]),
-    Replace(&'static [u8], &'static [u8]),
-    Withdraw(&'static [u8]),
-    Get(&'static [u8]),
-}
-
-// Names that are none.
-static NAMES: [(Asked, u32); 4] = [
-    (Asked::Withdraw(b"A"), 33),
-    (Asked::Add(b"", FIRST), 33),
-    (Asked::Replace(b"A", b"/*"), 33),
-    (Asked::Get(&[b'a'; 33]), 33),
-];
-
-// Names that have a unit, and that have none: entries 8 to 11.
-static MAP: [(Asked, u32); 4] = [
-    (Asked::Add(b"b", SECOND), 31),
-    (Asked::Replace(b"c", SECOND), 32),
-    (Asked::Withdraw(b"c"), 32),
-    (Asked::Get(b"c"), 32),
-];
-
-// Whether each of these calls is answered with its number.
-fn are_answered<N: Own, R: Wait>(
-    rt: &R,
-    alloc: Global,
-    service: &Fused<N>,
-    client: &mut Client<N>,
-    rows: &[(Asked, u32)],
-) -> bool {
-    let mut right = true;
-    for (asked, wanted) in rows {
-        let answer = match *asked {
-            Asked::Add(name, text) => number(service.add(rt, alloc, client, name, text)),
-            Asked::Replace(name, text) => number(service.replace(rt, alloc, client, name, text)),
-            Asked::Withdraw(name) => number(service.withdraw(rt, alloc, client, name)),
-            Asked::Get(name) => number(service.get(rt, alloc, client, name)),
-        };
-        right = right && answer == *wanted;
-    }
-    right
-}
-
-// Names that are none, texts that are none, and names that have a unit or none.
+// Names that are none, texts that are none, and names that have a unit or none: the last four are entries 8 to 11.
 fn are_refused<N: Own, R: Wait>(
     rt: &R,
     alloc: Global,
     service: &Fused<N>,
     client: &mut Client<N>,
 ) -> Result<bool, Fail> {
-    let names = are_answered(rt, alloc, service, client, NAMES.as_slice());
+    let long = [b'a'; 33];
+    let names = number(service.withdraw(rt, alloc, client, b"A")) == 33
+        && number(service.add(rt, alloc, client, b"", TEXTS[0])) == 33
+        && number(service.replace(rt, alloc, client, b"A", b"/*")) == 33
+        && number(service.get(rt, alloc, client, &long)) == 33;
     let texts = are_texts_refused(rt, alloc, service, client)?;
     let counted = client.receipts().len() == 7;
-    let map = are_answered(rt, alloc, service, client, MAP.as_slice());
+    let map = number(service.add(rt, alloc, client, b"b", TEXTS[1])) == 31
+        && number(service.replace(rt, alloc, client, b"c", TEXTS[1])) == 32
+        && number(service.withdraw(rt, alloc, client, b"c")) == 32
+        && number(service.get(rt, alloc, client, b"c")) == 32;
     Ok(names && texts && counted && map)
 }
 
@@ -151,81 +111,24 @@ fn are_texts_refused<N: Own, R: Wait>(
     service: &Fused<N>,
     client: &mut Client<N>,
 ) -> Result<bool, Fail> {
+    let long = repeated(alloc, b"", b" ", 65537, b"")?;
+    let nodes = repeated(alloc, b"int main(void){", b"write_word(0);", 4097, b"}")?;
+    let full = repeated(alloc, b"", b" ", 5000, TEXTS[0])?;
+    let texts: [(&[u8], u32, usize); 6] = [
+        (b"/*", 2, 1),
+        (b"int main(void){return 1 2;}", 5, 25),
+        (b"int main(void){x=1;}", 11, 16),
+        (long.as_slice(), 7, 0),
+        (nodes.as_slice(), 22, 0),
+        (full.as_slice(), 34, 0),
+    ];
     let mut right = true;
-    for refused in REFUSED.iter() {
-        let text = repeated(
-            alloc,
-            refused.head,
-            refused.part,
-            refused.times,
-            refused.end,
-        )?;
-        let answer = service.add(rt, alloc, client, b"c", &text);
-        right = right && is_refused_at(answer, refused.number, refused.column);
+    for (text, number, column) in texts.iter() {
+        let answer = service.add(rt, alloc, client, b"c", *text);
+        right = right && is_refused_at(answer, *number, *column);
     }
     Ok(right)
 }
-
-// A text: its head, a part so many times, and its end; the number of its fault, and the column.
-struct Refused {
-    head: &'static [u8],
-    part: &'static [u8],
-    times: usize,
-    end: &'static [u8],
-    number: u32,
-    column: usize,
-}
-
-static REFUSED: [Refused; 6] = [
-    Refused {
-        head: b"/*",
-        part: b"",
-        times: 0,
-        end: b"",
-        number: 2,
-        column: 1,
-    },
-    Refused {
-        head: b"int main(void){return 1 2;}",
-        part: b"",
-        times: 0,
-        end: b"",
-        number: 5,
-        column: 25,
-    },
-    Refused {
-        head: b"int main(void){x=1;}",
-        part: b"",
-        times: 0,
-        end: b"",
-        number: 11,
-        column: 16,
-    },
-    Refused {
-        head: b"",
-        part: b" ",
-        times: 65537,
-        end: b"",
-        number: 7,
-        column: 0,
-    },
-    Refused {
-        head: b"int main(void){",
-        part: b"write_word(0);",
-        times: 4097,
-        end: b"}",
-        number: 22,
-        column: 0,
-    },
-    Refused {
-        head: b"",
-        part: b" ",
-        times: 5000,
-        end: FIRST,
-        number: 34,
-        column: 0,
-    },
-];
 
 // What the end hands out: the base without a name, the library with the map, and a history and receipts that the model makes too.
 fn is_whole<D: Disk>(alloc: Global, closed: &Closed<D>) -> Result<bool, Fail> {

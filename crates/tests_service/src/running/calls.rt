@@ -3,13 +3,12 @@
 ghost use Rattle.tests_service.specs.internal.Named.{IsNamed};
 
 use super::reading::{absent_at, done_at, is_found, number};
-use super::starting::{
-    ALL, Begun, Fused, Own, SMALL, adds, begin, ended, entries_of, opened, prepared, units_on,
-};
+use super::starting::{ALL, Begun, Fused, Own, SMALL, adds, begin, ended, opened, prepared};
 use super::trial::{Trial, succeeds};
+use crate::helpers::opened as opened_library;
 use cc_pool::NoGate;
 use cc_service::{BookFault, Client, MOST_CLIENTS, Named, ServiceFault};
-use std::alloc::{AllocError, Global};
+use std::alloc::Global;
 use std::cmp::{max, min};
 use std::marker::Brand;
 use std::sync::Wait;
@@ -28,7 +27,14 @@ pub fn four_calls<N: Own, R: Wait>(rt: &R, alloc: Global, service: Fused<N>) -> 
     let mut client = service.client(rt, alloc)?;
     let right = are_answered(rt, alloc, &service, &mut client);
     let (service, refused) = ended_without(rt, alloc, service)?;
-    Ok(right && refused && entries_of(rt, alloc, service, client)? == 4)
+    let closed = ended(rt, alloc, service, alone(alloc, client)?)?;
+    Ok(
+        right
+            && refused
+            && closed.history.len() == 4
+            && closed.receipts.len() == 1
+            && closed.receipts[0].len() == 4,
+    )
 }
 
 fn are_answered<N: Own, R: Wait>(
@@ -115,22 +121,13 @@ fn the_last_client(rt: HostRuntime) -> Result<(), Fail> {
 
 /// Whether 1,024 clients are made and no more, and the service ends with all.
 pub fn all_made<N: Own, R: Wait>(rt: &R, alloc: Global, service: Fused<N>) -> Result<bool, Fail> {
-    let clients = most_clients(rt, alloc, &service)?;
-    let refused = number(service.client(rt, alloc));
-    drop(ended(rt, alloc, service, clients)?);
-    Ok(refused == 30)
-}
-
-fn most_clients<N: Own, R: Wait>(
-    rt: &R,
-    alloc: Global,
-    service: &Fused<N>,
-) -> Result<Vec<Client<N>>, Fail> {
     let mut clients = Vec::new(alloc);
     for _ in 0..MOST_CLIENTS {
         clients.push(service.client(rt, alloc)?)?;
     }
-    Ok(clients)
+    let refused = number(service.client(rt, alloc));
+    drop(ended(rt, alloc, service, clients)?);
+    Ok(refused == 30)
 }
 
 #[test]
@@ -166,21 +163,15 @@ pub fn gives_up<N: Own, R: Wait>(
 ) -> Result<bool, Fail> {
     let mut client = service.client(rt, alloc)?;
     let added = number(service.add(rt, alloc, &mut client, b"a", SMALL));
-    let clients = kept(alloc, client, is_lost)?;
-    let (disk, are_all) = service.give_up(rt, alloc, clients);
-    Ok(added == 0 && are_all != is_lost && units_on(alloc, disk)? == 1)
-}
-
-// The client in a list, or none where it is lost.
-fn kept<N: Named>(
-    alloc: Global,
-    client: Client<N>,
-    is_lost: bool,
-) -> Result<Vec<Client<N>>, AllocError> {
+    let mut clients = Vec::with_capacity(alloc, 1)?;
     if is_lost {
         drop(client);
-        Ok(Vec::new(alloc))
     } else {
-        alone(alloc, client)
+        clients.push(client)?;
     }
+    let (disk, are_all) = service.give_up(rt, alloc, clients);
+    let library = opened_library(alloc, disk)?;
+    let units = library.list(alloc)?.len();
+    drop(library);
+    Ok(added == 0 && are_all != is_lost && units == 1)
 }

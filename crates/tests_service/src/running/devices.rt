@@ -4,7 +4,7 @@ ghost use Rattle.tests_service.specs.internal.Named.{IsNamed};
 
 use super::reading::{absent_at, is_listed, number, refused_with};
 use super::starting::{Begun, Device, Fused, OPENING, Own, SMALL, begin, ended, holds, prepared};
-use super::trial::{Trial, succeeds};
+use super::trial::{Trial, is_right, succeeds};
 use crate::helpers::TEXTS;
 use crate::model::{EMPTY, Model};
 use cc_pool::NoGate;
@@ -15,7 +15,6 @@ use std::sync::Wait;
 use std::test::Fail;
 use std::thread::Threads;
 use tests_texts::lists::alone;
-use tests_texts::verdict::passes;
 
 #[test]
 fn a_failed_add(rt: HostRuntime) -> Result<(), Fail> {
@@ -28,8 +27,7 @@ pub fn fails_once<N: Own, R: Wait>(rt: &R, alloc: Global, service: Fused<N>) -> 
     let right = number(service.add(rt, alloc, &mut client, b"a", SMALL)) == 35
         && number(service.add(rt, alloc, &mut client, b"b", SMALL)) == 36
         && absent_at(service.get(rt, alloc, &mut client, b"a")) == 1;
-    let clients = alone(alloc, client)?;
-    let closed = ended(rt, alloc, service, clients)?;
+    let closed = ended(rt, alloc, service, alone(alloc, client)?)?;
     Ok(right && holds(alloc, closed.library.into_disk(), &EMPTY, &EMPTY)?)
 }
 
@@ -102,19 +100,21 @@ pub fn five_calls<N: Own, R: Wait>(
     };
     let next = (client.receipts().len() as u64).saturating_add(1);
     let listed = is_listed(service.list(rt, alloc, &mut client), next, &before);
-    let clients = alone(alloc, client)?;
-    let closed = ended(rt, alloc, service, clients)?;
+    let closed = ended(rt, alloc, service, alone(alloc, client)?)?;
     let right = holds(alloc, closed.library.into_disk(), &before, &later)?;
     Ok(failed == wanted && listed && right)
 }
 
 #[test]
 fn a_device_that_fails_once(rt: HostRuntime) -> Result<(), Fail> {
-    for calls in 0..21 {
+    for passes in 0..21 {
         let trial = Trial::FiveCalls {
-            failed: calls as usize / 4,
+            failed: passes as usize / 4,
         };
-        succeeds(&rt, rt.alloc(), OPENING + calls, 1, NoGate, trial)?;
+        assert!(rt;
+            is_right(&rt, rt.alloc(), OPENING + passes, 1, NoGate, trial)?,
+            "{passes}"
+        );
     }
     Ok(())
 }
@@ -131,10 +131,10 @@ where
 
 #[test]
 fn an_opening_that_fails(rt: HostRuntime) -> Result<(), Fail> {
-    for calls in 0..OPENING {
-        let begun = prepared(rt.alloc(), calls)?;
+    for passes in 0..OPENING {
+        let begun = prepared(rt.alloc(), passes)?;
         let device = not_opened::<Brand, HostRuntime>(&rt, rt.alloc(), begun)?;
-        passes(holds(rt.alloc(), device, &EMPTY, &EMPTY))?;
+        assert!(rt; holds(rt.alloc(), device, &EMPTY, &EMPTY)?);
     }
     Ok(())
 }

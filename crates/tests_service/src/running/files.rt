@@ -3,13 +3,13 @@
 ghost use Rattle.tests_service.specs.internal.Named.{AreNamed};
 
 use super::reading::{done_at, is_found, refused_with};
-use super::starting::{Own, ended, opened};
+use super::starting::{Own, opened};
 use crate::helpers::{AREA, SIZE, TEXTS};
 use crate::model::shows;
 use cc_disk::FileDisk;
 use cc_journal::format;
 use cc_pool::NoGate;
-use cc_service::{Client, Closed, Fresh, Service};
+use cc_service::{Client, Fresh, Service};
 use std::alloc::Global;
 use std::fs;
 use std::marker::Brand;
@@ -17,7 +17,6 @@ use std::sync::Wait;
 use std::test::Fail;
 use std::thread::Threads;
 use tests_texts::lists::alone;
-use tests_texts::verdict::passes;
 
 #[test]
 fn a_service_that_is_let_go(rt: HostRuntime) -> Result<(), Fail> {
@@ -26,9 +25,9 @@ fn a_service_that_is_let_go(rt: HostRuntime) -> Result<(), Fail> {
     let disk = FileDisk::create(&rt, path, SIZE)?;
     let mut disk = not_a_library::<Brand, HostRuntime>(&rt, alloc, Fresh::new(alloc)?, disk)?;
     format(&mut disk, AREA)?;
-    passes(adds::<Brand, HostRuntime>(&rt, alloc, Fresh::new(alloc)?, disk))?;
+    assert!(rt; adds::<Brand, HostRuntime>(&rt, alloc, Fresh::new(alloc)?, disk)?);
     let disk = FileDisk::open(&rt, path)?;
-    passes(finds::<Brand, HostRuntime>(&rt, alloc, Fresh::new(alloc)?, disk))?;
+    assert!(rt; finds::<Brand, HostRuntime>(&rt, alloc, Fresh::new(alloc)?, disk)?);
     fs::remove_file(&rt, path)?;
     Ok(())
 }
@@ -86,16 +85,16 @@ where
 {
     let (service, mut client) = begun::<N, R>(rt, alloc, fresh, disk)?;
     let found = is_found(service.get(rt, alloc, &mut client, b"a"), 1, TEXTS[2]);
-    let clients = alone(alloc, client)?;
-    let closed = ended(rt, alloc, service, clients)?;
-    Ok(found && is_as_left(alloc, &closed)?)
-}
-
-// Whether the one name is in the base and in the library, and the history has the one look.
-fn is_as_left(alloc: Global, closed: &Closed<FileDisk>) -> Result<bool, Fail> {
-    Ok(
-        closed.history.len() == 1
-            && closed.base.names(alloc)?.len() == 1
-            && shows(alloc, &closed.library, &[Some(2), None, None])?,
-    )
+    match service.finish(rt, alloc, alone(alloc, client)?) {
+        Ok(closed) => Ok(
+            found
+                && closed.history.len() == 1
+                && closed.base.names(alloc)?.len() == 1
+                && shows(alloc, &closed.library, &[Some(2), None, None])?,
+        ),
+        Err(back) => {
+            drop(back);
+            Err(Fail::from("not finished"))
+        }
+    }
 }

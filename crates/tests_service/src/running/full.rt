@@ -17,7 +17,6 @@ use std::sync::Wait;
 use std::test::Fail;
 use std::thread::Threads;
 use tests_texts::lists::both;
-use tests_texts::verdict::passes;
 
 // How many device calls a change makes, and a compaction.
 const CALLS: u64 = 4;
@@ -62,51 +61,39 @@ where
         number(service.replace(rt, alloc, &mut client, b"a", TEXTS[1])),
         number(service.withdraw(rt, alloc, &mut client, b"b")),
     ];
-    let clients = both(alloc, plain, client)?;
-    let closed = ended(rt, alloc, service, clients)?;
+    let closed = ended(rt, alloc, service, both(alloc, plain, client)?)?;
     Ok((made, answers, closed.library.into_disk()))
-}
-
-// What has to come where so many calls pass once the library is full: the answers, the failures, and the maps of which the disk has one.
-// Each call of the compaction fails, and each of the change behind it: 34 of what was not begun, 35 of what was, and then 36.
-type Expected = ([u32; 3], u64, &'static Model, &'static Model);
-
-fn expected(calls: u64) -> Expected {
-    if calls < 4 {
-        ([34, 34, 36], 1, &BEFORE, &BEFORE)
-    } else if calls < 8 {
-        ([34, 35, 36], 1, &BEFORE, &AFTER)
-    } else {
-        ([34, 0, 32], 0, &AFTER, &AFTER)
-    }
-}
-
-// Whether a full library on a device of which this many calls pass is mended so: how many changes filled it.
-fn is_mended<R>(rt: &R, alloc: Global, calls: u64, wanted: Expected) -> Result<u64, Fail>
-where
-    R: Threads + Wait + Copy + Send + 'static,
-{
-    let begun = prepared(alloc, calls)?;
-    let (made, answers, device) = mended::<Brand, R>(rt, alloc, begun)?;
-    let right = answers == wanted.0 && device.failures() == wanted.1;
-    if right && holds(alloc, device, wanted.2, wanted.3)? {
-        Ok(made)
-    } else {
-        Err(Fail::from("other answers, or another disk"))
-    }
 }
 
 #[test]
 fn a_compaction_makes_room(rt: HostRuntime) -> Result<(), Fail> {
     let alloc = rt.alloc();
-    let made = is_mended(&rt, alloc, ALL, expected(8))?;
+    let begun = prepared(alloc, ALL)?;
+    let (made, answers, device) = mended::<Brand, HostRuntime>(&rt, alloc, begun)?;
+    assert!(rt; 3 <= made && made < 64);
+    assert!(rt; answers == [34, 0, 32]);
+    assert!(rt; device.failures() == 0);
+    assert!(rt; holds(alloc, device, &AFTER, &AFTER)?);
+    // Each call of the compaction fails, and each of the change behind it: 34 of what was not begun, 35 of what was, and then 36.
     let filled = OPENING.saturating_add(made.saturating_mul(CALLS));
-    let mut right = 3 <= made && made < 64;
-    for calls in 0..9u64 {
-        right = right
-            && made == is_mended(&rt, alloc, filled.saturating_add(calls), expected(calls))?;
+    for passes in 0..9u64 {
+        let begun = prepared(alloc, filled.saturating_add(passes))?;
+        let (again, answers, device) = mended::<Brand, HostRuntime>(&rt, alloc, begun)?;
+        assert!(rt; again == made, "{passes}");
+        let (wanted, failures) = if passes < 4 {
+            ([34, 34, 36], 1)
+        } else if passes < 8 {
+            ([34, 35, 36], 1)
+        } else {
+            ([34, 0, 32], 0)
+        };
+        assert!(rt; answers == wanted, "{passes}");
+        assert!(rt; device.failures() == failures, "{passes}");
+        let before = if passes < 8 { &BEFORE } else { &AFTER };
+        let after = if passes < 4 { &BEFORE } else { &AFTER };
+        assert!(rt; holds(alloc, device, before, after)?, "{passes}");
     }
-    passes(Ok(right))
+    Ok(())
 }
 
 // Adds units under names of their own, `n` with one letter or two, until there is no room: how many were added.
@@ -136,26 +123,16 @@ where
     let mut client = service.client(rt, alloc)?.compacting();
     let plain = service.client(rt, alloc)?;
     let made = fill(rt, alloc, &service, &mut client);
-    let refused = refusals(rt, alloc, &service, &mut client);
-    let compacted = number(service.compact(rt, alloc));
-    let clients = both(alloc, client, plain)?;
-    drop(ended(rt, alloc, service, clients)?);
-    Ok((made, refused, compacted))
-}
-
-// How many of a thousand adds are answered 34.
-fn refusals<N, R>(rt: &R, alloc: Global, service: &Fused<N>, client: &mut Client<N>) -> u64
-where
-    N: Named + Send + Sync + 'static,
-    R: Wait,
-{
     let mut refused = 0u64;
     for _ in 0..1000 {
-        if number(service.add(rt, alloc, client, b"more", SMALL)) == 34 {
+        if number(service.add(rt, alloc, &mut client, b"more", SMALL)) == 34 {
             refused = refused.saturating_add(1);
         }
     }
-    refused
+    let compacted = number(service.compact(rt, alloc));
+    let closed = ended(rt, alloc, service, both(alloc, client, plain)?)?;
+    drop(closed);
+    Ok((made, refused, compacted))
 }
 
 // No device call comes with a thousand adds: the one that fails is the next after that of the last unit.
@@ -164,9 +141,10 @@ fn units_that_are_there(rt: HostRuntime) -> Result<(), Fail> {
     let alloc = rt.alloc();
     let begun = prepared(alloc, ALL)?;
     let (made, refused, compacted) = crowded::<Brand, HostRuntime>(&rt, alloc, begun)?;
-    let right = 3 <= made && made < 26 && refused == 1000 && compacted == 0;
+    assert!(rt; 3 <= made && made < 26 && refused == 1000 && compacted == 0);
     let filled = OPENING.saturating_add(made.saturating_mul(CALLS));
     let begun = prepared(alloc, filled)?;
     let answers = crowded::<Brand, HostRuntime>(&rt, alloc, begun)?;
-    passes(Ok(right && answers == (made, 1000, 35)))
+    assert!(rt; answers == (made, 1000, 35));
+    Ok(())
 }

@@ -1,7 +1,7 @@
 // A worker that a gate holds: the other one works, and other clients are answered.
 
 use super::reading::number;
-use super::starting::{ALL, Fused, Own, adds, ended, entries_of};
+use super::starting::{ALL, Fused, Own, adds, ended};
 use super::trial::{Trial, succeeds};
 use cc_pool::Gate;
 use cc_service::{Client, Named};
@@ -11,7 +11,7 @@ use std::sync::{Arc, Wait};
 use std::test::Fail;
 use std::thread;
 use std::thread::Threads;
-use tests_texts::lists::both;
+use tests_texts::lists::{alone, both};
 use tests_texts::worked::LONG;
 
 // How often a gate that holds lets others go on, at most.
@@ -116,8 +116,8 @@ pub fn held_by_a_piece<N: Own, R: Wait>(
 ) -> Result<bool, Fail> {
     let mut client = service.client(rt, alloc)?;
     let answer = number(service.add(rt, alloc, &mut client, b"a", LONG.as_bytes()));
-    let entries = entries_of(rt, alloc, service, client)?;
-    Ok(answer == 0 && entries == 1 && signs.ended.load(Ordering::SeqCst) == 1)
+    drop(ended(rt, alloc, service, alone(alloc, client)?)?);
+    Ok(answer == 0 && signs.ended.load(Ordering::SeqCst) == 1)
 }
 
 #[test]
@@ -150,8 +150,7 @@ where
     let (one, first) = a;
     let (other, second) = b;
     let is_idle = !service.is_busy();
-    let clients = both(alloc, one, other)?;
-    drop(ended(rt, alloc, service, clients)?);
+    drop(ended(rt, alloc, service, both(alloc, one, other)?)?);
     Ok(is_idle && first == 0 && second == 0 && signs.ended.load(Ordering::SeqCst) == 1)
 }
 

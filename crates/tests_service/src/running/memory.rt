@@ -3,10 +3,10 @@
 
 use super::ahead::put_number;
 use super::reading::number;
-use super::starting::{ALL, Device, Fused, Own, ended};
+use super::starting::{ALL, Fused, Own, ended};
 use super::trial::{Trial, succeeds};
 use cc_pool::NoGate;
-use cc_service::{Client, Closed, Put};
+use cc_service::{Client, Put};
 use std::alloc::Global;
 use std::sync::Wait;
 use std::test::Fail;
@@ -82,30 +82,19 @@ pub fn is_added<N: Own, R: Wait>(
     let Some(entries) = adds_twice(rt, alloc, &service, &mut client, is_ahead) else {
         return Ok(false);
     };
-    let clients = alone(alloc, client)?;
-    let closed = ended_at_last(rt, alloc, service, clients)?;
-    Ok(closed.history.len() == entries && closed.library.list(alloc)?.len() == 1)
-}
-
-// What is left of the service. The end is asked for again where memory ran out at it.
-fn ended_at_last<N: Own, R: Wait>(
-    rt: &R,
-    alloc: Global,
-    service: Fused<N>,
-    clients: Vec<Client<N>>,
-) -> Result<Closed<Device>, Fail> {
-    match service.finish(rt, alloc, clients) {
-        Ok(closed) => Ok(closed),
+    let closed = match service.finish(rt, alloc, alone(alloc, client)?) {
+        Ok(closed) => closed,
+        // The end is asked for again where memory ran out at it.
         Err((fault, service, clients)) => {
             let number = fault.number();
             drop(fault);
-            if number == 40 {
-                ended(rt, alloc, service, clients)
-            } else {
+            if number != 40 {
                 drop(service);
                 drop(clients);
-                Err(Fail::from("another fault"))
+                return Err(Fail::from("another fault"));
             }
+            ended(rt, alloc, service, clients)?
         }
-    }
+    };
+    Ok(closed.history.len() == entries && closed.library.list(alloc)?.len() == 1)
 }

@@ -18,7 +18,6 @@ use std::marker::Brand;
 use std::sync::Wait;
 use std::test::Fail;
 use std::thread::Threads;
-use tests_texts::lists::alone;
 
 /// The device of all tests here.
 pub type Device = FuseDisk<MemoryDisk>;
@@ -122,16 +121,15 @@ where
 }
 
 /// What is left of a service that ends with all its clients.
-pub fn ended<N, R, D>(
+pub fn ended<N, R>(
     rt: &R,
     alloc: Global,
-    service: Service<N, D>,
+    service: Fused<N>,
     clients: Vec<Client<N>>,
-) -> Result<Closed<D>, Fail>
+) -> Result<Closed<Device>, Fail>
 where
     N: Named + Send + Sync + 'static,
     R: Wait,
-    D: Disk + Drop + Send + 'static,
 {
     match service.finish(rt, alloc, clients) {
         Ok(closed) => Ok(closed),
@@ -142,56 +140,14 @@ where
     }
 }
 
-/// How many entries the history of a service has that ends with its one client, whose receipts are as many.
-pub fn entries_of<N, R>(
-    rt: &R,
-    alloc: Global,
-    service: Fused<N>,
-    client: Client<N>,
-) -> Result<usize, Fail>
-where
-    N: Named + Send + Sync + 'static,
-    R: Wait,
-{
-    let clients = alone(alloc, client)?;
-    let closed = ended(rt, alloc, service, clients)?;
-    let entries = closed.history.len();
-    let are_alike = closed.receipts.len() == 1 && closed.receipts[0].len() == entries;
-    drop(closed);
-    if are_alike {
-        Ok(entries)
-    } else {
-        Err(Fail::from("other receipts"))
-    }
-}
-
-/// How many units the library on a disk has.
-pub fn units_on(alloc: Global, device: Device) -> Result<usize, Fail> {
-    let library = opened_library(alloc, device)?;
-    let units = library.list(alloc)?.len();
-    drop(library);
-    Ok(units)
-}
-
 /// Whether the library on the disk has these units, after a crash that leaves 0x00, 0xa5 or 0xff wherever it may.
 pub fn holds(alloc: Global, device: Device, either: &Model, other: &Model) -> Result<bool, Fail> {
     let disk = device.into_disk();
-    Ok(
-        leaves(alloc, &disk, 0x00, either, other)?
-            && leaves(alloc, &disk, 0xa5, either, other)?
-            && leaves(alloc, &disk, 0xff, either, other)?,
-    )
-}
-
-// The same after a crash that leaves this byte wherever it may.
-fn leaves(
-    alloc: Global,
-    disk: &MemoryDisk,
-    byte: u8,
-    either: &Model,
-    other: &Model,
-) -> Result<bool, Fail> {
-    let choice = vec![in alloc; byte; SIZE]?;
-    let library = opened_library(alloc, disk.crash(alloc, &choice)?)?;
-    Ok(shows(alloc, &library, either)? || shows(alloc, &library, other)?)
+    let mut right = true;
+    for byte in [0x00u8, 0xa5, 0xff] {
+        let choice = vec![in alloc; byte; SIZE]?;
+        let library = opened_library(alloc, disk.crash(alloc, &choice)?)?;
+        right = right && (shows(alloc, &library, either)? || shows(alloc, &library, other)?);
+    }
+    Ok(right)
 }
