@@ -1,10 +1,11 @@
 /* Put before the C library's calls: of the calls that name a file below the folder FAIL_IN, or one that is open there, that with the number FAIL_AT
-   (from 1) is refused with the number of an error FAIL_WITH; with FAIL_DONE it is done first, as over a network whose answer is lost. To the file
-   FAIL_TOLD goes a line when that comes, "NUMBER CALL FILE". */
+   (from 1) is refused with the number of an error FAIL_WITH; with FAIL_DONE it is done first, as over a network whose answer is lost; with FAIL_KILL
+   the process is killed in its place. To the file FAIL_TOLD goes a line when that comes, "NUMBER CALL FILE". */
 #define _GNU_SOURCE
 #include <dlfcn.h>
 #include <errno.h>
 #include <fcntl.h>
+#include <signal.h>
 #include <stdarg.h>
 #include <stdatomic.h>
 #include <stdio.h>
@@ -29,6 +30,7 @@ static int meets(const char *path, const char *call) {
     int told = NEXT(open)(getenv("FAIL_TOLD"), O_WRONLY | O_CREAT | O_APPEND | O_CLOEXEC, 0644);
     dprintf(told, "%ld %s %s\n", number, call, path);
     close(told);
+    if (getenv("FAIL_KILL")) kill(getpid(), SIGKILL);
     return 1;
 }
 static int meets_open(int fd, const char *call) {

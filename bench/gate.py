@@ -2,12 +2,13 @@
 """Runs the gate and tells where its time goes.
 
     bench/gate.py [FOLDER]          in that clone of the repository, or a fresh one of what is committed here
-    bench/gate.py --chain           runs nothing: tells by docs/GATE.md's table the sum of all and the longest chain
+    bench/gate.py --chain           runs nothing: tells by tools/costs.txt the sum of all and the longest chain
+    bench/gate.py --table           writes the table that docs/GATE.md has to have by tools/costs.txt
 
 The gate is `rt ci`, as `.ci/run` has it; it should be the only thing that the machine does. While it runs, this script looks
 four times a second at the toolchain's processes and adds up the processor seconds of each. Then it prints a row for each
-crate, in seconds of processor, and where the run passed it writes the same under the head "The table" of docs/GATE.md (of the
-repository that the script stands in), whose text above stays:
+crate, in seconds of processor, and where the run passed it writes the same to tools/costs.txt and under the head "The table" of
+docs/GATE.md (of the repository that the script stands in), whose text above stays:
 
     lines   of src/, proofs left out
     P       a whole proof from scratch
@@ -32,6 +33,9 @@ from datetime import date
 TOP = os.path.dirname(os.path.dirname(os.path.abspath(__file__)))
 TICK = os.sysconf("SC_CLK_TCK")
 
+# What each crate costs, from which the table is made and ./prove-below schedules.
+COSTS = f"{TOP}/tools/costs.txt"
+
 # The head of docs/GATE.md under which the table stands, to the end, and what is said between the two.
 HEAD = "## The table\n"
 WORDS = """
@@ -42,8 +46,43 @@ each further one on average, n a check that changes nothing, `sum` all of these.
 """
 
 
-def write(said):
-    """Puts the table in place of the one in docs/GATE.md."""
+class Cost:
+    """A line of tools/costs.txt: what the gate spends on one crate; a number is 0 where there is none."""
+
+    def __init__(self, name, *cells):
+        self.name = name
+        self.lines, self.proof, self.tests, self.count, self.first, self.each, self.again = (float(it.replace("-", "0")) for it in cells)
+
+    def whole(self):
+        return self.proof + self.tests + self.first + self.each * max(self.count - 1, 0) + self.again
+
+    def line(self):
+        cells = [f"{it:.0f}" for it in (self.lines, self.proof, self.tests, self.count, self.first)] + [f"{it:.1f}" for it in (self.each, self.again)]
+        return f"{self.name:<20} {cells[0]:>5} " + " ".join(f"{'-' if float(it) == 0 else it:>5}" for it in cells[1:])
+
+    def row(self):
+        numbers = f"{self.lines:6.0f} | {self.proof:4.0f} | {self.tests:5.0f} | {self.count:5.0f} | {self.first:5.0f} | {self.each:4.1f} | {self.again:5.1f} | {self.whole():5.0f}"
+        return re.sub(r"(?<=\|) +0(?:\.0)? (?=\|)", lambda it: " " * len(it[0]), f"| {self.name:20} | {numbers} |")
+
+
+def costs():
+    """Returns the lines of tools/costs.txt."""
+    with open(COSTS, encoding="utf-8") as file:
+        return [Cost(*line.split()) for line in file if not line.startswith("#")]
+
+
+def table(found):
+    """Returns the lines of the table of these costs."""
+    head = ["| crate                |  lines |    P | tests | edits | first |    e |    n |   sum |", "|---|---|---|---|---|---|---|---|---|"]
+    return head + [it.row() for it in found]
+
+
+def write(found, said):
+    """Puts costs in place of those of tools/costs.txt, and their table in place of the one in docs/GATE.md."""
+    with open(COSTS, encoding="utf-8") as file:
+        comments = [line for line in file if line.startswith("#")]
+    with open(COSTS, "w", encoding="utf-8") as file:
+        file.write("".join(comments) + "".join(f"{it.line()}\n" for it in found))
     page = f"{TOP}/docs/GATE.md"
     with open(page, encoding="utf-8") as file:
         above = file.read().partition(HEAD)[0]
@@ -127,17 +166,12 @@ def longest(names, proof, last):
 
 
 def tell_chain():
-    """Prints what docs/GATE.md's table says of the crates of today."""
-    names, found = below(TOP), {}
-    with open(f"{TOP}/docs/GATE.md", encoding="utf-8") as file:
-        for line in file:
-            cells = [it.strip() for it in line.strip("| \n").split("|")]
-            if len(cells) == 9 and cells[1].isdigit():
-                found[cells[0]] = [float(it or 0) for it in cells[1:]]
+    """Prints what tools/costs.txt says of the crates of today."""
+    names, found = below(TOP), {it.name: it for it in costs()}
     unknown = sorted(set(names) - set(found))
-    proof = lambda it: found[it][1] if it in found else 0
-    seconds, crates = longest(names, proof, lambda it: found[it][7] - found[it][1] if it in found else 0)
-    print(f"sum {sum(found[it][7] for it in names if it in found) / 60:.0f} processor minutes; not in the table: {', '.join(unknown) or 'none'}")
+    proof = lambda it: found[it].proof if it in found else 0
+    seconds, crates = longest(names, proof, lambda it: found[it].whole() - found[it].proof if it in found else 0)
+    print(f"sum {sum(found[it].whole() for it in names if it in found) / 60:.0f} processor minutes; not in the table: {', '.join(unknown) or 'none'}")
     print(f"the longest chain, {seconds:.0f} s of processor: {', '.join(f'{it} {proof(it):.0f}' for it in crates)}")
 
 
@@ -166,9 +200,8 @@ class Row:
         self.whole = self.proof + self.tests + sum(edits)
         self.wall, self.edits_wall = span(proof), span([it for it in own if it.is_edit])
 
-    def text(self):
-        numbers = f"{self.lines:6} | {self.proof:4.0f} | {self.tests:5.0f} | {self.count:5} | {self.first:5.0f} | {self.each:4.1f} | {self.again:4.1f} | {self.whole:5.0f}"
-        return re.sub(r"(?<=\|) +0(?:\.0)? (?=\|)", lambda it: " " * len(it[0]), f"| {self.name:20} | {numbers} |")
+    def cost(self):
+        return Cost(self.name, *map(str, (self.lines, self.proof, self.tests, self.count, self.first, self.each, self.again)))
 
 
 def main(folder):
@@ -180,8 +213,8 @@ def main(folder):
     passed, wall, processes = watch(folder)
     names = below(folder)
     rows = {name: Row(folder, name, processes) for name in names}
-    said = ["| crate                |  lines |    P | tests | edits | first |    e |    n |   sum |", "|---|---|---|---|---|---|---|---|---|"]
-    said += [row.text() for row in rows.values()]
+    found = [row.cost() for row in rows.values()]
+    said = table(found)
     seconds, chain = longest(names, lambda it: rows[it].wall, lambda it: rows[it].edits_wall)
     said += [
         "",
@@ -190,7 +223,7 @@ def main(folder):
     ]
     print("\n".join(said))
     if passed:
-        write(said)
+        write(found, said)
     print("passed" if passed else "NOT PASSED")
     if room:
         shutil.rmtree(room, ignore_errors=True)
@@ -200,4 +233,7 @@ def main(folder):
 if __name__ == "__main__":
     if sys.argv[1:] == ["--chain"]:
         sys.exit(tell_chain())
+    if sys.argv[1:] == ["--table"]:
+        print("\n".join(table(costs())))
+        sys.exit(0)
     sys.exit(main(sys.argv[1] if len(sys.argv) > 1 else None))

@@ -1,18 +1,24 @@
 #!/usr/bin/env python3
 """Compiles the units of a library anew, so that an audit confirms them again: for a library that an earlier compiler has filled.
 
-replace.py LIBRARY [FOLDER]: audits the library in the file LIBRARY by `cclib library`. Each unit that is not confirmed is replaced by a
+replace.py LIBRARY [FOLDER], or cclib-replace of an install: audits the library in the file LIBRARY by `cclib library`. Each unit that is not confirmed is replaced by a
 compilation of its own source: the one that the library's file has of it (docs/FORMATS.md), or that of FOLDER/NAME.c. Where the library is
 full (34) it is compacted once and the change is made again. Then all are audited again. A unit whose source is refused stays as it is.
-Says how many were confirmed before and are now; the status is 1 where one is not. The program has to be built (./cclib)."""
+Says how many were confirmed before and are now; the status is 1 where one is not. The program is the one beside it, or that of the
+repository, which has to be built (./cclib)."""
 
 import os
 import subprocess
 import sys
 
-import records
+HERE = os.path.dirname(os.path.realpath(__file__))
+sys.path.insert(1, os.path.join(HERE, "../share/cclib"))
 
-PROGRAM = os.path.join(os.path.dirname(os.path.abspath(__file__)), "../crates/cclib/out/cclib")
+import records  # noqa: E402
+
+PROGRAM = os.path.join(HERE, "cclib")
+if not os.path.exists(PROGRAM):
+    PROGRAM = os.path.join(HERE, "../crates/cclib/out/cclib")
 
 
 def sources(path):

@@ -56,8 +56,9 @@ class Trial:
             os.chmod(f"{self.kit}/bin/{name}", 0o755)
         self.write("WHAT", "a toolchain that sleeps")
         subprocess.check_call(["git", "clone", "-q", TOP, self.clone])
-        for name in ("cclib", "prove-below"):
-            shutil.copy(f"{TOP}/{name}", self.clone)
+        os.makedirs(f"{self.clone}/tools", exist_ok=True)
+        for name in ("cclib", "prove-below", "tools/costs.txt"):
+            shutil.copy(f"{TOP}/{name}", f"{self.clone}/{name}")
         self.how = {"cwd": self.clone, "env": {**os.environ, "PATH": f"{self.kit}/bin:{os.environ['PATH']}"}, "stdin": subprocess.DEVNULL}
         self.how |= {"stdout": subprocess.PIPE, "stderr": subprocess.PIPE, "text": True}
 
@@ -88,11 +89,16 @@ class Trial:
         return subprocess.Popen(WORDS, **self.how)
 
     def ends(self, started, status=0, said=""):
-        """Waits for a start, which has to end with this status, and with these words among what it said."""
+        """Waits for a start, which has to end with this status, and with these words among what it said; None: it says nothing."""
         out, errors = started.communicate(timeout=120)
         assert (started.returncode, out) == (status, "answer\n" if status == 0 else ""), (started.returncode, out, errors)
-        assert said in errors, errors
+        assert said in errors if said is not None else errors == "", errors
         return self.proved()
+
+    def is_at_once(self):
+        """Whether the program runs without a word, and nothing is proved."""
+        self.set()
+        return self.ends(self.start(), said=None) == []
 
     def at_work(self):
         """Returns how many proofs go on."""
@@ -105,19 +111,57 @@ def behind_a_change(it):
     proved = it.ends(it.start())
     assert sorted(proved) == sorted(ALL)
     assert all(stand_on(proved[at]) <= {*proved[: at + 1]} for at in range(len(proved)))
-    it.set()
-    assert it.ends(it.start()) == []
+    assert it.is_at_once()
     it.edit("cc_answers")
     assert sorted(it.ends(it.start())) == sorted(above("cc_answers"))
-    it.set()
     os.utime(f"{it.clone}/crates/cc_words/src/lib.rt")
-    assert it.ends(it.start(), said="built") == []
+    assert it.is_at_once()
+    it.set()
     os.remove(f"{it.clone}/crates/cc_submit/specs/Lib.antt")
     assert sorted(it.ends(it.start())) == sorted(above("cc_submit"))
     it.set()
     shutil.rmtree(f"{it.clone}/crates/cclib/out/rlib/cc_task.rlib")
-    os.utime(f"{it.clone}/crates.txt")
-    assert it.ends(it.start()) == ["cc_task"]
+    assert it.is_at_once()
+    it.edit("cc_submit")
+    assert sorted(it.ends(it.start())) == sorted({"cc_task"} | above("cc_submit"))
+    it.revert()
+    it.set()
+    it.ends(it.start())
+
+
+def what_no_time_says(it):
+    """A text with an older time than the program, as `cp -p` or an archive brings it; tests; a program that is gone, or another one."""
+    assert it.is_at_once()
+    it.edit("tests_core")
+    assert it.is_at_once()
+    it.edit("cc_submit")
+    os.utime(f"{it.clone}/crates/cc_submit/src/lib.rt", (0, 0))
+    assert sorted(it.ends(it.start(), said="proving")) == sorted(above("cc_submit"))
+    program = f"{it.clone}/crates/cclib/out/cclib"
+    it.set()
+    os.remove(program)
+    assert it.ends(it.start(), said="built") == []
+    with open(program, "w", encoding="utf-8") as file:
+        file.write("#!/bin/sh\necho another\n")
+    assert it.ends(it.start(), said="built") == []
+    it.revert()
+    it.set()
+    it.ends(it.start())
+
+
+def what_costs_say(it):
+    """Costs that are no numbers, or not there: the order of what is begun is another, and all is proved."""
+    costs = f"{it.clone}/tools/costs.txt"
+    for text in ("cc_task 40 ~150 -\ncc_script\n\n", None):
+        os.remove(costs)
+        if text:
+            with open(costs, "w", encoding="utf-8") as file:
+                file.write(text)
+        it.edit("cc_task")
+        it.set()
+        assert sorted(it.ends(it.start())) == sorted(above("cc_task"))
+        if text is None:
+            shutil.copy(f"{TOP}/tools/costs.txt", costs)
     it.revert()
     it.set()
     it.ends(it.start())
@@ -130,15 +174,21 @@ def what_fails(it):
         it.set(0.3, fails)
         it.ends(it.start(), 1, "cc_script could not be proved and built")
     it.revert()
+    it.edit("cc_script")
     it.set(2)
     started = it.start()
     while not it.proved():
         time.sleep(0.05)
-    it.edit("cc_task")
-    it.revert()
+    with open(f"{it.clone}/crates/cc_script/src/lib.rt", "r+", encoding="utf-8") as file:
+        text = file.read()
+        file.seek(0)
+        file.write(text)
     it.ends(started, 1, "was changed during its proof")
     it.set()
-    assert "cc_task" in it.ends(it.start())
+    assert "cc_script" in it.ends(it.start())
+    it.revert()
+    it.set()
+    it.ends(it.start())
 
 
 def what_ends_it(it):
@@ -174,6 +224,6 @@ def what_ends_it(it):
 if __name__ == "__main__":
     with tempfile.TemporaryDirectory() as work:
         trial = Trial(work)
-        for part in (behind_a_change, what_fails, what_ends_it):
+        for part in (behind_a_change, what_no_time_says, what_costs_say, what_fails, what_ends_it):
             part(trial)
             print(f"{part.__name__}: as it should be")

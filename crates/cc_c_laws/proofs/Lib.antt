@@ -6,6 +6,7 @@
 pub mod Lasting
 pub mod Steps
 pub mod Exact
+pub mod Checked
 pub mod Errors
 pub mod Named
 pub mod Held

@@ -2,6 +2,8 @@
 pub mod Outcome
 -- what a program does: the meaning of C
 pub mod Meaning
+-- what a checked program shows
+pub mod Checked
 -- the meaning of one function
 pub mod Function
 -- what the names in a function's body lead to

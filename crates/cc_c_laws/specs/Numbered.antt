@@ -1,5 +1,6 @@
--- The meaning of a unit by number, as the passes of the compiler speak of it: functions and objects by their numbers, and no causes.
-use Rattle.std.specs.Prelude.{◌≡◌, ℕ, List, [], ◌∷◌, length, map, unwrap_or, slice_get}
+-- The meaning of a unit by number in a mode, as the passes of the compiler speak of it: functions and objects by their numbers, and no
+-- causes.
+use Rattle.std.specs.Prelude.{◌≡◌, ℕ, if◌then◌else◌, List, [], ◌∷◌, length, map, unwrap_or, slice_get}
 use Rattle.cc_resolve.specs.Tree.{External, Source}
 use Rattle.cc_resolve.specs.Typed.{IsTyped}
 use Rattle.cc_simulation.specs.Behavior as runs
@@ -7,6 +8,9 @@ use Rattle.cc_simulation.specs.World.{Object, Size, size_of, World, Effect, Give
 use Rattle.cc_simulation.specs.Meaning.{Meaning}
 use Rattle.cc_c_laws.specs.Outcome as outcome
 use Rattle.cc_c_laws.specs.Meaning.{Global, functions, initial_globals, source_behavior}
+use Rattle.cc_c_laws.specs.Checked.{stays, behavior, checked_behavior}
+use Rattle.cc_c_laws.specs.declared.cause.Cause.{Cause}
+use Rattle.cc_c_laws.specs.declared.mode.Mode.{Mode}
 use Rattle.cc_c_laws.specs.Function as by_name
 use Rattle.cc_c_laws.specs.Function.{Shared, call_function, body_of_function}
 use Rattle.cc_c_laws.specs.Resolved.{arities}
@@ -41,18 +45,22 @@ objects_in unit = map size_of (objects_of (initial_globals unit))
 
 -- ---- calls by number
 
+-- a call that goes wrong: if it goes on for ever it is never finished
+abbrev pub gone_wrong : Mode → Cause → (output : List ℕ) → Effect
+gone_wrong mode cause output = if stays mode cause then Unfinished output else Failed output
+
 -- what a call comes to, without names and cause
-abbrev pub numbered : by_name.Effect by_name.Answer → Effect
-numbered (by_name.Answers a left) = Gives (record { value = a.word; world = world_of a.shared }) left
-numbered (by_name.Unfinished output) = Unfinished output
-numbered (by_name.Failed cause output) = Failed output
+abbrev pub numbered : Mode → by_name.Effect by_name.Answer → Effect
+numbered mode (by_name.Answers a left) = Gives (record { value = a.word; world = world_of a.shared }) left
+numbered mode (by_name.Unfinished output) = Unfinished output
+numbered mode (by_name.Failed cause output) = gone_wrong mode cause output
 
 -- a call of function f, and its body after the call's step
-abbrev pub call_in : List External → (n opened f : ℕ) → List ℕ → World → Effect
-call_in unit n opened f ws h = numbered (call_function unit n opened f ws (shared_in unit h))
+abbrev pub call_in : Mode → List External → (n opened f : ℕ) → List ℕ → World → Effect
+call_in mode unit n opened f ws h = numbered mode (call_function unit n opened f ws (shared_in unit h))
 
-abbrev pub body_in : List External → (n opened f : ℕ) → List ℕ → World → Effect
-body_in unit n opened f ws h = numbered (body_of_function unit n opened f ws (shared_in unit h))
+abbrev pub body_in : Mode → List External → (n opened f : ℕ) → List ℕ → World → Effect
+body_in mode unit n opened f ws h = numbered mode (body_of_function unit n opened f ws (shared_in unit h))
 
 -- how many parameters function f has
 abbrev pub arity_in : List External → ℕ → ℕ
@@ -60,23 +68,23 @@ arity_in unit f = unwrap_or (slice_get (arities unit) f) 0
 
 -- ---- a unit's meaning
 
--- a meaning as the passes know one is that of a unit
-pub record IsMeaningOf (unit : List External) (meaning : Meaning) : Type 0 where
+-- a meaning as the passes know one is that of a unit in a mode
+pub record IsMeaning (mode : Mode) (unit : List External) (meaning : Meaning) : Type 0 where
   pub functions : meaning.functions ≡ length (functions unit)
   pub arity : meaning.arity ≡ arity_in unit
   pub objects : meaning.objects ≡ objects_in unit
-  pub call : meaning.call ≡ call_in unit
-  pub body : meaning.body ≡ body_in unit
+  pub call : meaning.call ≡ call_in mode unit
+  pub body : meaning.body ≡ body_in mode unit
 
--- each typed unit has one
+-- each typed unit has one in each mode
 abbrev pub TypedUnitsHaveMeanings : Type 0
-TypedUnitsHaveMeanings = (unit : List External) → IsTyped unit → (meaning : Meaning) × IsMeaningOf unit meaning
+TypedUnitsHaveMeanings = (mode : Mode) (unit : List External) → IsTyped unit → (meaning : Meaning) × IsMeaning mode unit meaning
 
 -- by number a call and a body do what they do by name, where the objects have the names of the unit's
 abbrev pub CallsAreNumbered : Type 0
-CallsAreNumbered = (unit : List External) (n opened f : ℕ) (ws : List ℕ) (h : Shared) → names_of h.globals ≡ names_of (initial_globals unit)
-    → (call_in unit n opened f ws (world_of h) ≡ numbered (call_function unit n opened f ws h))
-    × (body_in unit n opened f ws (world_of h) ≡ numbered (body_of_function unit n opened f ws h))
+CallsAreNumbered = (mode : Mode) (unit : List External) (n opened f : ℕ) (ws : List ℕ) (h : Shared) → names_of h.globals ≡ names_of (initial_globals unit)
+    → (call_in mode unit n opened f ws (world_of h) ≡ numbered mode (call_function unit n opened f ws h))
+    × (body_in mode unit n opened f ws (world_of h) ≡ numbered mode (body_of_function unit n opened f ws h))
 
 -- ---- programs
 
@@ -97,5 +105,10 @@ outcome_by_number (Failed output) = record { stop = runs.Wrong; output = output 
 
 -- a program's run is the call of main by its number
 abbrev pub ProgramsAreNumbered : Type 0
-ProgramsAreNumbered = (source : Source) → HasMain source.externals → (input : List ℕ) (n : ℕ)
-    → without_cause (source_behavior source input n) ≡ outcome_by_number (call_in source.externals n 0 (main_of source.externals) [] (world_of (first_shared source.externals input)))
+ProgramsAreNumbered = (mode : Mode) (source : Source) → HasMain source.externals → (input : List ℕ) (n : ℕ)
+    → without_cause (behavior mode source input n) ≡ outcome_by_number (call_in mode source.externals n 0 (main_of source.externals) [] (world_of (first_shared source.externals input)))
+
+-- what follows a checked program follows its source
+abbrev pub CheckedFollows : Type 0
+CheckedFollows = (source : Source) (input : List ℕ) (z : ℕ → runs.Outcome ℕ)
+    → runs.Follows (λ n. without_cause (checked_behavior source input n)) z → runs.Follows (λ n. without_cause (source_behavior source input n)) z

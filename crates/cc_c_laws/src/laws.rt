@@ -1,8 +1,9 @@
 // What holds of the meaning of every program.
 
 ghost use Rattle.cc_c_laws.specs.Calls.{BodiesGoOn, BodiesKeepObjects, CallsAreEffects, CallsGoOn, CallsKeepObjects, FunctionsAreNumbered, ObjectsAreNumbered, ObjectsAreSized, ProgramsCallMain, TypedUnitsHaveMain};
+ghost use Rattle.cc_c_laws.specs.Checked.{ProgramsAreChecked};
 ghost use Rattle.cc_c_laws.specs.Function.{TypedUnitsHaveMeaning, RunsGoOn};
-ghost use Rattle.cc_c_laws.specs.Numbered.{CallsAreNumbered, ProgramsAreNumbered, TypedUnitsHaveMeanings};
+ghost use Rattle.cc_c_laws.specs.Numbered.{CallsAreNumbered, CheckedFollows, ProgramsAreNumbered, TypedUnitsHaveMeanings};
 ghost use Rattle.cc_c_laws.specs.Resolved.{FunctionsAreResolved};
 
 /// Each function of a typed unit has its meaning: a call with no step left is unfinished; where 1,024 calls are open a call
@@ -55,7 +56,14 @@ pub fn functions_are_resolved()
     ensures { FunctionsAreResolved }
 {}
 
-/// Each typed unit has a meaning by number, which its calls, its bodies and its run have by name.
+/// A checked program shows what the source shows as long as that is right. If the source goes wrong, for another cause than depth, it
+/// goes on for ever with the output so far. It goes wrong only if the source is too deep. What follows it follows the source.
+pub fn programs_are_checked()
+    ensures checked { ProgramsAreChecked }
+    ensures follows { CheckedFollows }
+{}
+
+/// In each mode a typed unit has a meaning by number, which its calls, its bodies and its run have by name.
 pub fn units_have_meanings()
     ensures meaning { TypedUnitsHaveMeanings }
     ensures calls { CallsAreNumbered }

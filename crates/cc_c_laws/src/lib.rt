@@ -1,16 +1,18 @@
 //! The meaning of C: what a typed unit does on an input within a number of steps. It stands in `specs/`, and nothing here runs a
 //! program: `cc_meaning` has the interpreter, which is exactly it, and the passes follow it.
 //!
-//! `cause` has why a program goes wrong; `laws` has what holds of every program: the functions there do nothing, and the contract of
-//! each is a law of these definitions.
+//! `cause` has why a program goes wrong, `mode` what a compiled program then owes; `laws` has what holds of every program: the
+//! functions there do nothing, and the contract of each is a law of these definitions.
 #![tactic(auto)]
 
 mod cause;
 mod laws;
+mod mode;
 
 pub use cause::Cause;
 pub use laws::{
     calls_are_effects, calls_go_on, calls_keep_objects, functions_are_resolved,
-    functions_have_meaning, names_have_numbers, programs_call_main, runs_go_on,
-    units_have_meanings,
+    functions_have_meaning, names_have_numbers, programs_are_checked, programs_call_main,
+    runs_go_on, units_have_meanings,
 };
+pub use mode::Mode;

@@ -12,7 +12,7 @@ use Rattle.cc_words.specs.declared.operators.Binary as binary
 use Rattle.cc_words.specs.declared.operators.Binary.TheVariants as two
 use Rattle.cc_words.proofs.Laws.{le_s-lt_s, le_u-lt_u, lt_s_cases, lt_u_cases}
 use Rattle.cc_simulation.specs.World.{World}
-use Rattle.cc_simulation.specs.Run.{Goes, tried}
+use Rattle.cc_simulation.specs.Run.{Goes, Fails, tried}
 use Rattle.cc_cminor.specs.Cminor.{Expression, Constant, Local, Unary, Binary, Load, then_value, value, Statement, If, Continuation, config, chosen, moves}
 use Rattle.cc_cminor.specs.internal.Lowering.{is_nothing, is_constant, compared, is_opposite, condition, is_reversed, branch}
 
@@ -133,3 +133,70 @@ branch_moves x a b κ l h w is = by (is_reversed x) (tests x l h w is)
     by false t =
         ap (λ o. tried o (λ v. Goes (config (chosen v a b) κ l h))) t.is
         ∙ ap (λ s. Goes (config s κ l h)) (chosen_by t.word a b ∙ ap (λ c. if c then a else b) t.same ∙ sym (chosen_by w a b))
+
+-- ---- what is tested has no value if the expression has none
+
+two_none : (o p : Option ℕ) (f g : ℕ → ℕ → ℕ) → then_value o (λ a. then_value p (λ b. Some (f a b))) ≡ None → then_value o (λ a. then_value p (λ b. Some (g a b))) ≡ None
+two_none None p f g e = refl
+two_none (Some a) None f g e = refl
+two_none (Some a) (Some b) f g e = absurd (cc)
+
+two_swapped : (o p : Option ℕ) (f g : ℕ → ℕ → ℕ) → then_value o (λ a. then_value p (λ b. Some (f a b))) ≡ None → then_value p (λ b. then_value o (λ a. Some (g b a))) ≡ None
+two_swapped None None f g e = refl
+two_swapped None (Some b) f g e = refl
+two_swapped (Some a) None f g e = refl
+two_swapped (Some a) (Some b) f g e = absurd (cc)
+
+left_none : (o p : Option ℕ) (b : ℕ) (f : ℕ → ℕ → ℕ) → p ≡ Some b → then_value o (λ a. then_value p (λ b. Some (f a b))) ≡ None → o ≡ None
+left_none None p b f is e = refl
+left_none (Some a) None b f is e = absurd (cc)
+left_none (Some a) (Some c) b f is e = absurd (cc)
+
+one_none : (o : Option ℕ) (f : ℕ → ℕ) → then_value o (λ a. Some (f a)) ≡ None → o ≡ None
+one_none None f e = refl
+one_none (Some a) f e = absurd (cc)
+
+nothing_value : (y : Expression) (l : ℕ → ℕ) (h : World) → is_nothing y ≡ true → (b : ℕ) × (value y l h ≡ Some b)
+nothing_value (Constant n) l h e = (n, refl)
+nothing_value (Local x) l h e = absurd (cc)
+nothing_value (Unary op a) l h e = absurd (cc)
+nothing_value (Binary op a c) l h e = absurd (cc)
+nothing_value (Load width o a) l h e = absurd (cc)
+
+different_none : (x y : Expression) (l : ℕ → ℕ) (h : World) (f : ℕ → ℕ → ℕ) → then_value (value x l h) (λ a. then_value (value y l h) (λ b. Some (f a b))) ≡ None → value (if is_nothing y then x else Binary two.Xor x y) l h ≡ None
+different_none x y l h f e = by (is_nothing y) refl
+  where
+    by : (n : Bool) → is_nothing y ≡ n → value (if n then x else Binary two.Xor x y) l h ≡ None
+    by true n = let b = nothing_value y l h n in left_none (value x l h) (value y l h) b.0 f b.1 e
+    by false n = two_none (value x l h) (value y l h) f (λ a b. xor a b) e
+
+signed_none : (c : Bool) (x y : Expression) (l : ℕ → ℕ) (h : World) → value (Binary two.LeS x y) l h ≡ None → value (if c then Binary two.LeS x y else Binary two.LtS y x) l h ≡ None
+signed_none true x y l h e = e
+signed_none false x y l h e = two_swapped (value x l h) (value y l h) (λ a b. le_s a b) (λ b a. lt_s b a) e
+
+unsigned_none : (c : Bool) (x y : Expression) (l : ℕ → ℕ) (h : World) → value (Binary two.LeU x y) l h ≡ None → value (if c then Binary two.LeU x y else Binary two.LtU y x) l h ≡ None
+unsigned_none true x y l h e = e
+unsigned_none false x y l h e = two_swapped (value x l h) (value y l h) (λ a b. le_u a b) (λ b a. lt_u b a) e
+
+compared_none : (op : binary.Binary) (x y : Expression) (l : ℕ → ℕ) (h : World) → value (Binary op x y) l h ≡ None → value (compared op x y) l h ≡ None
+compared_none two.LeS x y l h e = signed_none (is_constant y) x y l h e
+compared_none two.LeU x y l h e = unsigned_none (is_constant y) x y l h e
+compared_none two.Eq x y l h e = different_none x y l h (λ a b. truth_value (a == b)) e
+compared_none two.Ne x y l h e = different_none x y l h (λ a b. truth_value (not (a == b))) e
+compared_none op x y l h e = e
+
+condition_none : (x : Expression) (l : ℕ → ℕ) (h : World) → value x l h ≡ None → value (condition x) l h ≡ None
+condition_none (Constant n) l h e = e
+condition_none (Local i) l h e = e
+condition_none (Load width o a) l h e = e
+condition_none (Unary one.IsZero a) l h e = condition_none a l h (one_none (value a l h) (λ w. is_zero w) e)
+condition_none (Unary one.Neg a) l h e = e
+condition_none (Unary one.Complement a) l h e = e
+condition_none (Binary op a b) l h e = compared_none op a b l h e
+
+pub branch_fails : (x : Expression) (a b : Statement) (κ : Continuation) (l : ℕ → ℕ) (h : World) → value x l h ≡ None → moves (branch x a b) κ l h ≡ Fails
+branch_fails x a b κ l h e = by (is_reversed x)
+  where
+    by : (r : Bool) → moves (if r then If (condition x) b a else If (condition x) a b) κ l h ≡ Fails
+    by true = ap (λ o. tried o (λ v. Goes (config (chosen v b a) κ l h))) (condition_none x l h e)
+    by false = ap (λ o. tried o (λ v. Goes (config (chosen v a b) κ l h))) (condition_none x l h e)

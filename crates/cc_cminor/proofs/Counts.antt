@@ -247,7 +247,7 @@ module _ (g : Layout) where
       let a = assigned_size target (applied_operator op) (value_type (types_in v) e) v (λ k f. using g v k e f) (12 * tokens e) (λ k m f h. let b = using_size e v k m f h in omega arith) in omega arith
   performed_size (Step op target) v =
       let a = assigned_size target (applied_operator (step_operator op)) Int v (λ k f. f (Constant 1)) 1 (λ k m f h. let b = h (Constant 1) in omega arith) in omega arith
-  performed_size (Evaluate e) v = let a = using_size e v (free v) 1 (λ x. Skip) (λ x. omega arith) in omega arith
+  performed_size (Evaluate e) v = let a = put_size e v (free v) in omega arith
 
   optional_size : (a : Option Action) (v : Environment) → statement_size (performed_optional g v a) ≤ 12 * optional_tokens a + 1
   optional_size None v = omega arith

@@ -29,7 +29,7 @@ use Rattle.cc_words.specs.declared.operators.Binary as binary
 use Rattle.cc_words.specs.declared.operators.Binary.TheVariants as two
 use Rattle.cc_cminor.specs.Cminor.{Expression, Constant, Local, Unary, Binary, Load, Statement, Skip, Set, Store, Sequence, If, Loop, Block, Exit, Return}
 use Rattle.cc_cminor.specs.Code.{in_sequence}
-use Rattle.cc_cminor.specs.Numbers.{ExpressionFits, ExpressionsFit, StatementFits}
+use Rattle.cc_cminor.specs.Numbers.{ExpressionBelow, ExpressionsBelow, StatementBelow}
 use Rattle.cc_cminor.specs.internal.Lowering.{free, object_of, width_of, read_of, write_to, variable_of, variable_set, single_or, unary_of, operation_of, binary_of, is_truth, truth_of, is_nothing, is_constant, compared, condition, is_reversed, branch, Kind, Conjunction, Disjunction, Strict, kind, is_plain, are_plain, plain, all_plain, used, count, locals_from, last_value, invoked, called_on, connected, put_expr, put_all, using, using_or, combined, assigned, performed, performed_optional, initialised, declared_code, started, leaving, lowered, all_lowered, body_code}
 use Rattle.cc_cminor.proofs.Known.{behind_layout, beginning_layout}
 use Rattle.cc_cminor.proofs.Tokens.{tokens, tokens_all, tokens_or, target_tokens, action_tokens, optional_tokens}
@@ -71,34 +71,34 @@ below_or n (Some i) h le = omega arith
 
 -- ---- operators
 
-single_fits : (op : Option UnaryOperation) (e : Expression) → ExpressionFits e → ExpressionFits (single_or op e)
+single_fits : (op : Option UnaryOperation) (e : Expression) → ExpressionBelow 1024 e → ExpressionBelow 1024 (single_or op e)
 single_fits None e h = h
 single_fits (Some single.Negate) e h = h
 single_fits (Some single.Complement) e h = h
 single_fits (Some single.IsZero) e h = h
 
-unary_fits : (op : UnaryOperator) (e : Expression) → ExpressionFits e → ExpressionFits (unary_of op e)
+unary_fits : (op : UnaryOperator) (e : Expression) → ExpressionBelow 1024 e → ExpressionBelow 1024 (unary_of op e)
 unary_fits op e h = single_fits (unary_operation op) e h
 
-operation_fits : (op : BinaryOperation) (a b : Expression) → ExpressionFits a → ExpressionFits b → ExpressionFits (operation_of op a b)
+operation_fits : (op : BinaryOperation) (a b : Expression) → ExpressionBelow 1024 a → ExpressionBelow 1024 b → ExpressionBelow 1024 (operation_of op a b)
 operation_fits word.GreaterSigned a b p q = (q, p)
 operation_fits word.GreaterUnsigned a b p q = (q, p)
 operation_fits word.GreaterOrEqualSigned a b p q = (q, p)
 operation_fits word.GreaterOrEqualUnsigned a b p q = (q, p)
 operation_fits op a b p q = (p, q)
 
-binary_fits : (op : BinaryOperator) (t : Scalar) (a b : Expression) → ExpressionFits a → ExpressionFits b → ExpressionFits (binary_of op t a b)
+binary_fits : (op : BinaryOperator) (t : Scalar) (a b : Expression) → ExpressionBelow 1024 a → ExpressionBelow 1024 b → ExpressionBelow 1024 (binary_of op t a b)
 binary_fits op t a b p q = operation_fits (operation op t) a b p q
 
-combined_fits : (op : Option BinaryOperator) (t u : Scalar) (old e : Expression) → ExpressionFits old → ExpressionFits e → ExpressionFits (combined op t u old e)
+combined_fits : (op : Option BinaryOperator) (t u : Scalar) (old e : Expression) → ExpressionBelow 1024 old → ExpressionBelow 1024 e → ExpressionBelow 1024 (combined op t u old e)
 combined_fits None t u old e p q = q
 combined_fits (Some op) t u old e p q = binary_fits op (working_type op t u) old e p q
 
-read_fits : (o : Option ℕ) (n : ℕ) → Below 1024 o → n < 65536 → ExpressionFits (read_of o n)
+read_fits : (o : Option ℕ) (n : ℕ) → Below 1024 o → n < 65536 → ExpressionBelow 1024 (read_of o n)
 read_fits None n h i = (i, tt)
 read_fits (Some x) n h i = h
 
-write_fits : (o : Option ℕ) (n : ℕ) (e : Expression) → Below 1024 o → n < 65536 → ExpressionFits e → StatementFits (write_to o n e)
+write_fits : (o : Option ℕ) (n : ℕ) (e : Expression) → Below 1024 o → n < 65536 → ExpressionBelow 1024 e → StatementBelow 1024 (write_to o n e)
 write_fits None n e h i f = (i, tt, f)
 write_fits (Some x) n e h i f = (h, f)
 
@@ -106,9 +106,9 @@ write_fits (Some x) n e h i f = (h, f)
 
 abbrev AllFit : List Statement → Type 0
 AllFit [] = Unit {0}
-AllFit (s ∷ rest) = StatementFits s × AllFit rest
+AllFit (s ∷ rest) = StatementBelow 1024 s × AllFit rest
 
-sequence_fits : (all : List Statement) → AllFit all → StatementFits (in_sequence all)
+sequence_fits : (all : List Statement) → AllFit all → StatementBelow 1024 (in_sequence all)
 sequence_fits [] h = tt
 sequence_fits (a ∷ []) h = h.0
 sequence_fits (a ∷ b ∷ rest) h = (h.0, sequence_fits (b ∷ rest) h.1)
@@ -119,18 +119,18 @@ append_fits (s ∷ ss) ts h i = (h.0, append_fits ss ts h.1 i)
 
 -- a statement takes a value whatever it is
 abbrev Takes : (Expression → Statement) → Type 0
-Takes f = (x : Expression) → ExpressionFits x → StatementFits (f x)
+Takes f = (x : Expression) → ExpressionBelow 1024 x → StatementBelow 1024 (f x)
 
-used_fits : (b : Bool) (e : Expression) (code : Statement) (k : ℕ) (f : Expression → Statement) → ExpressionFits e → StatementFits code → k < 1024 → Takes f → StatementFits (used b e code k f)
+used_fits : (b : Bool) (e : Expression) (code : Statement) (k : ℕ) (f : Expression → Statement) → ExpressionBelow 1024 e → StatementBelow 1024 code → k < 1024 → Takes f → StatementBelow 1024 (used b e code k f)
 used_fits true e code k f p c lt h = h e p
 used_fits false e code k f p c lt h = (c, h (Local k) lt)
 
-last_fits : (es : List Expression) → ExpressionsFit es → ExpressionFits (last_value es)
+last_fits : (es : List Expression) → ExpressionsBelow 1024 es → ExpressionBelow 1024 (last_value es)
 last_fits [] h = tt
 last_fits (e ∷ []) h = h.0
 last_fits (e ∷ f ∷ rest) h = last_fits (f ∷ rest) h.1
 
-locals_fit : (k n : ℕ) → k + n ≤ 1024 → ExpressionsFit (locals_from k n)
+locals_fit : (k n : ℕ) → k + n ≤ 1024 → ExpressionsBelow 1024 (locals_from k n)
 locals_fit k zero le = tt
 locals_fit k (suc n) le = ((let lt : k < 1024 = omega arith in lt), locals_fit (suc k) n (omega arith))
 
@@ -160,7 +160,7 @@ module _ (unit : List External) (g : Layout) (functions : length (arities unit) 
   local_fits : (v : Environment) (x : List ℕ) → free v ≤ 1024 → Below 1024 (number_in v.locals x)
   local_fits v x le = below_more (length v.locals) 1024 (number_in v.locals x) le (number_below v.locals x)
 
-  plain_fits : (e : Expr) (v : Environment) → free v ≤ 1024 → ExpressionFits (plain g v e)
+  plain_fits : (e : Expr) (v : Environment) → free v ≤ 1024 → ExpressionBelow 1024 (plain g v e)
   plain_fits (Number t n) v le = tt
   plain_fits (Variable x) v le = read_fits (number_in v.locals x.text) (object_of g x.text) (local_fits v x.text le) (object_fits x.text)
   plain_fits (Element x e) v le = (object_fits x.text, plain_fits e v le)
@@ -172,35 +172,35 @@ module _ (unit : List External) (g : Layout) (functions : length (arities unit) 
       binary_fits op (working_type op (value_type (types_in v) a) (value_type (types_in v) b)) (plain g v a) (plain g v b) (plain_fits a v le) (plain_fits b v le)
   plain_fits (Conditional c a b) v le = tt
 
-  all_plain_fit : (es : Exprs) (v : Environment) → free v ≤ 1024 → ExpressionsFit (all_plain g v es)
+  all_plain_fit : (es : Exprs) (v : Environment) → free v ≤ 1024 → ExpressionsBelow 1024 (all_plain g v es)
   all_plain_fit none v le = tt
   all_plain_fit (more e rest) v le = (plain_fits e v le, all_plain_fit rest v le)
 
-  invoked_fits : (c : Callee) (k n : ℕ) (es : List Expression) → k < 1024 → IsCalled (arities unit) c n → ExpressionsFit es → StatementFits (invoked c k es)
+  invoked_fits : (c : Callee) (k n : ℕ) (es : List Expression) → k < 1024 → IsCalled (arities unit) c n → ExpressionsBelow 1024 es → StatementBelow 1024 (invoked c k es)
   invoked_fits WriteWord k n es lt h i = (last_fits es i, (lt, tt))
   invoked_fits ReadWord k n es lt h i = lt
   invoked_fits (Defined f) k n es lt h i = (lt, (let in_unit = slice_get_within (arities unit) f n h in omega arith), i)
 
-  called_fits : (b : Bool) (es : List Expression) (code : Statement) (k n : ℕ) (c : Callee) → ExpressionsFit es → StatementFits code → k < 1024 → k + n ≤ 1024 → IsCalled (arities unit) c n → StatementFits (called_on b es code k n (λ us. invoked c k us))
+  called_fits : (b : Bool) (es : List Expression) (code : Statement) (k n : ℕ) (c : Callee) → ExpressionsBelow 1024 es → StatementBelow 1024 code → k < 1024 → k + n ≤ 1024 → IsCalled (arities unit) c n → StatementBelow 1024 (called_on b es code k n (λ us. invoked c k us))
   called_fits true es code k n c i p lt le h = invoked_fits c k n es lt h i
   called_fits false es code k n c i p lt le h = (p, invoked_fits c k n (locals_from k n) lt h (locals_fit k n le))
 
-  equality_fits : (a b : Expression) → ExpressionFits a → ExpressionFits b → (n : Bool) → ExpressionFits (if n then a else Binary two.Xor a b)
+  equality_fits : (a b : Expression) → ExpressionBelow 1024 a → ExpressionBelow 1024 b → (n : Bool) → ExpressionBelow 1024 (if n then a else Binary two.Xor a b)
   equality_fits a b p q true = p
   equality_fits a b p q false = (p, q)
 
-  either_fits : (op under : binary.Binary) (a b : Expression) → ExpressionFits a → ExpressionFits b → (c : Bool) → ExpressionFits (if c then Binary op a b else Binary under b a)
+  either_fits : (op under : binary.Binary) (a b : Expression) → ExpressionBelow 1024 a → ExpressionBelow 1024 b → (c : Bool) → ExpressionBelow 1024 (if c then Binary op a b else Binary under b a)
   either_fits op under a b p q true = (p, q)
   either_fits op under a b p q false = (q, p)
 
-  compared_fits : (op : binary.Binary) (a b : Expression) → ExpressionFits a → ExpressionFits b → ExpressionFits (compared op a b)
+  compared_fits : (op : binary.Binary) (a b : Expression) → ExpressionBelow 1024 a → ExpressionBelow 1024 b → ExpressionBelow 1024 (compared op a b)
   compared_fits two.LeS a b p q = either_fits two.LeS two.LtS a b p q (is_constant b)
   compared_fits two.LeU a b p q = either_fits two.LeU two.LtU a b p q (is_constant b)
   compared_fits two.Eq a b p q = equality_fits a b p q (is_nothing b)
   compared_fits two.Ne a b p q = equality_fits a b p q (is_nothing b)
   compared_fits op a b p q = (p, q)
 
-  condition_fits : (e : Expression) → ExpressionFits e → ExpressionFits (condition e)
+  condition_fits : (e : Expression) → ExpressionBelow 1024 e → ExpressionBelow 1024 (condition e)
   condition_fits (Constant w) h = tt
   condition_fits (Local x) h = h
   condition_fits (Load width o a) h = h
@@ -209,22 +209,22 @@ module _ (unit : List External) (g : Layout) (functions : length (arities unit) 
   condition_fits (Unary one.Complement a) h = h
   condition_fits (Binary op a b) h = compared_fits op a b h.0 h.1
 
-  branch_fits : (e : Expression) (a b : Statement) → ExpressionFits e × StatementFits a × StatementFits b → StatementFits (branch e a b)
+  branch_fits : (e : Expression) (a b : Statement) → ExpressionBelow 1024 e × StatementBelow 1024 a × StatementBelow 1024 b → StatementBelow 1024 (branch e a b)
   branch_fits e a b h = by (is_reversed e)
     where
-      by : (r : Bool) → StatementFits (if r then If (condition e) b a else If (condition e) a b)
+      by : (r : Bool) → StatementBelow 1024 (if r then If (condition e) b a else If (condition e) a b)
       by true = (condition_fits e h.0, h.2, h.1)
       by false = (condition_fits e h.0, h.1, h.2)
 
   truth_taken : (k : ℕ) → k < 1024 → Takes (λ y. Set k (truth_of y))
   truth_taken k lt = λ x h. (lt, by x h (is_truth x))
     where
-      by : (x : Expression) → ExpressionFits x → (b : Bool) → ExpressionFits (if b then x else Unary one.IsZero (Unary one.IsZero x))
+      by : (x : Expression) → ExpressionBelow 1024 x → (b : Bool) → ExpressionBelow 1024 (if b then x else Unary one.IsZero (Unary one.IsZero x))
       by x h true = h
       by x h false = h
 
-  connected_fits : (kd : Kind) (op : BinaryOperator) (t : Scalar) (p q : Bool) (a b : Expression) (left right here : Statement) (k : ℕ) → suc k < 1024 → ExpressionFits a → ExpressionFits b → StatementFits left → StatementFits right → StatementFits here
-      → StatementFits (connected kd op t p q a b left right here k)
+  connected_fits : (kd : Kind) (op : BinaryOperator) (t : Scalar) (p q : Bool) (a b : Expression) (left right here : Statement) (k : ℕ) → suc k < 1024 → ExpressionBelow 1024 a → ExpressionBelow 1024 b → StatementBelow 1024 left → StatementBelow 1024 right → StatementBelow 1024 here
+      → StatementBelow 1024 (connected kd op t p q a b left right here k)
   connected_fits Conjunction op t p q a b left right here k lt x y l r h =
       used_fits p a left k (λ x. branch x (used q b here k (λ y. Set k (truth_of y))) (Set k (Constant 0))) x l (omega arith)
       (λ e i. branch_fits e (used q b here k (λ y. Set k (truth_of y))) (Set k (Constant 0)) (i, used_fits q b here k (λ y. Set k (truth_of y)) y h (omega arith) (truth_taken k (omega arith)), ((let d : k < 1024 = omega arith in d), tt)))
@@ -236,12 +236,12 @@ module _ (unit : List External) (g : Layout) (functions : length (arities unit) 
       low : k < 1024
       low = omega arith
 
-      by : (both : Bool) → StatementFits (if both then Set k (binary_of op t a b) else Sequence left (used q b right (suc k) (λ y. Set k (binary_of op t (Local k) y))))
+      by : (both : Bool) → StatementBelow 1024 (if both then Set k (binary_of op t a b) else Sequence left (used q b right (suc k) (λ y. Set k (binary_of op t (Local k) y))))
       by true = (low, binary_fits op t a b x y)
       by false = (l, used_fits q b right (suc k) (λ y. Set k (binary_of op t (Local k) y)) y r lt (λ e i. (low, binary_fits op t (Local k) e low i)))
 
   mutual
-    put_fits : (e : Expr) (v : Environment) (k : ℕ) → v.layout ≡ g → ExprResolved (arities unit) v e → free v ≤ 1024 → k + tokens e ≤ 1024 → StatementFits (put_expr g v k e)
+    put_fits : (e : Expr) (v : Environment) (k : ℕ) → v.layout ≡ g → ExprResolved (arities unit) v e → free v ≤ 1024 → k + tokens e ≤ 1024 → StatementBelow 1024 (put_expr g v k e)
     put_fits (Number t n) v k is h f le = ((let lt : k < 1024 = omega arith in lt), tt)
     put_fits (Variable x) v k is h f le = ((let lt : k < 1024 = omega arith in lt), plain_fits (Variable x) v f)
     put_fits (Element x e) v k is h f le =
@@ -269,16 +269,16 @@ module _ (unit : List External) (g : Layout) (functions : length (arities unit) 
     put_all_fit none v k is h f le = tt
     put_all_fit (more e rest) v k is h f le = let t = a_token e in (put_fits e v k is h.0 f (omega arith), put_all_fit rest v (suc k) is h.1 f (omega arith))
 
-  using_fits : (e : Expr) (v : Environment) (k : ℕ) (f : Expression → Statement) → v.layout ≡ g → ExprResolved (arities unit) v e → free v ≤ 1024 → k + tokens e ≤ 1024 → Takes f → StatementFits (using g v k e f)
+  using_fits : (e : Expr) (v : Environment) (k : ℕ) (f : Expression → Statement) → v.layout ≡ g → ExprResolved (arities unit) v e → free v ≤ 1024 → k + tokens e ≤ 1024 → Takes f → StatementBelow 1024 (using g v k e f)
   using_fits e v k f is h fr le i = let t = a_token e in used_fits (is_plain e) (plain g v e) (put_expr g v k e) k f (plain_fits e v fr) (put_fits e v k is h fr le) (omega arith) i
 
-  using_or_fits : (e : Option Expr) (v : Environment) (k w : ℕ) (f : Expression → Statement) → v.layout ≡ g → OptionalResolved (arities unit) v e → free v ≤ 1024 → k + tokens_or e ≤ 1024 → Takes f → StatementFits (using_or g v k w e f)
+  using_or_fits : (e : Option Expr) (v : Environment) (k w : ℕ) (f : Expression → Statement) → v.layout ≡ g → OptionalResolved (arities unit) v e → free v ≤ 1024 → k + tokens_or e ≤ 1024 → Takes f → StatementBelow 1024 (using_or g v k w e f)
   using_or_fits None v k w f is h fr le i = i (Constant w) tt
   using_or_fits (Some e) v k w f is h fr le i = using_fits e v k f is h fr le i
 
   assigned_fits : (target : Target) (v : Environment) (r : ℕ) (f : Scalar → Expression → Expression → Expression) (go : ℕ → (Expression → Statement) → Statement) → v.layout ≡ g → TargetResolved (arities unit) v target
-      → free v + target_tokens target + r ≤ 1024 → ((t : Scalar) (old e : Expression) → ExpressionFits old → ExpressionFits e → ExpressionFits (f t old e))
-      → ((k : ℕ) (f : Expression → Statement) → k + r ≤ 1024 → Takes f → StatementFits (go k f)) → StatementFits (assigned g v target f go)
+      → free v + target_tokens target + r ≤ 1024 → ((t : Scalar) (old e : Expression) → ExpressionBelow 1024 old → ExpressionBelow 1024 e → ExpressionBelow 1024 (f t old e))
+      → ((k : ℕ) (f : Expression → Statement) → k + r ≤ 1024 → Takes f → StatementBelow 1024 (go k f)) → StatementBelow 1024 (assigned g v target f go)
   assigned_fits (AtVariable x) v r f go is h le p i =
       let t : Scalar = target_type (types_in v) (AtVariable x) in
       let fr : free v ≤ 1024 = omega arith in
@@ -294,16 +294,16 @@ module _ (unit : List External) (g : Layout) (functions : length (arities unit) 
             (λ y q. (object_fits x.text, lt, p t (Load (width_of g x.text) (object_of g x.text) (Local (free v))) y (object_fits x.text, lt) q)),
       )
 
-  performed_fits : (a : Action) (v : Environment) → v.layout ≡ g → ActionResolved (arities unit) v a → free v + action_tokens a ≤ 1024 → StatementFits (performed g v a)
+  performed_fits : (a : Action) (v : Environment) → v.layout ≡ g → ActionResolved (arities unit) v a → free v + action_tokens a ≤ 1024 → StatementBelow 1024 (performed g v a)
   performed_fits (Assign op target e) v is h le =
       assigned_fits target v (tokens e) (λ t old new. combined (applied_operator op) t (value_type (types_in v) e) old new) (λ k f. using g v k e f) is h.0 (omega arith)
       (λ t old new p q. combined_fits (applied_operator op) t (value_type (types_in v) e) old new p q) (λ k f fits i. using_fits e v k f is h.1 (omega arith) fits i)
   performed_fits (Step op target) v is h le =
       assigned_fits target v 0 (λ t old new. combined (applied_operator (step_operator op)) t Int old new) (λ k f. f (Constant 1)) is h (omega arith)
       (λ t old new p q. combined_fits (applied_operator (step_operator op)) t Int old new p q) (λ k f fits i. i (Constant 1) tt)
-  performed_fits (Evaluate e) v is h le = using_fits e v (free v) (λ x. Skip) is h (omega arith) le (λ x i. tt)
+  performed_fits (Evaluate e) v is h le = put_fits e v (free v) is h (omega arith) le
 
-  optional_fits : (a : Option Action) (v : Environment) → v.layout ≡ g → OptionalActionResolved (arities unit) v a → free v + optional_tokens a ≤ 1024 → StatementFits (performed_optional g v a)
+  optional_fits : (a : Option Action) (v : Environment) → v.layout ≡ g → OptionalActionResolved (arities unit) v a → free v + optional_tokens a ≤ 1024 → StatementBelow 1024 (performed_optional g v a)
   optional_fits None v is h le = tt
   optional_fits (Some a) v is h le = performed_fits a v is h le
 
@@ -320,12 +320,12 @@ module _ (unit : List External) (g : Layout) (functions : length (arities unit) 
             (initialised_fits d.initial w (free v) is h.0 (omega arith) (omega arith) (omega arith)) (declared_fits t rest w is h.1 (omega arith) (omega arith)),
       )
 
-  started_fits : (first : Beginning) (v : Environment) → v.layout ≡ g → BeginningResolved (arities unit) first v → free v + length (beginning_names first) ≤ 264 → longest_beginning first ≤ 512 → StatementFits (started g first v)
+  started_fits : (first : Beginning) (v : Environment) → v.layout ≡ g → BeginningResolved (arities unit) first v → free v + length (beginning_names first) ≤ 264 → longest_beginning first ≤ 512 → StatementBelow 1024 (started g first v)
   started_fits (Declares t ds) v is h le short =
       let many = length-map ds (λ (d : Declarator). d.name) in sequence_fits (declared_code g t ds v) (declared_fits t ds v is h (omega arith) short)
   started_fits (Performs a) v is h le short = optional_fits a v is h (omega arith)
 
-  leaving_fits : (b : Bool) (i : ℕ) → StatementFits (leaving b i)
+  leaving_fits : (b : Bool) (i : ℕ) → StatementBelow 1024 (leaving b i)
   leaving_fits true i = tt
   leaving_fits false i = tt
 
@@ -351,7 +351,7 @@ module _ (unit : List External) (g : Layout) (functions : length (arities unit) 
   beginning_many (Performs a) v = omega arith
 
   mutual
-    lowered_fits : (st : Stmt) (b : Bool) (v : Environment) → v.layout ≡ g → StmtResolved (arities unit) v st → free v + length (locals_of st) ≤ 264 → longest st ≤ 512 → StatementFits (lowered g b v st)
+    lowered_fits : (st : Stmt) (b : Bool) (v : Environment) → v.layout ≡ g → StmtResolved (arities unit) v st → free v + length (locals_of st) ≤ 264 → longest st ≤ 512 → StatementBelow 1024 (lowered g b v st)
     lowered_fits (tree.Block all) b v is h le short = sequence_fits (all_lowered g b (inner v) all) (all_lowered_fit all b (inner v) is h le short)
     lowered_fits (tree.Local t ds) b v is h le short =
         let many = length-map ds (λ (d : Declarator). d.name) in sequence_fits (declared_code g t ds v) (declared_fits t ds v is h (omega arith) short)
@@ -391,7 +391,7 @@ module _ (unit : List External) (g : Layout) (functions : length (arities unit) 
           all_lowered_fit rest b (behind first v) (behind_layout first v ∙ is) h.1 (omega arith) (omega arith),
         )
 
-  pub body_fits : (v : Environment) (body : Stmts) → v.layout ≡ g → StmtsResolved (arities unit) v body → free v + length (locals body) ≤ 264 → longest_in body ≤ 512 → StatementFits (body_code g v body)
+  pub body_fits : (v : Environment) (body : Stmts) → v.layout ≡ g → StmtsResolved (arities unit) v body → free v + length (locals body) ≤ 264 → longest_in body ≤ 512 → StatementBelow 1024 (body_code g v body)
   body_fits v body is h le short = sequence_fits (all_lowered g false v body) (all_lowered_fit body false v is h le short)
 
 pub parameters_many : (ps : List Parameter) (names : List (List ℕ)) → length (parameter_names ps names) ≡ length ps + length names

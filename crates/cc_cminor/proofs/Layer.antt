@@ -2,6 +2,7 @@
 -- source follows it.
 use Rattle.std.proofs.Common.{◌≡◌, ℕ, zero, suc, List, [], ◌∷◌, ◌++◌, Option, Some, None, option_map, refl, sym, ap, subst}
 use Rattle.cc_ast.specs.Tree.{External}
+use Rattle.cc_c_laws.specs.declared.mode.Mode.{Mode}
 use Rattle.cc_simulation.specs.Behavior.{IsPrefixOf}
 use Rattle.cc_simulation.specs.World.{World, Question, Answer, element, stored}
 use Rattle.cc_simulation.specs.Run.{Move, Goes, Calls, Returns, Fails, tried}
@@ -103,5 +104,5 @@ cminor_is_layer = record {
 }
 
 -- what keeps up follows
-pub follows_of : (unit : List External) (f : ℕ) (s : Statement) → KeepsUp unit f s → FollowsFunction unit f s
-follows_of unit f s keeps meaning is opened below ws h call = tracks_follow meaning cminor_move cminor_output cminor_is_layer f 1 _ (keeps meaning is) opened below ws h call
+pub follows_of : (mode : Mode) (unit : List External) (f : ℕ) (s : Statement) → KeepsUp mode unit f s → FollowsFunction mode unit f s
+follows_of mode unit f s keeps meaning is opened below ws h call = tracks_follow meaning cminor_move cminor_output cminor_is_layer f 1 _ (keeps meaning is) opened below ws h call

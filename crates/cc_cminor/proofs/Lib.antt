@@ -10,6 +10,7 @@
 -- unit's text says that a full expression has at most 512 tokens (Longest), the limits that a function has at most 8 parameters and 256
 -- locals, a unit 64 functions and 65,536 words of objects (Limits); a value that waits is above the locals in scope, fewer above them
 -- than its expression has tokens (Fits).
+pub mod Breaks
 pub mod Paths
 pub mod Known
 pub mod Variables
@@ -25,8 +26,12 @@ pub mod Counts
 pub mod Longest
 pub mod Limits
 pub mod Fits
+pub mod Below
+pub mod Exits
+pub mod Operations
 pub mod Pairs
 pub mod Codes
+pub mod Counting
 pub mod Closing
 pub mod Taking
 pub mod Trees

@@ -124,7 +124,7 @@ module _ (unit : List External) (g : Layout) where
       assigned_calls target v (λ t old new. combined (applied_operator op) t (value_type (types_in v) e) old new) (λ k f. using g v k e f) is h.0 (λ k f i. using_calls e v k f is h.1 i)
   performed_calls (Step op target) v is h =
       assigned_calls target v (λ t old new. combined (applied_operator (step_operator op)) t Int old new) (λ k f. f (Constant 1)) is h (λ k f i. i (Constant 1))
-  performed_calls (Evaluate e) v is h = using_calls e v (free v) (λ x. Skip) is h (λ x. tt)
+  performed_calls (Evaluate e) v is h = put_calls e v (free v) is h
 
   optional_calls : (a : Option Action) (v : Environment) → v.layout ≡ g → OptionalActionResolved (arities unit) v a → AreCalls unit (performed_optional g v a)
   optional_calls None v is h = tt

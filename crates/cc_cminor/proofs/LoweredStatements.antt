@@ -10,16 +10,15 @@ use Rattle.cc_resolve.specs.Layout.{Layout}
 use Rattle.cc_resolve.specs.Environment.{Environment, types_in, inner, with_local, with_locals, behind, behind_beginning}
 use Rattle.cc_c_laws.specs.Meaning as meaning
 use Rattle.cc_c_laws.specs.Meaning.{State, Run, Gives, Flow, Falls, Breaks, Continues, Returns, then_do, choose, evaluate, evaluate_or, perform_optional, start, spend_of, behind_flow, behind_body, begin_body, turns, left_scope, in_block, execute, execute_all}
-use Rattle.cc_simulation.specs.World.{Question, Effect}
-use Rattle.cc_simulation.specs.Run.{}
+use Rattle.cc_simulation.specs.Run.{tried, Returns as Ret}
 use Rattle.cc_cminor.specs.Cminor.{Expression, Constant, value, Statement, Skip, Sequence, Loop, Block, Exit, Return, Continuation, Then, Again, Leaving, Config, config}
 use Rattle.cc_cminor.specs.Code.{in_sequence}
 use Rattle.cc_cminor.specs.internal.Lowering.{branch, free, using, using_or, performed_optional, started, declared_code, looped, tested, lowered, all_lowered}
 use Rattle.cc_cminor.proofs.Known.{Known, KnownOr, KnownIn, AllKnownIn}
-use Rattle.cc_cminor.proofs.Paths.{world_at, after_list, cut_here, one_paid, Comes, comes_after, comes_moved, comes_then, comes_as, comes_here, comes_first, comes_next, comes_exit}
+use Rattle.cc_cminor.proofs.Paths.{world_at, after_list, Calling, cut_here, one_paid, Comes, comes_after, comes_moved, comes_then, comes_as, comes_here, comes_first, comes_next, comes_exit}
 use Rattle.cc_cminor.proofs.Variables.{names_of, length_names, Holds, Fits, fits_length}
 use Rattle.cc_cminor.proofs.Branches.{branch_moves}
-use Rattle.cc_cminor.proofs.PutExpressions.{CallFacts, choice_comes}
+use Rattle.cc_cminor.proofs.PutExpressions.{CallFacts, branch_needs, choice_comes}
 use Rattle.cc_cminor.proofs.PerformedActions.{Stops, Falling, using_comes, using_or_comes, optional_comes, declared_comes, started_comes}
 
 then_gives : {A : Type 0} (r : Run A) → then_do r (λ x t. Gives x t) ≡ r
@@ -73,7 +72,7 @@ dropped (x ∷ extra) ns (y ∷ rest) m e h =
     let k : suc (length rest) - length ns ≡ suc (length rest - length ns) = omega arith in
     subst (λ k. (names_of (drop k (y ∷ rest)) ≡ ns) × Holds (drop k (y ∷ rest)) m) (sym k) (dropped extra ns rest m tail h.1)
 
-module _ (effect : ℕ → Question → Effect) (g : Layout) where
+module _ (effect : Calling) (g : Layout) where
   -- the same, with locals that stand above these
   pub record StopsBehind (code : Statement) (κ : Continuation) (ns : List (List ℕ)) (s : State) (d : Config) : Type 0 where
     pub extra : List (List ℕ)
@@ -300,7 +299,7 @@ module _ (effect : ℕ → Question → Effect) (g : Layout) where
         let Q = TestedBy v.locals κ (Then X (Again T (Leaving κ))) c in
         let around : Continuation = Again T (Leaving κ) in
         subst (λ r. Comes effect Q (config (using_or g v (free v) 1 cnd (λ x. branch x A (Exit 0))) around m (world_at s)) s.steps r) (then_gives (evaluate_or 1 cnd (types_in v) call s))
-        (using_or_comes effect g call n facts Q 1 cnd v (free v) (λ x. branch x A (Exit 0)) around m s (λ w t. Gives w t) known (omega arith) lt h
+        (using_or_comes effect g call n facts Q 1 cnd v (free v) (λ x. branch x A (Exit 0)) around m s (λ w t. Gives w t) (branch_needs A (Exit 0)) known (omega arith) lt h
         (λ x k u w less fits same is. cond_by w x v.locals A κ T X c k u is fits (λ w. f k u w fits)))
 
     -- into the block of a body, from the code of a turn
@@ -376,7 +375,7 @@ module _ (effect : ℕ → Question → Effect) (g : Layout) where
           falling_flows b κ v.locals v.locals (config (performed_optional g v a) κ l (world_at s)) s.steps _ (optional_comes effect g call n facts a v κ l s known lt h)
       lowered_comes (tree.Return at e) b v κ l s known lt h =
           let Q = Flows b κ v.locals v.locals in
-          using_or_comes effect g call n facts Q 0 e v (free v) (λ x. Return x) κ l s (λ w t. Gives (Returns w) t) known (omega arith) lt h
+          using_or_comes effect g call n facts Q 0 e v (free v) (λ x. Return x) κ l s (λ w t. Gives (Returns w) t) (λ x μ m z missing. ap (λ o. tried o (λ w. Ret (record { value = w; world = z }))) missing) known (omega arith) lt h
           (λ x m u w less fits same is. comes_here effect Q (config (Return x) κ m (world_at u)) (Returns w) u (record { expression = x; behind = κ; variables = m; at = refl; is = is }))
       lowered_comes (Break at) true v κ l s known lt h =
           comes_here effect (Flows true κ v.locals v.locals) (config (Exit 1) κ l (world_at s)) Breaks s (record { extra = []; stops = record { variables = l; at = refl; fits = h } })
@@ -390,7 +389,7 @@ module _ (effect : ℕ → Question → Effect) (g : Layout) where
           let Q = Flows b κ v.locals v.locals in
           let A : Statement = lowered g b (inner v) a in
           let ra : State → Run Flow = in_block (execute a n call (opened v.visible)) in
-          using_comes effect g call n facts Q c v (free v) (λ x. branch x A Skip) κ l s (λ w t. choose w ra (λ u. Gives Falls u) t) known.0 (omega arith) lt h
+          using_comes effect g call n facts Q c v (free v) (λ x. branch x A Skip) κ l s (λ w t. choose w ra (λ u. Gives Falls u) t) (branch_needs A Skip) known.0 (omega arith) lt h
           (λ x m u w less fits same is. choice_comes effect g Q x A Skip κ m u w ra (λ u. Gives Falls u) is
           (as_flows b κ v.locals (config A κ m (world_at u)) u.steps (ra u) (part_comes a b v κ (config A κ m (world_at u)) m u fits (lowered_comes a b (inner v) κ m u known.1 (omega arith) fits)))
           (comes_here effect Q (config Skip κ m (world_at u)) Falls u (record { variables = m; at = refl; fits = fits })))
@@ -400,7 +399,7 @@ module _ (effect : ℕ → Question → Effect) (g : Layout) where
           let E : Statement = lowered g b (inner v) e in
           let ra : State → Run Flow = in_block (execute a n call (opened v.visible)) in
           let re : State → Run Flow = in_block (execute e n call (opened v.visible)) in
-          using_comes effect g call n facts Q c v (free v) (λ x. branch x A E) κ l s (λ w t. choose w ra re t) known.0 (omega arith) lt h
+          using_comes effect g call n facts Q c v (free v) (λ x. branch x A E) κ l s (λ w t. choose w ra re t) (branch_needs A E) known.0 (omega arith) lt h
           (λ x m u w less fits same is. choice_comes effect g Q x A E κ m u w ra re is
           (as_flows b κ v.locals (config A κ m (world_at u)) u.steps (ra u) (part_comes a b v κ (config A κ m (world_at u)) m u fits (lowered_comes a b (inner v) κ m u known.1 (omega arith) fits)))
           (as_flows b κ v.locals (config E κ m (world_at u)) u.steps (re u) (part_comes e b v κ (config E κ m (world_at u)) m u fits (lowered_comes e b (inner v) κ m u known.2 (omega arith) fits))))

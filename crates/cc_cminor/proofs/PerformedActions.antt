@@ -1,6 +1,7 @@
 -- Assignments, increments and declarations.
 use Rattle.std.proofs.Common.{◌≡◌, ℕ, suc, ◌<◌, ◌≤◌, Bool, true, false, if◌then◌else◌, List, [], ◌∷◌, ◌++◌, length, nat_lt, Option, Some, None, option_map, unwrap_or, is_some, slice_set, length-set, refl, sym, ap, ◌∙◌, subst, arith}
-use Rattle.std.proofs.lemmas.Bool.{ltb-true}
+use Rattle.std.proofs.lemmas.Bool.{ltb-true, ltb-false}
+use Rattle.std.proofs.lemmas.Option.{slice_get_past}
 use Rattle.cc_tokens.specs.declared.scalar.Scalar.{Scalar}
 use Rattle.cc_tokens.specs.declared.scalar.Scalar.TheVariants.{Int}
 use Rattle.cc_ast.specs.declared.ast.BinaryOperator.{BinaryOperator}
@@ -17,20 +18,21 @@ use Rattle.cc_resolve.specs.Layout.{Layout}
 use Rattle.cc_resolve.specs.Environment.{Environment, types_in, number_in, with_local, with_locals, behind_beginning}
 use Rattle.cc_c_laws.specs.Meaning as meaning
 use Rattle.cc_c_laws.specs.Calls.{NamedSize, size, sizes, laid_sizes}
+use Rattle.cc_c_laws.specs.Checked.{stays}
 use Rattle.cc_c_laws.specs.Meaning.{Global, State, Run, Gives, Flow, Falls, then_do, given, read_element, write_element, evaluate, evaluate_or, Destination, ToVariable, ToElement, destination, old_value, write, new_value, perform, perform_optional, stored, declare, start, global_words, local_word, with_local_word, with_element, variable_word}
 use Rattle.cc_simulation.specs.World as world
-use Rattle.cc_simulation.specs.World.{World, Question, Effect}
-use Rattle.cc_simulation.specs.Run.{Goes, tried}
+use Rattle.cc_simulation.specs.World.{World}
+use Rattle.cc_simulation.specs.Run.{Goes, Fails, tried}
 use Rattle.cc_words.specs.Widths.{kept}
 use Rattle.cc_words.specs.declared.operators.Width.{Width}
 use Rattle.cc_words.specs.declared.operators.Width.TheVariants.{Word}
-use Rattle.cc_cminor.specs.Cminor.{Expression, Constant, Local, Load, then_value, value, put, Statement, Skip, Set, Store, Sequence, Continuation, Then, Config, config}
+use Rattle.cc_cminor.specs.Cminor.{Expression, Constant, Local, Load, then_value, value, put, Statement, Skip, Set, Store, Sequence, Continuation, Then, Config, config, moves}
 use Rattle.cc_cminor.specs.Code.{in_sequence}
 use Rattle.cc_cminor.specs.internal.Lowering.{free, object_of, width_of, variable_of, write_to, variable_set, kind, Strict, is_plain, plain, put_expr, using, using_or, combined, assigned, performed, performed_optional, initialised, declared_code, started}
 use Rattle.cc_cminor.proofs.Known.{IsObject, IsPlaced, IsVariable, Known, KnownOr, KnownTarget, KnownAction, KnownOptional, KnownDeclared, KnownBeginning}
-use Rattle.cc_cminor.proofs.Paths.{world_at, after_list, Comes, comes_moved, comes_then, comes_here, comes_first, comes_next}
-use Rattle.cc_cminor.proofs.Variables.{name_is_itself, holds_same, put_here, put_below, reads, writes, written_names, size_object, stored_object, binary_value, PlainIs, plain_then, plain_given, plain_read, Fits, fits_length, variable_value, element_value, plain_is}
-use Rattle.cc_cminor.proofs.PutExpressions.{CallFacts, Puts, used_comes, puts}
+use Rattle.cc_cminor.proofs.Paths.{world_at, after_list, Calling, stuck_here, Comes, comes_moved, comes_then, comes_here, comes_first, comes_next}
+use Rattle.cc_cminor.proofs.Variables.{name_is_itself, holds_same, put_here, put_below, reads, writes, written_names, size_object, stored_object, binary_value, binary_none, PlainIs, plain_then, plain_given, plain_read, Fits, fits_length, object_is, variable_value, element_value, plain_is}
+use Rattle.cc_cminor.proofs.PutExpressions.{CallFacts, NeedsValue, set_needs, Puts, used_comes, puts}
 
 -- the operator takes both operands
 abbrev TakesBoth : Option BinaryOperator → Type 0
@@ -63,7 +65,19 @@ then_assoc (Gives x s) f h = refl
 then_assoc (meaning.Going o) f h = refl
 then_assoc (meaning.Wrong cause o) f h = refl
 
-module _ (effect : ℕ → Question → Effect) (g : Layout) where
+-- a write breaks if its value is missing
+write_needs : (o : Option ℕ) (n : ℕ) (f : Expression → Expression) → ((x : Expression) (l : ℕ → ℕ) (h : World) → value x l h ≡ None → value (f x) l h ≡ None) → NeedsValue (λ x. write_to o n (f x))
+write_needs None n f missing = λ x κ l h e. ap (λ p. tried p (λ w. tried (world.stored h Word n 0 w) (λ y. Goes (config Skip κ l y)))) (missing x l h e)
+write_needs (Some i) n f missing = λ x κ l h e. ap (λ p. tried p (λ w. Goes (config Skip κ (put l i w) h))) (missing x l h e)
+
+store_needs : (u : Width) (o k : ℕ) (f : Expression → Expression) → ((x : Expression) (l : ℕ → ℕ) (h : World) → value x l h ≡ None → value (f x) l h ≡ None) → NeedsValue (λ x. Store u o (Local k) (f x))
+store_needs u o k f missing = λ x κ l h e. ap (λ p. tried p (λ w. tried (world.stored h u o (l k) w) (λ y. Goes (config Skip κ l y)))) (missing x l h e)
+
+combined_none : (op : Option BinaryOperator) (t u : Scalar) (old x : Expression) (l : ℕ → ℕ) (h : World) → TakesBoth op → value x l h ≡ None → value (combined op t u old x) l h ≡ None
+combined_none None t u old x l h both e = e
+combined_none (Some op) t u old x l h both e = binary_none op (working_type op t u) old x l h both e
+
+module _ (effect : Calling) (g : Layout) where
   -- such code is next, and the variables stand for the state
   pub record Stops (code : Statement) (κ : Continuation) (ns : List (List ℕ)) (s : State) (d : Config) : Type 0 where
     pub variables : ℕ → ℕ
@@ -88,6 +102,11 @@ module _ (effect : ℕ → Question → Effect) (g : Layout) where
   object_written : (x : List ℕ) (i w : ℕ) (s : State) → IsObject g x → sizes s.globals ≡ laid_sizes g.objects → i < length (global_words s.globals x) → world.stored (world_at s) (width_of g x) (object_of g x) i w ≡ Some (world_at (record s { globals = with_element x i w s.globals }))
   object_written x i w s known e lt =
       ap (λ o. world.stored (world_at s) (width_of g x) (unwrap_or o 0) i w) known.1 ∙ stored_object s.globals g.objects x known.0 i w s.input s.output e known.1 lt
+
+  -- no element is written outside the object
+  object_unwritten : (x : List ℕ) (i w : ℕ) (s : State) → IsObject g x → sizes s.globals ≡ laid_sizes g.objects → length (global_words s.globals x) ≤ i → world.stored (world_at s) (width_of g x) (object_of g x) i w ≡ None
+  object_unwritten x i w s known e le =
+      ap (λ (o : Option ℕ). option_map (λ old. world.with_element (world_at s) (object_of g x) i (kept (width_of g x) w)) o) (object_is g s x i known e ∙ slice_get_past (global_words s.globals x) i le)
 
   element_fits : (ns : List (List ℕ)) (x : List ℕ) (i w : ℕ) (s : State) (l : ℕ → ℕ) → Fits g ns s l → Fits g ns (record s { globals = with_element x i w s.globals }) l
   element_fits ns x i w s l h = record { names = h.names; holds = h.holds; sized = element_keeps x i w s.globals ∙ h.sized }
@@ -118,7 +137,8 @@ module _ (effect : ℕ → Question → Effect) (g : Layout) where
   variable_comes v x e κ l s (Gives w u) placed h p =
       subst (λ t. Comes effect (Falling κ v.locals) (config (variable_set g v x e) κ l (world_at s)) s.steps (Gives Falls (stored x w t))) (sym p.0) (stored_by (number_in v.locals x) v.locals x w e κ l s refl placed h p.1)
   variable_comes v x e κ l s (meaning.Going o) placed h p = absurd p
-  variable_comes v x e κ l s (meaning.Wrong cause o) placed h p = tt
+  variable_comes v x e κ l s (meaning.Wrong cause o) placed h p =
+      stuck_here effect (stays effect.mode cause) (config (variable_set g v x e) κ l (world_at s)) s.steps o (write_needs (number_in v.locals x) (object_of g x) (λ y. y) (λ y m z missing. missing) e κ l (world_at s) p.0) (sym p.1)
 
   written_by : (b : Bool) (ns : List (List ℕ)) (x : List ℕ) (k i w : ℕ) (e : Expression) (κ : Continuation) (l : ℕ → ℕ) (s : State) → IsObject g x → nat_lt i (length (global_words s.globals x)) ≡ b → l k ≡ i → Fits g ns s l → value e l (world_at s) ≡ Some w
       → Comes effect (Falling κ ns) (config (Store (width_of g x) (object_of g x) (Local k) e) κ l (world_at s)) s.steps (if b then Gives Falls (record s { globals = with_element x i w s.globals }) else meaning.Wrong Index s.output)
@@ -129,14 +149,20 @@ module _ (effect : ℕ → Question → Effect) (g : Layout) where
       (ap (λ p. tried p (λ w. tried (world.stored (world_at s) (width_of g x) o (l k) w) (λ y. Goes (config Skip κ l y)))) is
       ∙ ap (λ (p : Option World). tried p (λ y. Goes (config Skip κ l y))) (ap (λ j. world.stored (world_at s) (width_of g x) o j w) at ∙ object_written x i w s known h.sized (ltb-true i (length (global_words s.globals x)) lt)))
       (comes_here effect (Falling κ ns) (config Skip κ l (world_at t)) Falls t (record { falls = refl; stops = record { variables = l; at = refl; fits = element_fits ns x i w s l h } }))
-  written_by false ns x k i w e κ l s known lt at h is = tt
+  written_by false ns x k i w e κ l s known lt at h is =
+      let o : ℕ = object_of g x in
+      stuck_here effect (stays effect.mode Index) (config (Store (width_of g x) o (Local k) e) κ l (world_at s)) s.steps s.output
+      (ap (λ p. tried p (λ w. tried (world.stored (world_at s) (width_of g x) o (l k) w) (λ y. Goes (config Skip κ l y)))) is
+      ∙ ap (λ (p : Option World). tried p (λ y. Goes (config Skip κ l y))) (ap (λ j. world.stored (world_at s) (width_of g x) o j w) at ∙ object_unwritten x i w s known h.sized (ltb-false i (length (global_words s.globals x)) lt)))
+      refl
 
   element_comes : (ns : List (List ℕ)) (x : List ℕ) (k i : ℕ) (e : Expression) (κ : Continuation) (l : ℕ → ℕ) (s : State) (r : Run ℕ) → IsObject g x → l k ≡ i → Fits g ns s l → PlainIs r s (value e l (world_at s))
       → Comes effect (Falling κ ns) (config (Store (width_of g x) (object_of g x) (Local k) e) κ l (world_at s)) s.steps (then_do r (λ new z. write_element x i new z))
   element_comes ns x k i e κ l s (Gives w u) known at h p =
       subst (λ t. Comes effect (Falling κ ns) (config (Store (width_of g x) (object_of g x) (Local k) e) κ l (world_at s)) s.steps (write_element x i w t)) (sym p.0) (written_by (nat_lt i (length (global_words s.globals x))) ns x k i w e κ l s known refl at h p.1)
   element_comes ns x k i e κ l s (meaning.Going o) known at h p = absurd p
-  element_comes ns x k i e κ l s (meaning.Wrong cause o) known at h p = tt
+  element_comes ns x k i e κ l s (meaning.Wrong cause o) known at h p =
+      stuck_here effect (stays effect.mode cause) (config (Store (width_of g x) (object_of g x) (Local k) e) κ l (world_at s)) s.steps o (store_needs (width_of g x) (object_of g x) k (λ y. y) (λ y m z missing. missing) e κ l (world_at s) p.0) (sym p.1)
 
   -- the new value, of the old one and the right side's
   new_by : (aop : Option BinaryOperator) (t u : Scalar) (d : Destination) (old e : Expression) (w : ℕ) (l : ℕ → ℕ) (s : State) → TakesBoth aop → PlainIs (old_value d s) s (value old l (world_at s)) → value e l (world_at s) ≡ Some w
@@ -150,22 +176,22 @@ module _ (effect : ℕ → Question → Effect) (g : Layout) where
   module _ (call : meaning.Calls) (n : ℕ) (facts : CallFacts effect g call n) where
     -- an expression of Cminor for the value, or code in front of it
     pub using_comes : {A : Type 0} (R : A → State → Config → Type 0) (e : Expr) (v : Environment) (k : ℕ) (f : Expression → Statement) (κ : Continuation) (l : ℕ → ℕ) (s : State) (go : ℕ → State → Run A)
-        → Known g v e → free v ≤ k → s.steps < n → Fits g v.locals s l
+        → NeedsValue f → Known g v e → free v ≤ k → s.steps < n → Fits g v.locals s l
         → ((x : Expression) (m : ℕ → ℕ) (u : State) (w : ℕ) → u.steps ≤ s.steps → Fits g v.locals u m → ((i : ℕ) → i < k → m i ≡ l i) → value x m (world_at u) ≡ Some w → Comes effect R (config (f x) κ m (world_at u)) u.steps (go w u))
         → Comes effect R (config (using g v k e f) κ l (world_at s)) s.steps (then_do (evaluate e (types_in v) call s) go)
-    using_comes R e v k f κ l s go known le lt h cont =
-        used_comes effect g R (is_plain e) (plain g v e) (put_expr g v k e) k f κ v.locals l s (evaluate e (types_in v) call s) go h (λ p. plain_is g call e v l s p known h) (λ μ. puts effect g call n facts e v k μ l s known le lt h) cont
+    using_comes R e v k f κ l s go needs known le lt h cont =
+        used_comes effect g R (is_plain e) (plain g v e) (put_expr g v k e) k f κ v.locals l s (evaluate e (types_in v) call s) go needs h (λ p. plain_is g call e v l s p known h) (λ μ. puts effect g call n facts e v k μ l s known le lt h) cont
 
     pub using_or_comes : {A : Type 0} (R : A → State → Config → Type 0) (w : ℕ) (e : Option Expr) (v : Environment) (k : ℕ) (f : Expression → Statement) (κ : Continuation) (l : ℕ → ℕ) (s : State) (go : ℕ → State → Run A)
-        → KnownOr g v e → free v ≤ k → s.steps < n → Fits g v.locals s l
+        → NeedsValue f → KnownOr g v e → free v ≤ k → s.steps < n → Fits g v.locals s l
         → ((x : Expression) (m : ℕ → ℕ) (u : State) (w : ℕ) → u.steps ≤ s.steps → Fits g v.locals u m → ((i : ℕ) → i < k → m i ≡ l i) → value x m (world_at u) ≡ Some w → Comes effect R (config (f x) κ m (world_at u)) u.steps (go w u))
         → Comes effect R (config (using_or g v k w e f) κ l (world_at s)) s.steps (then_do (evaluate_or w e (types_in v) call s) go)
-    using_or_comes R w None v k f κ l s go known le lt h cont = cont (Constant w) l s w (omega arith) h (λ i below. refl) refl
-    using_or_comes R w (Some e) v k f κ l s go known le lt h cont = using_comes R e v k f κ l s go known le lt h cont
+    using_or_comes R w None v k f κ l s go needs known le lt h cont = cont (Constant w) l s w (omega arith) h (λ i below. refl) refl
+    using_or_comes R w (Some e) v k f κ l s go needs known le lt h cont = using_comes R e v k f κ l s go needs known le lt h cont
 
     -- what takes the right side's value
     abbrev Takes : Environment → (State → Run ℕ) → (ℕ → (Expression → Statement) → Statement) → Type 0
-    Takes v right code = (k : ℕ) (f : Expression → Statement) (κ : Continuation) (l : ℕ → ℕ) (s : State) (go : ℕ → State → Run Flow) → free v ≤ k → s.steps < n → Fits g v.locals s l
+    Takes v right code = (k : ℕ) (f : Expression → Statement) (κ : Continuation) (l : ℕ → ℕ) (s : State) (go : ℕ → State → Run Flow) → NeedsValue f → free v ≤ k → s.steps < n → Fits g v.locals s l
         → ((x : Expression) (m : ℕ → ℕ) (u : State) (w : ℕ) → u.steps ≤ s.steps → Fits g v.locals u m → ((i : ℕ) → i < k → m i ≡ l i) → value x m (world_at u) ≡ Some w → Comes effect (Falling κ v.locals) (config (f x) κ m (world_at u)) u.steps (go w u))
         → Comes effect (Falling κ v.locals) (config (code k f) κ l (world_at s)) s.steps (then_do (right s) go)
 
@@ -175,7 +201,8 @@ module _ (effect : ℕ → Question → Effect) (g : Layout) where
         (then_do (destination target (types_in v) call s) (λ d t. then_do (right t) (λ w z. then_do (new_value aop (target_type (types_in v) target) u d w z) (λ new y. write d new y))))
     assigned_comes (AtVariable x) aop u right code v κ l s both takes known lt h =
         let t : Scalar = target_type (types_in v) (AtVariable x) in
-        takes (free v) (λ e. variable_set g v x.text (combined aop t u (variable_of g v x.text) e)) κ l s (λ w z. then_do (new_value aop t u (ToVariable x.text) w z) (λ new y. write (ToVariable x.text) new y)) (omega arith) lt h
+        takes (free v) (λ e. variable_set g v x.text (combined aop t u (variable_of g v x.text) e)) κ l s (λ w z. then_do (new_value aop t u (ToVariable x.text) w z) (λ new y. write (ToVariable x.text) new y))
+        (write_needs (number_in v.locals x.text) (object_of g x.text) (λ e. combined aop t u (variable_of g v x.text) e) (λ e m z missing. combined_none aop t u (variable_of g v x.text) e m z both missing)) (omega arith) lt h
         (λ e m z w less fits same is. variable_comes v x.text (combined aop t u (variable_of g v x.text) e) κ m z (new_value aop t u (ToVariable x.text) w z) known fits
         (new_by aop t u (ToVariable x.text) (variable_of g v x.text) e w m z both (refl, variable_value g v x.text z m known fits) is))
     assigned_comes (AtElement x i) aop u right code v κ l s both takes known lt h =
@@ -193,7 +220,8 @@ module _ (effect : ℕ → Question → Effect) (g : Layout) where
         (puts effect g call n facts i v k (Then X κ) l s known.1 (omega arith) lt h)
         (λ j z d less q. subst (λ c. Comes effect (Falling κ v.locals) c z.steps (go j z)) (sym q.at)
         (comes_moved effect (Falling κ v.locals) (config Skip (Then X κ) q.variables (world_at z)) (config X κ q.variables (world_at z)) z.steps (go j z) refl
-        (takes (suc k) f κ q.variables z (λ w y. then_do (new_value aop t u (ToElement x.text j) w y) (λ new y. write (ToElement x.text j) new y)) (omega arith) (omega arith) q.fits
+        (takes (suc k) f κ q.variables z (λ w y. then_do (new_value aop t u (ToElement x.text j) w y) (λ new y. write (ToElement x.text j) new y))
+        (store_needs (width_of g x.text) o k (λ e. combined aop t u (Load (width_of g x.text) o (Local k)) e) (λ e m z missing. combined_none aop t u (Load (width_of g x.text) o (Local k)) e m z both missing)) (omega arith) (omega arith) q.fits
         (λ e m y w below fits same is.
         let here : m k ≡ j = same k (omega arith) ∙ q.is in
         element_comes v.locals x.text k j (combined aop t u (Load (width_of g x.text) o (Local k)) e) κ m y (new_value aop t u (ToElement x.text j) w y) known.0 here fits
@@ -204,13 +232,14 @@ module _ (effect : ℕ → Question → Effect) (g : Layout) where
         → Comes effect (Falling κ v.locals) (config (performed g v a) κ l (world_at s)) s.steps (perform a (types_in v) call s)
     performed_comes (Assign op target e) v κ l s known lt h =
         assigned_comes target (applied_operator op) (value_type (types_in v) e) (λ t. evaluate e (types_in v) call t) (λ k f. using g v k e f) v κ l s (applied_takes_both op)
-        (λ k f μ m z go le less fits cont. using_comes (Falling μ v.locals) e v k f μ m z go known.1 le less fits cont) known.0 lt h
+        (λ k f μ m z go needs le less fits cont. using_comes (Falling μ v.locals) e v k f μ m z go needs known.1 le less fits cont) known.0 lt h
     performed_comes (Step op target) v κ l s known lt h =
         assigned_comes target (applied_operator (step_operator op)) Int (λ t. Gives 1 t) (λ k f. f (Constant 1)) v κ l s (applied_takes_both (step_operator op))
-        (λ k f μ m z go le less fits cont. cont (Constant 1) m z 1 (omega arith) fits (λ i below. refl) refl) known lt h
+        (λ k f μ m z go needs le less fits cont. cont (Constant 1) m z 1 (omega arith) fits (λ i below. refl) refl) known lt h
     performed_comes (Evaluate e) v κ l s known lt h =
-        using_comes (Falling κ v.locals) e v (free v) (λ x. Skip) κ l s (λ w t. Gives Falls t) known (omega arith) lt h
-        (λ x m u w less fits same is. comes_here effect (Falling κ v.locals) (config Skip κ m (world_at u)) Falls u (record { falls = refl; stops = record { variables = m; at = refl; fits = fits } }))
+        comes_then effect (Puts effect g (free v) κ v.locals l) (Falling κ v.locals) (config (put_expr g v (free v) e) κ l (world_at s)) s.steps (evaluate e (types_in v) call s) (λ w t. Gives Falls t)
+        (puts effect g call n facts e v (free v) κ l s known (omega arith) lt h)
+        (λ w u d less q. comes_here effect (Falling κ v.locals) d Falls u (record { falls = refl; stops = record { variables = q.variables; at = q.at; fits = q.fits } }))
 
     pub optional_comes : (a : Option Action) (v : Environment) (κ : Continuation) (l : ℕ → ℕ) (s : State) → KnownOptional g v a → s.steps < n → Fits g v.locals s l
         → Comes effect (Falling κ v.locals) (config (performed_optional g v a) κ l (world_at s)) s.steps (perform_optional a (types_in v) call s)
@@ -254,7 +283,7 @@ module _ (effect : ℕ → Question → Effect) (g : Layout) where
         let R = Falling κ (with_locals t rest v1).locals in
         let go : ℕ → State → Run Flow = λ w u. declare t rest call v1.visible (stored x w u) in
         comes_first effect R (using g v1 (suc i) e (λ y. Set i y)) X κ (put l i 0) (world_at s) s.steps (then_do (evaluate e (types_in v1) call s1) go)
-        (using_comes R e v1 (suc i) (λ y. Set i y) μ (put l i 0) s1 go known (omega arith) lt (declared_fits t x v l s h)
+        (using_comes R e v1 (suc i) (λ y. Set i y) μ (put l i 0) s1 go (set_needs i (λ y. y) (λ y m z missing. missing)) known (omega arith) lt (declared_fits t x v l s h)
         (λ y m u w less fits same is.
         let z : State = record u { locals = with_local_word x w u.locals } in
         subst (λ q. Comes effect R (config (Set i y) μ m (world_at u)) u.steps (declare t rest call v1.visible q)) (sym (local_stored v1.locals x w i u m (number_here x v.locals) fits))

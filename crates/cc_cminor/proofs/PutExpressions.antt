@@ -1,5 +1,5 @@
 -- Code that puts the value of an expression into a variable, or hands on one expression of Cminor.
-use Rattle.std.proofs.Common.{◌≡◌, ℕ, zero, suc, ◌-◌, ◌<◌, ◌≤◌, ◌&&◌, ◌||◌, not, Bool, true, false, if◌then◌else◌, List, [], ◌∷◌, ◌++◌, length, Option, Some, None, refl, sym, ap, ◌∙◌, subst, arith}
+use Rattle.std.proofs.Common.{◌≡◌, inl, ℕ, zero, suc, ◌-◌, ◌<◌, ◌≤◌, ◌&&◌, ◌||◌, not, Bool, true, false, if◌then◌else◌, List, [], ◌∷◌, ◌++◌, length, Option, Some, None, refl, sym, ap, ◌∙◌, subst, arith}
 use Rattle.std.proofs.lemmas.Bool.{ne_eqb}
 use Rattle.cc_tokens.specs.declared.scalar.Scalar.{Scalar}
 use Rattle.cc_ast.specs.declared.ast.BinaryOperator.{BinaryOperator}
@@ -17,34 +17,45 @@ use Rattle.cc_c_laws.specs.Meaning as meaning
 use Rattle.cc_c_laws.specs.Meaning.{State, Run, Gives, then_do, choose, given, unless_decided, read_element, read_input, evaluate, evaluate_all, variable_word}
 use Rattle.cc_c_laws.specs.Function as by_name
 use Rattle.cc_c_laws.specs.Calls.{sizes, laid_sizes, shared_of, after_call, KeepsObjects}
+use Rattle.cc_c_laws.specs.Checked.{stays}
 use Rattle.cc_c_laws.specs.Numbered.{world_of, numbered}
 use Rattle.cc_simulation.specs.World as world
 use Rattle.cc_simulation.specs.World.{World, Question, Answer, Effect, first_or_zero, rest_of}
 use Rattle.cc_simulation.specs.Run as layer
-use Rattle.cc_simulation.specs.Run.{Move, Goes, Calls, tried, run, work, act, work_act, work_resumed}
-use Rattle.cc_cminor.specs.Cminor.{Expression, Constant, Local, Load, then_value, value, values, put, Statement, Skip, Set, Call, Read, Write, Sequence, Continuation, Then, Config, config, cminor_move}
+use Rattle.cc_simulation.specs.Run.{Move, Goes, Calls, Fails, tried, run, work, act, work_act, work_resumed}
+use Rattle.cc_cminor.specs.Cminor.{Expression, Constant, Local, Load, then_value, value, values, put, Statement, Skip, Set, Call, Read, Write, Sequence, Continuation, Then, Config, config, moves, cminor_move}
 use Rattle.cc_cminor.specs.Code.{in_sequence}
 use Rattle.cc_cminor.specs.internal.Lowering.{branch, free, object_of, width_of, variable_of, unary_of, truth_of, binary_of, Kind, Conjunction, Disjunction, Strict, kind, is_strict, is_plain, are_plain, plain, all_plain, used, called_on, count, locals_from, last_value, invoked, connected, put_expr, put_all}
 use Rattle.cc_cminor.proofs.Known.{IsCalled, Known, AllKnown}
-use Rattle.cc_cminor.proofs.Paths.{world_at, Exact, one_call, Comes, comes_moved, comes_then, comes_as, comes_here, after_list, comes_first, comes_next, runs, works}
-use Rattle.cc_cminor.proofs.Branches.{branch_moves}
-use Rattle.cc_cminor.proofs.Variables.{put_here, put_below, unary_value, binary_value, strict_undecided, is_conjunction, is_disjunction, PlainIs, plain_given, plain_read, Fits, fits_put, variable_value, element_value, plain_is, all_plain_is, truth_is}
+use Rattle.cc_cminor.proofs.Paths.{world_at, Exact, Calling, Cut, one_call, Stuck, stuck_moved, stuck_here, Comes, comes_moved, comes_then, comes_as, comes_here, after_list, comes_first, comes_next, runs, works}
+use Rattle.cc_cminor.proofs.Branches.{branch_moves, branch_fails}
+use Rattle.cc_cminor.proofs.Variables.{put_here, put_below, unary_value, binary_value, unary_none, binary_none, truth_none, strict_undecided, is_conjunction, is_disjunction, PlainIs, plain_given, plain_read, Fits, fits_put, variable_value, element_value, plain_is, all_plain_is, truth_is}
 
 -- what a call of function f on some words does: the caller goes on as the effect says, which the unit's meaning gives by number
-pub record CallIs (effect : ℕ → Question → Effect) (call : meaning.Calls) (x ws : List ℕ) (f : ℕ) (s : State) : Type 0 where
+pub record CallIs (effect : Calling) (call : meaning.Calls) (x ws : List ℕ) (f : ℕ) (s : State) : Type 0 where
   pub what : by_name.Effect by_name.Answer
   pub does : call x ws s ≡ after_call s.locals what
-  pub same : effect s.steps (record { function = f; arguments = ws; world = world_at s }) ≡ numbered what
+  pub same : effect.does s.steps (record { function = f; arguments = ws; world = world_at s }) ≡ numbered effect.mode what
   pub keeps : KeepsObjects (shared_of s) what
 
 -- what is known of calls, where fewer than n steps are left
-pub record CallFacts (effect : ℕ → Question → Effect) (g : Layout) (call : meaning.Calls) (n : ℕ) : Type 0 where
-  pub exact : Exact effect
+pub record CallFacts (effect : Calling) (g : Layout) (call : meaning.Calls) (n : ℕ) : Type 0 where
+  pub exact : Exact effect.does
   pub writes : (x ws : List ℕ) (s : State) → callee g x ≡ WriteWord → s.steps < n → call x ws s ≡ Gives 0 (record s { output = s.output ++ ws })
   pub reads : (x ws : List ℕ) (s : State) → callee g x ≡ ReadWord → s.steps < n → call x ws s ≡ read_input s.input s
   pub does : (x ws : List ℕ) (f : ℕ) (s : State) → callee g x ≡ Defined f → f < length g.functions → s.steps < n → sizes s.globals ≡ laid_sizes g.objects → CallIs effect call x ws f s
 
-module _ (effect : ℕ → Question → Effect) (g : Layout) where
+-- code that takes a value breaks if there is none
+abbrev pub NeedsValue : (Expression → Statement) → Type 0
+NeedsValue f = (x : Expression) (κ : Continuation) (l : ℕ → ℕ) (h : World) → value x l h ≡ None → moves (f x) κ l h ≡ Fails
+
+pub set_needs : (k : ℕ) (f : Expression → Expression) → ((x : Expression) (l : ℕ → ℕ) (h : World) → value x l h ≡ None → value (f x) l h ≡ None) → NeedsValue (λ x. Set k (f x))
+set_needs k f missing = λ x κ l h e. ap (λ o. tried o (λ w. Goes (config Skip κ (put l k w) h))) (missing x l h e)
+
+pub branch_needs : (a b : Statement) → NeedsValue (λ x. branch x a b)
+branch_needs a b = λ x κ l h e. branch_fails x a b κ l h e
+
+module _ (effect : Calling) (g : Layout) where
   -- the word is in variable k, those below are kept, and κ goes on
   pub record Puts (k : ℕ) (κ : Continuation) (ns : List (List ℕ)) (l : ℕ → ℕ) (w : ℕ) (s : State) (d : Config) : Type 0 where
     pub variables : ℕ → ℕ
@@ -69,19 +80,22 @@ module _ (effect : ℕ → Question → Effect) (g : Layout) where
       → Comes effect (Puts k κ ns l) (config (Set k e) κ l (world_at s)) s.steps r
   set_comes k e κ ns l s (Gives w u) le h p = subst (λ t. Comes effect (Puts k κ ns l) (config (Set k e) κ l (world_at s)) s.steps (Gives w t)) (sym p.0) (set_gives k w e κ ns l s le h p.1)
   set_comes k e κ ns l s (meaning.Going o) le h p = absurd p
-  set_comes k e κ ns l s (meaning.Wrong cause o) le h p = tt
+  set_comes k e κ ns l s (meaning.Wrong cause o) le h p =
+      stuck_here effect (stays effect.mode cause) (config (Set k e) κ l (world_at s)) s.steps o (ap (λ x. tried x (λ w. Goes (config Skip κ (put l k w) (world_at s)))) p.0) (sym p.1)
 
   -- code that takes a value goes on with it
   pub used_comes : {A : Type 0} (R : A → State → Config → Type 0) (b : Bool) (e : Expression) (code : Statement) (j : ℕ) (f : Expression → Statement) (κ : Continuation) (ns : List (List ℕ)) (l : ℕ → ℕ) (s : State) (r : Run ℕ) (go : ℕ → State → Run A)
-      → Fits g ns s l → (b ≡ true → PlainIs r s (value e l (world_at s))) → ((κ : Continuation) → Comes effect (Puts j κ ns l) (config code κ l (world_at s)) s.steps r)
+      → NeedsValue f → Fits g ns s l → (b ≡ true → PlainIs r s (value e l (world_at s))) → ((κ : Continuation) → Comes effect (Puts j κ ns l) (config code κ l (world_at s)) s.steps r)
       → ((x : Expression) (m : ℕ → ℕ) (u : State) (w : ℕ) → u.steps ≤ s.steps → Fits g ns u m → ((i : ℕ) → i < j → m i ≡ l i) → value x m (world_at u) ≡ Some w → Comes effect R (config (f x) κ m (world_at u)) u.steps (go w u))
       → Comes effect R (config (used b e code j f) κ l (world_at s)) s.steps (then_do r go)
-  used_comes R true e code j f κ ns l s (Gives w u) go h p c k =
+  used_comes R true e code j f κ ns l s (Gives w u) go needs h p c k =
       let q : (u ≡ s) × (value e l (world_at s) ≡ Some w) = p refl in
       subst (λ t. Comes effect R (config (f e) κ l (world_at s)) s.steps (go w t)) (sym q.0) (k e l s w (omega arith) h (λ i lt. refl) q.1)
-  used_comes R true e code j f κ ns l s (meaning.Going o) go h p c k = absurd (p refl)
-  used_comes R true e code j f κ ns l s (meaning.Wrong cause o) go h p c k = tt
-  used_comes R false e code j f κ ns l s r go h p c k =
+  used_comes R true e code j f κ ns l s (meaning.Going o) go needs h p c k = absurd (p refl)
+  used_comes R true e code j f κ ns l s (meaning.Wrong cause o) go needs h p c k =
+      let q : (value e l (world_at s) ≡ None) × (o ≡ s.output) = p refl in
+      stuck_here effect (stays effect.mode cause) (config (f e) κ l (world_at s)) s.steps o (needs e κ l (world_at s) q.0) (sym q.1)
+  used_comes R false e code j f κ ns l s r go needs h p c k =
       comes_moved effect R (config (Sequence code (f (Local j))) κ l (world_at s)) (config code (Then (f (Local j)) κ) l (world_at s)) s.steps (then_do r go) refl
       (comes_then effect (Puts j (Then (f (Local j)) κ) ns l) R (config code (Then (f (Local j)) κ) l (world_at s)) s.steps r go (c (Then (f (Local j)) κ))
       (λ w u d le q. subst (λ x. Comes effect R x u.steps (go w u)) (sym q.at)
@@ -129,15 +143,18 @@ module _ (effect : ℕ → Question → Effect) (g : Layout) where
   plain_length v (more e rest) = ap suc (plain_length v rest)
 
   called_comes : (R : ℕ → State → Config → Type 0) (b : Bool) (es : List Expression) (code : Statement) (k n : ℕ) (f : List Expression → Statement) (κ : Continuation) (ns : List (List ℕ)) (l : ℕ → ℕ) (s : State) (r : Run (List ℕ)) (go : List ℕ → State → Run ℕ)
-      → Fits g ns s l → (b ≡ true → PlainIs r s (values es l (world_at s))) → length es ≡ n → ((κ : Continuation) → Comes effect (PutsAll k n κ ns l) (config code κ l (world_at s)) s.steps r)
+      → ((b : Bool) → values es l (world_at s) ≡ None → Stuck effect b (config (f es) κ l (world_at s)) s.steps s.output) → Fits g ns s l → (b ≡ true → PlainIs r s (values es l (world_at s))) → length es ≡ n → ((κ : Continuation) → Comes effect (PutsAll k n κ ns l) (config code κ l (world_at s)) s.steps r)
       → ((us : List Expression) (m : ℕ → ℕ) (u : State) (ws : List ℕ) → u.steps ≤ s.steps → Fits g ns u m → ((i : ℕ) → i < k → m i ≡ l i) → values us m (world_at u) ≡ Some ws → length ws ≡ n → Comes effect R (config (f us) κ m (world_at u)) u.steps (go ws u))
       → Comes effect R (config (called_on b es code k n f) κ l (world_at s)) s.steps (then_do r go)
-  called_comes R true es code k n f κ ns l s (Gives ws u) go h p many c cont =
+  called_comes R true es code k n f κ ns l s (Gives ws u) go needs h p many c cont =
       let q : (u ≡ s) × (values es l (world_at s) ≡ Some ws) = p refl in
       subst (λ t. Comes effect R (config (f es) κ l (world_at s)) s.steps (go ws t)) (sym q.0) (cont es l s ws (omega arith) h (λ i lt. refl) q.1 (values_length es l (world_at s) ws q.1 ∙ many))
-  called_comes R true es code k n f κ ns l s (meaning.Going o) go h p many c cont = absurd (p refl)
-  called_comes R true es code k n f κ ns l s (meaning.Wrong cause o) go h p many c cont = tt
-  called_comes R false es code k n f κ ns l s r go h p many c cont =
+  called_comes R true es code k n f κ ns l s (meaning.Going o) go needs h p many c cont = absurd (p refl)
+  called_comes R true es code k n f κ ns l s (meaning.Wrong cause o) go needs h p many c cont =
+      let q : (values es l (world_at s) ≡ None) × (o ≡ s.output) = p refl in
+      let stuck : Bool = stays effect.mode cause in
+      subst (λ y. Stuck effect stuck (config (f es) κ l (world_at s)) s.steps y) (sym q.1) (needs stuck q.0)
+  called_comes R false es code k n f κ ns l s r go needs h p many c cont =
       comes_moved effect R (config (Sequence code (f (locals_from k n))) κ l (world_at s)) (config code (Then (f (locals_from k n)) κ) l (world_at s)) s.steps (then_do r go) refl
       (comes_then effect (PutsAll k n (Then (f (locals_from k n)) κ) ns l) R (config code (Then (f (locals_from k n)) κ) l (world_at s)) s.steps r go (c (Then (f (locals_from k n)) κ))
       (λ ws u d le q. subst (λ x. Comes effect R x u.steps (go ws u)) (sym q.at)
@@ -146,9 +163,35 @@ module _ (effect : ℕ → Question → Effect) (g : Layout) where
       (ap (λ c. values (locals_from k c) q.variables (world_at u)) (sym q.many) ∙ passed_values q.variables k ws (world_at u) q.passed) q.many))))
 
   module _ (call : meaning.Calls) (n : ℕ) (facts : CallFacts effect g call n) where
+    -- a call that is not finished
+    call_cut : (k f : ℕ) (us : List Expression) (ws : List ℕ) (κ : Continuation) (l : ℕ → ℕ) (s : State) (o : List ℕ) → values us l (world_at s) ≡ Some ws
+        → effect.does s.steps (record { function = f; arguments = ws; world = world_at s }) ≡ world.Unfinished o → Cut effect (config (Call (Some k) f us) κ l (world_at s)) s.steps o
+    call_cut k f us ws κ l s o ps e =
+        let q : Question = record { function = f; arguments = ws; world = world_at s } in
+        let resume : Answer → Config = λ (a : Answer). config Skip κ (put l k a.value) a.world in
+        let c : Config = config (Call (Some k) f us) κ l (world_at s) in
+        let here : cminor_move c ≡ Calls q resume = ap (λ p. tried p (λ vs. Calls (record { function = f; arguments = vs; world = world_at s }) resume)) ps in
+        record {
+          k = 1;
+          j = s.steps;
+          same = ap (λ m. act effect.does m s.output s.steps (runs effect 0)) here ∙ ap (λ y. layer.resumed y resume (runs effect 0)) e;
+          enough = let g : works effect 1 s.steps c ≡ suc s.steps = ap (λ m. work_act effect.does m s.steps (works effect 0)) here ∙ ap (λ y. suc (work_resumed y resume s.steps (works effect 0))) e in omega arith;
+        }
+
+    -- a call that goes wrong
+    call_stuck : (b : Bool) (k f : ℕ) (us : List Expression) (ws : List ℕ) (κ : Continuation) (l : ℕ → ℕ) (s : State) (o : List ℕ) → values us l (world_at s) ≡ Some ws
+        → effect.does s.steps (record { function = f; arguments = ws; world = world_at s }) ≡ (if b then world.Unfinished o else world.Failed o) → Stuck effect b (config (Call (Some k) f us) κ l (world_at s)) s.steps o
+    call_stuck true k f us ws κ l s o ps e = inl (call_cut k f us ws κ l s o ps e)
+    call_stuck false k f us ws κ l s o ps e =
+        let q : Question = record { function = f; arguments = ws; world = world_at s } in
+        let resume : Answer → Config = λ (a : Answer). config Skip κ (put l k a.value) a.world in
+        let here : cminor_move (config (Call (Some k) f us) κ l (world_at s)) ≡ Calls q resume =
+        ap (λ p. tried p (λ vs. Calls (record { function = f; arguments = vs; world = world_at s }) resume)) ps in
+        record { k = 1; j = s.steps; wrong = ap (λ m. act effect.does m s.output s.steps (runs effect 0)) here ∙ ap (λ y. layer.resumed y resume (runs effect 0)) e }
+
     -- a call on some words
     call_comes : (k f : ℕ) (us : List Expression) (ws : List ℕ) (κ : Continuation) (ns : List (List ℕ)) (l : ℕ → ℕ) (s : State) (x : by_name.Effect by_name.Answer) → length ns ≤ k → Fits g ns s l → values us l (world_at s) ≡ Some ws
-        → effect s.steps (record { function = f; arguments = ws; world = world_at s }) ≡ numbered x → KeepsObjects (shared_of s) x
+        → effect.does s.steps (record { function = f; arguments = ws; world = world_at s }) ≡ numbered effect.mode x → KeepsObjects (shared_of s) x
         → Comes effect (Puts k κ ns l) (config (Call (Some k) f us) κ l (world_at s)) s.steps (after_call s.locals x)
     call_comes k f us ws κ ns l s (by_name.Answers a left) le h ps e kept =
         let q : Question = record { function = f; arguments = ws; world = world_at s } in
@@ -168,18 +211,8 @@ module _ (effect : ℕ → Question → Effect) (g : Layout) where
             same = λ i lt. put_below l k a.word i lt;
           };
         }
-    call_comes k f us ws κ ns l s (by_name.Unfinished o) le h ps e kept =
-        let q : Question = record { function = f; arguments = ws; world = world_at s } in
-        let resume : Answer → Config = λ (a : Answer). config Skip κ (put l k a.value) a.world in
-        let c : Config = config (Call (Some k) f us) κ l (world_at s) in
-        let here : cminor_move c ≡ Calls q resume = ap (λ p. tried p (λ vs. Calls (record { function = f; arguments = vs; world = world_at s }) resume)) ps in
-        record {
-          k = 1;
-          j = s.steps;
-          same = ap (λ m. act effect m s.output s.steps (runs effect 0)) here ∙ ap (λ y. layer.resumed y resume (runs effect 0)) e;
-          enough = let g : works effect 1 s.steps c ≡ suc s.steps = ap (λ m. work_act effect m s.steps (works effect 0)) here ∙ ap (λ y. suc (work_resumed y resume s.steps (works effect 0))) e in omega arith;
-        }
-    call_comes k f us ws κ ns l s (by_name.Failed cause o) le h ps e kept = tt
+    call_comes k f us ws κ ns l s (by_name.Unfinished o) le h ps e kept = call_cut k f us ws κ l s o ps e
+    call_comes k f us ws κ ns l s (by_name.Failed cause o) le h ps e kept = call_stuck (stays effect.mode cause) k f us ws κ l s o ps e
 
     one_by : (o : Option ℕ) (p : Option (List ℕ)) (ws : List ℕ) → then_value o (λ w. then_value p (λ vs. Some (w ∷ vs))) ≡ Some ws → length ws ≡ 1 → (w : ℕ) × ((ws ≡ w ∷ []) × (o ≡ Some w))
     one_by None p ws e f = absurd (cc)
@@ -231,6 +264,29 @@ module _ (effect : ℕ → Question → Effect) (g : Layout) where
         subst (λ r. Comes effect (Puts k κ ns l) (config (Call (Some k) f us) κ l (world_at s)) s.steps r) (sym (facts.does x ws f s e known lt h.sized).does)
         (call_comes k f us ws κ ns l s (facts.does x ws f s e known lt h.sized).what le h ps (facts.does x ws f s e known lt h.sized).same (facts.does x ws f s e known lt h.sized).keeps)
 
+    -- a call breaks if an argument has no value
+    one_missing : (u : Expression) (l : ℕ → ℕ) (h : World) → values (u ∷ []) l h ≡ None → value u l h ≡ None
+    one_missing u l h e = by (value u l h) e
+      where
+        by : (o : Option ℕ) → then_value o (λ w. Some (w ∷ [])) ≡ None → o ≡ None
+        by None e = refl
+        by (Some w) e = absurd (cc)
+
+    invoked_stuck : (c : Callee) (b : Bool) (k : ℕ) (us : List Expression) (κ : Continuation) (l : ℕ → ℕ) (s : State) → IsCalled g c (length us) → values us l (world_at s) ≡ None
+        → Stuck effect b (config (invoked c k us) κ l (world_at s)) s.steps s.output
+    invoked_stuck WriteWord b k [] κ l s known e = absurd (let m : 0 ≡ 1 = known in omega arith)
+    invoked_stuck WriteWord b k (u ∷ []) κ l s known e =
+        let X : Statement = Set k (Constant 0) in
+        stuck_moved effect b (config (Sequence (Write u) X) κ l (world_at s)) (config (Write u) (Then X κ) l (world_at s)) s.steps s.output refl
+        (stuck_here effect b (config (Write u) (Then X κ) l (world_at s)) s.steps s.output
+        (ap (λ o. tried o (λ w. Goes (config Skip (Then X κ) l (record (world_at s) { output = s.output ++ (w ∷ []) })))) (one_missing u l (world_at s) e)) refl)
+    invoked_stuck WriteWord b k (u ∷ z ∷ rest) κ l s known e = absurd (let m : suc (suc (length rest)) ≡ 1 = known in omega arith)
+    invoked_stuck ReadWord b k [] κ l s known e = absurd (cc)
+    invoked_stuck ReadWord b k (u ∷ rest) κ l s known e = absurd (let m : suc (length rest) ≡ 0 = known in omega arith)
+    invoked_stuck (Defined f) b k us κ l s known e =
+        stuck_here effect b (config (Call (Some k) f us) κ l (world_at s)) s.steps s.output
+        (ap (λ o. tried o (λ vs. Calls (record { function = f; arguments = vs; world = world_at s }) (λ (a : Answer). config Skip κ (put l k a.value) a.world))) e) refl
+
     -- ---- expressions
 
     abbrev PutsValue : Expr → Type 0
@@ -241,7 +297,7 @@ module _ (effect : ℕ → Question → Effect) (g : Layout) where
     truth_comes : (b : Expr) (v : Environment) (k : ℕ) (κ : Continuation) (l : ℕ → ℕ) (s : State) → PutsValue b → Known g v b → free v ≤ k → s.steps < n → Fits g v.locals s l
         → Comes effect (Puts k κ v.locals l) (config (used (is_plain b) (plain g v b) (put_expr g v k b) k (λ y. Set k (truth_of y))) κ l (world_at s)) s.steps (then_do (evaluate b (types_in v) call s) (λ y t. Gives (truth_value (is_true y)) t))
     truth_comes b v k κ l s hb known le lt h =
-        used_comes (Puts k κ v.locals l) (is_plain b) (plain g v b) (put_expr g v k b) k (λ y. Set k (truth_of y)) κ v.locals l s (evaluate b (types_in v) call s) (λ y t. Gives (truth_value (is_true y)) t) h
+        used_comes (Puts k κ v.locals l) (is_plain b) (plain g v b) (put_expr g v k b) k (λ y. Set k (truth_of y)) κ v.locals l s (evaluate b (types_in v) call s) (λ y t. Gives (truth_value (is_true y)) t) (set_needs k truth_of truth_none) h
         (λ p. plain_is g call b v l s p known h) (λ μ. hb v k μ l s known le lt h)
         (λ y m u w less fits same is. puts_from k κ v.locals l m _ u.steps (Gives (truth_value (is_true w)) u) same
         (set_gives k (truth_value (is_true w)) (truth_of y) κ v.locals m u le fits (truth_is y m (world_at u) w is)))
@@ -284,7 +340,8 @@ module _ (effect : ℕ → Question → Effect) (g : Layout) where
     right_comes x op t b v k κ l s strict here hb known le lt h =
         subst (λ d. Comes effect (Puts k κ v.locals l) (config (used (is_plain b) (plain g v b) (put_expr g v (suc k) b) (suc k) (λ y. Set k (binary_of op t (Local k) y))) κ l (world_at s)) s.steps
         (unless_decided d (λ u. then_do (evaluate b (types_in v) call u) (λ y z. given op (binary_word op t x y) z)) s)) (sym (strict_undecided op x strict))
-        (used_comes (Puts k κ v.locals l) (is_plain b) (plain g v b) (put_expr g v (suc k) b) (suc k) (λ y. Set k (binary_of op t (Local k) y)) κ v.locals l s (evaluate b (types_in v) call s) (λ y z. given op (binary_word op t x y) z) h
+        (used_comes (Puts k κ v.locals l) (is_plain b) (plain g v b) (put_expr g v (suc k) b) (suc k) (λ y. Set k (binary_of op t (Local k) y)) κ v.locals l s (evaluate b (types_in v) call s) (λ y z. given op (binary_word op t x y) z)
+        (set_needs k (λ y. binary_of op t (Local k) y) (λ y m z e. binary_none op t (Local k) y m z strict e)) h
         (λ p. plain_is g call b v l s p known h) (λ μ. hb v (suc k) μ l s known (omega arith) lt h)
         (λ y m u w less fits same is. puts_from k κ v.locals l m _ u.steps (given op (binary_word op t x w) u) (λ i below. same i (omega arith))
         (set_comes k (binary_of op t (Local k) y) κ v.locals m u (given op (binary_word op t x w) u) le fits
@@ -300,7 +357,7 @@ module _ (effect : ℕ → Question → Effect) (g : Layout) where
         let f : Expression → Statement = λ x. branch x (used (is_plain b) (plain g v b) (put_expr g v k b) k (λ y. Set k (truth_of y))) (Set k (Constant 0)) in
         let go : ℕ → State → Run ℕ = λ x z. unless_decided (decided source.LogicalAnd x) (λ u. then_do (evaluate b (types_in v) call u) (λ y w. given source.LogicalAnd (binary_word source.LogicalAnd t x y) w)) z in
         subst (λ o. Comes effect (Puts k κ v.locals l) (config (used (is_plain a) (plain g v a) (put_expr g v k a) k f) κ l (world_at s)) s.steps (evaluate (tree.Binary o a b) (types_in v) call s)) (sym (is_conjunction op is))
-        (used_comes (Puts k κ v.locals l) (is_plain a) (plain g v a) (put_expr g v k a) k f κ v.locals l s (evaluate a (types_in v) call s) go h
+        (used_comes (Puts k κ v.locals l) (is_plain a) (plain g v a) (put_expr g v k a) k f κ v.locals l s (evaluate a (types_in v) call s) go (branch_needs (used (is_plain b) (plain g v b) (put_expr g v k b) k (λ y. Set k (truth_of y))) (Set k (Constant 0))) h
         (λ p. plain_is g call a v l s p known.0 h) (λ μ. ha v k μ l s known.0 le lt h)
         (λ y m u w less fits same at. puts_from k κ v.locals l m _ u.steps (go w u) same (and_comes w y t b v k κ m u at hb known.1 le (omega arith) fits)))
     connected_comes Disjunction both op a b v k κ l s is bs ha hb known le lt h =
@@ -308,7 +365,7 @@ module _ (effect : ℕ → Question → Effect) (g : Layout) where
         let f : Expression → Statement = λ x. branch x (Set k (Constant 1)) (used (is_plain b) (plain g v b) (put_expr g v k b) k (λ y. Set k (truth_of y))) in
         let go : ℕ → State → Run ℕ = λ x z. unless_decided (decided source.LogicalOr x) (λ u. then_do (evaluate b (types_in v) call u) (λ y w. given source.LogicalOr (binary_word source.LogicalOr t x y) w)) z in
         subst (λ o. Comes effect (Puts k κ v.locals l) (config (used (is_plain a) (plain g v a) (put_expr g v k a) k f) κ l (world_at s)) s.steps (evaluate (tree.Binary o a b) (types_in v) call s)) (sym (is_disjunction op is))
-        (used_comes (Puts k κ v.locals l) (is_plain a) (plain g v a) (put_expr g v k a) k f κ v.locals l s (evaluate a (types_in v) call s) go h
+        (used_comes (Puts k κ v.locals l) (is_plain a) (plain g v a) (put_expr g v k a) k f κ v.locals l s (evaluate a (types_in v) call s) go (branch_needs (Set k (Constant 1)) (used (is_plain b) (plain g v b) (put_expr g v k b) k (λ y. Set k (truth_of y)))) h
         (λ p. plain_is g call a v l s p known.0 h) (λ μ. ha v k μ l s known.0 le lt h)
         (λ y m u w less fits same at. puts_from k κ v.locals l m _ u.steps (go w u) same (or_comes w y t b v k κ m u at hb known.1 le (omega arith) fits)))
     connected_comes Strict true op a b v k κ l s is bs ha hb known le lt h =
@@ -333,26 +390,28 @@ module _ (effect : ℕ → Question → Effect) (g : Layout) where
       puts (Number t w) v k κ l s known le lt h = set_comes k (Constant w) κ v.locals l s (Gives w s) le h (refl, refl)
       puts (Variable x) v k κ l s known le lt h = set_comes k (variable_of g v x.text) κ v.locals l s (Gives (variable_word x.text s) s) le h (refl, variable_value g v x.text s l known h)
       puts (Element x e) v k κ l s known le lt h =
-          used_comes (Puts k κ v.locals l) (is_plain e) (plain g v e) (put_expr g v k e) k (λ i. Set k (Load (width_of g x.text) (object_of g x.text) i)) κ v.locals l s (evaluate e (types_in v) call s) (λ i t. read_element x.text i t) h
+          used_comes (Puts k κ v.locals l) (is_plain e) (plain g v e) (put_expr g v k e) k (λ i. Set k (Load (width_of g x.text) (object_of g x.text) i)) κ v.locals l s (evaluate e (types_in v) call s) (λ i t. read_element x.text i t)
+          (set_needs k (λ i. Load (width_of g x.text) (object_of g x.text) i) (λ i m z e. ap (λ o. then_value o (λ j. world.element z (width_of g x.text) (object_of g x.text) j)) e)) h
           (λ p. plain_is g call e v l s p known.1 h) (λ μ. puts e v k μ l s known.1 le lt h)
           (λ y m u w less fits same is. puts_from k κ v.locals l m _ u.steps (read_element x.text w u) same
           (set_comes k (Load (width_of g x.text) (object_of g x.text) y) κ v.locals m u (read_element x.text w u) le fits (subst (λ o. PlainIs (read_element x.text w u) u o) (sym (element_value g x.text y w m u known.0 fits.sized is)) (plain_read x.text w u))))
       puts (tree.Call f es) v k κ l s known le lt h =
           let c : Callee = callee g f.text in
-          called_comes (Puts k κ v.locals l) (are_plain es) (all_plain g v es) (in_sequence (put_all g v k es)) k (count es) (λ us. invoked c k us) κ v.locals l s (evaluate_all es (types_in v) call s) (λ ws t. call f.text ws t) h
+          called_comes (Puts k κ v.locals l) (are_plain es) (all_plain g v es) (in_sequence (put_all g v k es)) k (count es) (λ us. invoked c k us) κ v.locals l s (evaluate_all es (types_in v) call s) (λ ws t. call f.text ws t)
+          (λ b e. invoked_stuck c b k (all_plain g v es) κ l s (subst (λ j. IsCalled g c j) (sym (plain_length v es)) known.0) e) h
           (λ p. all_plain_is g call es v l s p known.1 h) (plain_length v es) (λ μ. puts_all es v k μ l s known.1 le lt h)
           (λ us m u ws less fits same is many. puts_from k κ v.locals l m _ u.steps (call f.text ws u) same
           (invoked_comes c k f.text us ws κ v.locals m u refl (subst (λ j. IsCalled g c j) (sym many) known.0) le (omega arith) fits is))
       puts (Parenthesised e) v k κ l s known le lt h = puts e v k κ l s known le lt h
       puts (tree.Unary op e) v k κ l s known le lt h =
-          used_comes (Puts k κ v.locals l) (is_plain e) (plain g v e) (put_expr g v k e) k (λ a. Set k (unary_of op a)) κ v.locals l s (evaluate e (types_in v) call s) (λ a t. Gives (unary_word op a) t) h
+          used_comes (Puts k κ v.locals l) (is_plain e) (plain g v e) (put_expr g v k e) k (λ a. Set k (unary_of op a)) κ v.locals l s (evaluate e (types_in v) call s) (λ a t. Gives (unary_word op a) t) (set_needs k (λ a. unary_of op a) (λ a m z e. unary_none op a m z e)) h
           (λ p. plain_is g call e v l s p known h) (λ μ. puts e v k μ l s known le lt h)
           (λ y m u w less fits same is. puts_from k κ v.locals l m _ u.steps (Gives (unary_word op w) u) same
           (set_gives k (unary_word op w) (unary_of op y) κ v.locals m u le fits (unary_value op y m (world_at u) ∙ ap (λ o. then_value o (λ a. Some (unary_word op a))) is)))
       puts (Cast t e) v k κ l s known le lt h = puts e v k κ l s known le lt h
       puts (tree.Binary op a b) v k κ l s known le lt h = connected_comes (kind op) (is_plain a && is_plain b) op a b v k κ l s refl refl (puts a) (puts b) known le lt h
       puts (Conditional c a b) v k κ l s known le lt h =
-          used_comes (Puts k κ v.locals l) (is_plain c) (plain g v c) (put_expr g v k c) k (λ x. branch x (put_expr g v k a) (put_expr g v k b)) κ v.locals l s (evaluate c (types_in v) call s) (λ w t. choose w (evaluate a (types_in v) call) (evaluate b (types_in v) call) t) h
+          used_comes (Puts k κ v.locals l) (is_plain c) (plain g v c) (put_expr g v k c) k (λ x. branch x (put_expr g v k a) (put_expr g v k b)) κ v.locals l s (evaluate c (types_in v) call s) (λ w t. choose w (evaluate a (types_in v) call) (evaluate b (types_in v) call) t) (branch_needs (put_expr g v k a) (put_expr g v k b)) h
           (λ p. plain_is g call c v l s p known.0 h) (λ μ. puts c v k μ l s known.0 le lt h)
           (λ y m u w less fits same is. puts_from k κ v.locals l m _ u.steps (choose w (evaluate a (types_in v) call) (evaluate b (types_in v) call) u) same
           (choice_comes (Puts k κ v.locals m) y (put_expr g v k a) (put_expr g v k b) κ m u w (evaluate a (types_in v) call) (evaluate b (types_in v) call) is

@@ -327,6 +327,25 @@ binary_value source.Or t a b l h s = refl
 binary_value source.LogicalAnd t a b l h s = absurd (cc)
 binary_value source.LogicalOr t a b l h s = absurd (cc)
 
+-- ---- what has no value if an operand has none
+
+right_none : (o p : Option ℕ) (f : ℕ → ℕ → Option ℕ) → p ≡ None → then_value o (λ a. then_value p (λ b. f a b)) ≡ None
+right_none None p f e = refl
+right_none (Some a) p f e = ap (λ q. then_value q (λ b. f a b)) e
+
+pub unary_none : (op : UnaryOperator) (e : Expression) (l : ℕ → ℕ) (h : World) → value e l h ≡ None → value (unary_of op e) l h ≡ None
+unary_none op e l h is = unary_value op e l h ∙ ap (λ o. then_value o (λ a. Some (unary_word op a))) is
+
+pub binary_none : (op : BinaryOperator) (t : Scalar) (a b : Expression) (l : ℕ → ℕ) (h : World) → kind op ≡ Strict → value b l h ≡ None → value (binary_of op t a b) l h ≡ None
+binary_none op t a b l h s is = binary_value op t a b l h s ∙ right_none (value a l h) (value b l h) (λ x y. binary_word op t x y) is
+
+pub truth_none : (e : Expression) (l : ℕ → ℕ) (h : World) → value e l h ≡ None → value (truth_of e) l h ≡ None
+truth_none e l h is = by (is_truth e)
+  where
+    by : (b : Bool) → value (if b then e else Unary one.IsZero (Unary one.IsZero e)) l h ≡ None
+    by true = is
+    by false = ap (λ o. then_value (then_value o (λ a. Some (is_zero a))) (λ a. Some (is_zero a))) is
+
 pub strict_undecided : (op : BinaryOperator) (a : ℕ) → kind op ≡ Strict → decided op a ≡ None
 strict_undecided source.LogicalAnd a e = absurd (cc)
 strict_undecided source.LogicalOr a e = absurd (cc)
@@ -359,19 +378,19 @@ and_right false b e = absurd (cc)
 abbrev pub PlainIs : {A : Type 0} → Run A → State → Option A → Type 0
 PlainIs (Gives x u) s o = (u ≡ s) × (o ≡ Some x)
 PlainIs (meaning.Going output) s o = ⊥
-PlainIs (meaning.Wrong cause output) s o = o ≡ None
+PlainIs (meaning.Wrong cause output) s o = (o ≡ None) × (output ≡ s.output)
 
 pub plain_then : {A B : Type 0} (r : Run A) (o : Option A) (s : State) (go : A → State → Run B) (f : A → Option B) → PlainIs r s o → ((x : A) → PlainIs (go x s) s (f x)) → PlainIs (then_do r go) s (then_value o f)
 plain_then (Gives x u) o s go f h k = subst (λ p. PlainIs (go x u) s (then_value p f)) (sym h.1) (subst (λ t. PlainIs (go x t) s (f x)) (sym h.0) (k x))
 plain_then (meaning.Going output) o s go f h k = absurd h
-plain_then (meaning.Wrong cause output) o s go f h k = ap (λ p. then_value p f) h
+plain_then (meaning.Wrong cause output) o s go f h k = (ap (λ p. then_value p f) h.0, h.1)
 
 pub plain_given : (op : BinaryOperator) (o : Option ℕ) (s : State) → PlainIs (given op o s) s o
-plain_given op None s = refl
+plain_given op None s = (refl, refl)
 plain_given op (Some w) s = (refl, refl)
 
 plain_read_by : (o : Option ℕ) (s : State) → PlainIs {A = ℕ} (elim o [ None ↦ meaning.Wrong Index s.output | Some w ↦ Gives w s ]) s o
-plain_read_by None s = refl
+plain_read_by None s = (refl, refl)
 plain_read_by (Some w) s = (refl, refl)
 
 pub plain_read : (x : List ℕ) (i : ℕ) (s : State) → PlainIs (read_element x i s) s (slice_get (global_words s.globals x) i)
@@ -395,7 +414,7 @@ module _ (g : Layout) where
   pub fits_put : (ns : List (List ℕ)) (s : State) (l : ℕ → ℕ) (k w : ℕ) → length ns ≤ k → Fits ns s l → Fits ns s (put l k w)
   fits_put ns s l k w le h = fits_same ns s l (put l k w) (λ i lt. put_below l k w i (omega arith)) h
 
-  object_is : (s : State) (x : List ℕ) (i : ℕ) → IsObject g x → sizes s.globals ≡ laid_sizes g.objects → element (world_at s) (width_of g x) (object_of g x) i ≡ slice_get (global_words s.globals x) i
+  pub object_is : (s : State) (x : List ℕ) (i : ℕ) → IsObject g x → sizes s.globals ≡ laid_sizes g.objects → element (world_at s) (width_of g x) (object_of g x) i ≡ slice_get (global_words s.globals x) i
   object_is s x i known e =
       ap (λ o. element (world_at s) (width_of g x) (unwrap_or o 0) i) known.1 ∙ element_object s.globals g.objects x known.0 i s.input s.output e known.1
 

@@ -2,10 +2,14 @@
 use Rattle.std.specs.Prelude.{ℕ, ◌<◌, List, [], ◌∷◌, Option, Some, None}
 use Rattle.cc_cminor.specs.Cminor.{Expression, Constant, Local, Unary, Binary, Load, Statement, Skip, Set, Store, Call, Read, Write, Sequence, If, Loop, Block, Exit, Return}
 
--- numbers of variables are below this: a function has at most 8 parameters and 256 locals, and a full expression of at most 512 tokens
--- makes fewer than 512 values wait
+-- numbers of variables are below this
 abbrev pub most_variables : ℕ
-most_variables = 1024
+most_variables = 2048
+
+-- in code that comes from C they are below this: a function has at most 8 parameters and 256 locals, and a full expression of at most 512
+-- tokens makes fewer than 512 values wait
+abbrev pub most_lowered : ℕ
+most_lowered = 1024
 
 -- a unit has at most so many objects, since each has a word, and so many functions
 abbrev pub most_objects : ℕ
@@ -14,31 +18,37 @@ most_objects = 65536
 abbrev pub most_functions : ℕ
 most_functions = 64
 
-abbrev pub ExpressionFits : Expression → Type 0
-ExpressionFits (Constant w) = Unit {0}
-ExpressionFits (Local x) = x < most_variables
-ExpressionFits (Unary op e) = ExpressionFits e
-ExpressionFits (Binary op a b) = ExpressionFits a × ExpressionFits b
-ExpressionFits (Load width o e) = (o < most_objects) × ExpressionFits e
+-- ---- with variables below m
 
-abbrev pub ExpressionsFit : List Expression → Type 0
-ExpressionsFit [] = Unit {0}
-ExpressionsFit (e ∷ rest) = ExpressionFits e × ExpressionsFit rest
+abbrev pub ExpressionBelow : (m : ℕ) → Expression → Type 0
+ExpressionBelow m (Constant w) = Unit {0}
+ExpressionBelow m (Local x) = x < m
+ExpressionBelow m (Unary op e) = ExpressionBelow m e
+ExpressionBelow m (Binary op a b) = ExpressionBelow m a × ExpressionBelow m b
+ExpressionBelow m (Load width o e) = (o < most_objects) × ExpressionBelow m e
 
-abbrev pub ResultFits : Option ℕ → Type 0
-ResultFits None = Unit {0}
-ResultFits (Some x) = x < most_variables
+abbrev pub ExpressionsBelow : (m : ℕ) → List Expression → Type 0
+ExpressionsBelow m [] = Unit {0}
+ExpressionsBelow m (e ∷ rest) = ExpressionBelow m e × ExpressionsBelow m rest
 
+abbrev pub ResultBelow : (m : ℕ) → Option ℕ → Type 0
+ResultBelow m None = Unit {0}
+ResultBelow m (Some x) = x < m
+
+abbrev pub StatementBelow : (m : ℕ) → Statement → Type 0
+StatementBelow m Skip = Unit {0}
+StatementBelow m (Set x e) = (x < m) × ExpressionBelow m e
+StatementBelow m (Store width o i e) = (o < most_objects) × ExpressionBelow m i × ExpressionBelow m e
+StatementBelow m (Call to f es) = ResultBelow m to × (f < most_functions) × ExpressionsBelow m es
+StatementBelow m (Read to) = ResultBelow m to
+StatementBelow m (Write e) = ExpressionBelow m e
+StatementBelow m (Sequence a b) = StatementBelow m a × StatementBelow m b
+StatementBelow m (If e a b) = ExpressionBelow m e × StatementBelow m a × StatementBelow m b
+StatementBelow m (Loop a) = StatementBelow m a
+StatementBelow m (Block a) = StatementBelow m a
+StatementBelow m (Exit k) = Unit {0}
+StatementBelow m (Return e) = ExpressionBelow m e
+
+-- within the limit
 abbrev pub StatementFits : Statement → Type 0
-StatementFits Skip = Unit {0}
-StatementFits (Set x e) = (x < most_variables) × ExpressionFits e
-StatementFits (Store width o i e) = (o < most_objects) × ExpressionFits i × ExpressionFits e
-StatementFits (Call to f es) = ResultFits to × (f < most_functions) × ExpressionsFit es
-StatementFits (Read to) = ResultFits to
-StatementFits (Write e) = ExpressionFits e
-StatementFits (Sequence a b) = StatementFits a × StatementFits b
-StatementFits (If e a b) = ExpressionFits e × StatementFits a × StatementFits b
-StatementFits (Loop a) = StatementFits a
-StatementFits (Block a) = StatementFits a
-StatementFits (Exit k) = Unit {0}
-StatementFits (Return e) = ExpressionFits e
+StatementFits s = StatementBelow most_variables s

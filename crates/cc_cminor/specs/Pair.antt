@@ -6,7 +6,9 @@ use Rattle.cc_ast.specs.declared.unit.Unit as parsed
 use Rattle.cc_types.specs.Typed.{IsTyped}
 use Rattle.cc_c_laws.specs.Meaning.{functions}
 use Rattle.cc_c_laws.specs.Resolved.{arities}
-use Rattle.cc_c_laws.specs.Numbered.{IsMeaningOf}
+use Rattle.cc_c_laws.specs.Numbered.{IsMeaning}
+use Rattle.cc_c_laws.specs.declared.mode.Mode.{Mode}
+use Rattle.cc_c_laws.specs.declared.mode.Mode.TheVariants.{Checked}
 use Rattle.cc_simulation.specs.Behavior.{Follows}
 use Rattle.cc_simulation.specs.World.{World}
 use Rattle.cc_simulation.specs.Run.{run}
@@ -15,10 +17,12 @@ use Rattle.cc_simulation.specs.Tracks.{Tracks}
 use Rattle.cc_cminor.specs.Cminor.{Expression, Statement, Skip, Set, Store, Call, Read, Write, Sequence, If, Loop, Block, Exit, Return, cminor_move, cminor_output, cminor_start}
 use Rattle.cc_cminor.specs.declared.code.Statement as code
 use Rattle.cc_cminor.specs.Code.{statement_of}
+use Rattle.cc_cminor.specs.Breaks.{TracksOrBreaks, GoesWrongWith}
 use Rattle.cc_cminor.specs.Numbers.{StatementFits}
 
--- a pair as contracts see it: the unit, the function's number in the order of definitions, and its Cminor
+-- a pair as contracts see it: the mode, the unit, the function's number in the order of definitions, and its Cminor
 pub record Pair : Type 0 where
+  pub mode : Mode
   pub unit : parsed.Unit
   pub function : ℕ
   pub statement : code.Statement
@@ -47,13 +51,22 @@ AreCalls unit (Exit k) = Unit {0}
 AreCalls unit (Return e) = Unit {0}
 
 -- the code's run keeps up with the function, at rate 1: each move pays for one step of the source
-abbrev pub KeepsUp : List External → (function : ℕ) → Statement → Type 0
-KeepsUp unit f s = (meaning : Meaning) → IsMeaningOf unit meaning → Tracks meaning f 1 cminor_move cminor_output (cminor_start s)
+abbrev pub KeepsUp : Mode → List External → (function : ℕ) → Statement → Type 0
+KeepsUp mode unit f s = (meaning : Meaning) → IsMeaning mode unit meaning → Tracks meaning f 1 cminor_move cminor_output (cminor_start s)
+
+-- the code goes wrong as the function does: its run keeps up with the checked function, or breaks with the same output while that goes on for
+-- ever
+abbrev pub FailsAlike : List External → (function : ℕ) → Statement → Type 0
+FailsAlike unit f s = (meaning : Meaning) → IsMeaning Checked unit meaning → TracksOrBreaks meaning f 1 cminor_move cminor_output (cminor_start s)
+
+-- and, in each mode, it goes wrong if the function does
+abbrev pub GoesWrong : List External → (function : ℕ) → Statement → Type 0
+GoesWrong unit f s = (mode : Mode) (meaning : Meaning) → IsMeaning mode unit meaning → GoesWrongWith meaning f cminor_move cminor_output (cminor_start s)
 
 -- so at each number of open calls the code's run follows the function's body
-abbrev pub FollowsFunction : List External → (function : ℕ) → Statement → Type 0
-FollowsFunction unit f s =
-    (meaning : Meaning) → IsMeaningOf unit meaning → (opened : ℕ) → opened < most_open → (ws : List ℕ) (h : World) → IsCall meaning f ws h
+abbrev pub FollowsFunction : Mode → List External → (function : ℕ) → Statement → Type 0
+FollowsFunction mode unit f s =
+    (meaning : Meaning) → IsMeaning mode unit meaning → (opened : ℕ) → opened < most_open → (ws : List ℕ) (h : World) → IsCall meaning f ws h
     → Follows (λ n. answered (meaning.body n opened f ws h)) (λ (b : ℕ × ℕ). run cminor_move cminor_output (call_effect meaning (suc opened)) b.0 b.1 (cminor_start s ws h))
 
 -- what a pair's type keeps
@@ -62,4 +75,4 @@ pub record IsPair (p : Pair) : Type 0 where
   pub function : p.function < length (functions (tree_of p))
   pub calls : AreCalls (tree_of p) (code_of p)
   pub numbers : StatementFits (code_of p)
-  pub keeps_up : KeepsUp (tree_of p) p.function (code_of p)
+  pub keeps_up : KeepsUp p.mode (tree_of p) p.function (code_of p)

@@ -1,8 +1,11 @@
--- How many statements and expressions code has, against the tokens of the definition that it comes from.
+-- How many statements and expressions code has, and how many operations that may have no answer, against the tokens of the definition that
+-- it comes from.
 use Rattle.std.specs.Prelude.{◌≡◌, ℕ, suc, ◌+◌, ◌*◌, ◌≤◌, List, [], ◌∷◌, length, Some, slice_get}
 use Rattle.cc_ast.specs.Tree.{External}
 use Rattle.cc_ast.specs.Grammar.{Measured, SpellsExternal}
 use Rattle.cc_types.specs.Typed.{definitions}
+use Rattle.cc_words.specs.declared.operators.Binary as two
+use Rattle.cc_words.specs.declared.operators.Binary.TheVariants.{DivS, DivU, RemS, RemU, Shl, ShrS, ShrU}
 use Rattle.cc_cminor.specs.Cminor.{Expression, Constant, Local, Unary, Binary, Load, Statement, Skip, Set, Store, Call, Read, Write, Sequence, If, Loop, Block, Exit, Return}
 
 -- an expression, with the expressions in it
@@ -38,3 +41,47 @@ abbrev pub AtMostTwelveAToken : List External → (f : ℕ) → Statement → Ty
 AtMostTwelveAToken unit f s =
     (definition : External) → slice_get (definitions unit) f ≡ Some definition → (tokens : List Measured) → SpellsExternal tokens definition
     → statement_size s ≤ 12 * length tokens
+
+-- ---- operations that may have no answer
+
+abbrev pub partial : two.Binary → ℕ
+partial DivS = 1
+partial DivU = 1
+partial RemS = 1
+partial RemU = 1
+partial Shl = 1
+partial ShrS = 1
+partial ShrU = 1
+partial op = 0
+
+-- in an expression, and those of its elements
+abbrev pub partials : Expression → ℕ
+partials (Constant w) = 0
+partials (Local x) = 0
+partials (Unary op e) = partials e
+partials (Binary op a b) = partial op + (partials a + partials b)
+partials (Load w o e) = suc (partials e)
+
+abbrev pub all_partials : List Expression → ℕ
+all_partials [] = 0
+all_partials (e ∷ es) = partials e + all_partials es
+
+abbrev pub code_partials : Statement → ℕ
+code_partials Skip = 0
+code_partials (Set x e) = partials e
+code_partials (Store w o i e) = suc (partials i + partials e)
+code_partials (Call to f es) = all_partials es
+code_partials (Read to) = 0
+code_partials (Write e) = partials e
+code_partials (Sequence a b) = code_partials a + code_partials b
+code_partials (If e a b) = partials e + (code_partials a + code_partials b)
+code_partials (Loop a) = code_partials a
+code_partials (Block a) = code_partials a
+code_partials (Exit k) = 0
+code_partials (Return e) = partials e
+
+-- the code of function f has at most one for each token of the function's definition, whichever tokens spell it
+abbrev pub AtMostOnePartialAToken : List External → (f : ℕ) → Statement → Type 0
+AtMostOnePartialAToken unit f s =
+    (definition : External) → slice_get (definitions unit) f ≡ Some definition → (tokens : List Measured) → SpellsExternal tokens definition
+    → code_partials s ≤ length tokens

@@ -1,4 +1,5 @@
-// Assignments, increments and decrements, and expressions whose value is not used.
+// Assignments, increments and decrements, and expressions whose value is not used: they are put into a variable all the same, since
+// they may go wrong.
 //
 // Of `a[i] op= e` the order is index, right side, old value, write: the index waits in the first free variable, the right side is
 // used above it, and the old value is read in the store itself.
@@ -146,16 +147,7 @@ pub fn action(
             let one = word(alloc, Scalar::Int, 1)?;
             assign(alloc, names, operator, target, one)
         }
-        Action::Evaluate(expression) => {
-            let Taken {
-                scalar: _,
-                before,
-                expression,
-            } = value(alloc, names, names.len(), expression)?;
-            drop(expression);
-            let skip = boxed_statement(alloc, Statement::Skip)?;
-            behind(alloc, before, skip)
-        }
+        Action::Evaluate(expression) => put(alloc, names, names.len(), expression),
     }
 }
 

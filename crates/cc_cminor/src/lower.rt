@@ -7,9 +7,12 @@ ghost use Rattle.std.specs.Prelude.{◌≡◌, ◌<◌, length, IfOk};
 ghost use Rattle.std.specs.Arc.{arc_value};
 ghost use Rattle.cc_ast.specs.Source.{source};
 ghost use Rattle.cc_types.specs.Typed.{defined_names};
+ghost use Rattle.cc_c_laws.specs.declared.mode.Mode.TheVariants.{Plain};
 ghost use Rattle.cc_cminor.specs.Code.{statement_of};
-ghost use Rattle.cc_cminor.specs.Pair.{tree_of, code_of};
-ghost use Rattle.cc_cminor.specs.Size.{AtMostTwelveAToken};
+ghost use Rattle.cc_cminor.specs.Pair.{tree_of, code_of, FailsAlike, GoesWrong};
+ghost use Rattle.cc_cminor.specs.Exits.{ExitsFit};
+ghost use Rattle.cc_cminor.specs.Numbers.{most_lowered, StatementBelow};
+ghost use Rattle.cc_cminor.specs.Size.{AtMostTwelveAToken, AtMostOnePartialAToken};
 ghost use Rattle.cc_cminor.specs.internal.Lowered.{IsLowered};
 
 use super::code::Statement;
@@ -17,7 +20,7 @@ use super::fault::CminorFault;
 use super::pair::CminorPair;
 use super::statements::body;
 use cc_c_laws::{
-    calls_are_effects, calls_keep_objects, functions_are_resolved, names_have_numbers,
+    Mode, calls_are_effects, calls_keep_objects, functions_are_resolved, names_have_numbers,
     units_have_meanings,
 };
 use cc_resolve::function_environment;
@@ -41,8 +44,13 @@ fn lowered(alloc: Global, unit: &TypedUnit, function: usize) -> Result<Box<State
 fn paired(unit: Arc<TypedUnit>, function: usize, code: Box<Statement>) -> CminorPair
     requires function { function < length (defined_names (source (arc_value unit))) }
     requires code { IsLowered (source (arc_value unit)).externals function (statement_of code.value) }
-    ensures answer { result ≡ record { unit = arc_value unit; function = function; statement = code.value } }
+    ensures answer { result ≡ record { mode = Plain; unit = arc_value unit; function = function; statement = code.value } }
     ensures small { AtMostTwelveAToken (source (arc_value unit)).externals function (statement_of code.value) }
+    ensures operations { AtMostOnePartialAToken (source (arc_value unit)).externals function (statement_of code.value) }
+    ensures lowered { StatementBelow most_lowered (statement_of code.value) }
+    ensures exits { ExitsFit 0 (statement_of code.value) }
+    ensures fails_alike { FailsAlike (source (arc_value unit)).externals function (statement_of code.value) }
+    ensures goes_wrong { GoesWrong (source (arc_value unit)).externals function (statement_of code.value) }
 {
     let _kept = unit.externals();
     calls_are_effects();
@@ -50,11 +58,12 @@ fn paired(unit: Arc<TypedUnit>, function: usize, code: Box<Statement>) -> Cminor
     names_have_numbers();
     functions_are_resolved();
     units_have_meanings();
-    CminorPair::new(unit, function, code)
+    CminorPair::new(Mode::Plain, unit, function, code)
 }
 
 /// The Cminor of the function with a number. Functions are numbered from 0 in the order of their definitions. The pair's type keeps
-/// that the code's run follows the meaning of the function.
+/// that the code's run follows the meaning of the function. If the function goes wrong, for another cause than depth, the code comes to
+/// what it cannot do, with the same output (`fails_alike`, `goes_wrong`): nothing that may go wrong is left out.
 ///
 /// `CminorFault::OutOfMemory` (40) alone, where memory runs out.
 pub fn to_cminor(
@@ -63,9 +72,15 @@ pub fn to_cminor(
     function: usize,
 ) -> Result<CminorPair, CminorFault>
     requires { function < length (defined_names (source (arc_value unit.now))) }
+    ensures mode { IfOk result (λ p. p.mode ≡ Plain) }
     ensures unit { IfOk result (λ p. p.unit ≡ arc_value unit.now) }
     ensures function { IfOk result (λ p. p.function ≡ function) }
     ensures small { IfOk result (λ p. AtMostTwelveAToken (tree_of p) p.function (code_of p)) }
+    ensures operations { IfOk result (λ p. AtMostOnePartialAToken (tree_of p) p.function (code_of p)) }
+    ensures lowered { IfOk result (λ p. StatementBelow most_lowered (code_of p)) }
+    ensures exits { IfOk result (λ p. ExitsFit 0 (code_of p)) }
+    ensures fails_alike { IfOk result (λ p. FailsAlike (tree_of p) p.function (code_of p)) }
+    ensures goes_wrong { IfOk result (λ p. GoesWrong (tree_of p) p.function (code_of p)) }
 {
     let code = lowered(alloc, unit, function)?;
     let Ok(unit) = Arc::try_clone(unit) else {

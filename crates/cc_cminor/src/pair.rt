@@ -8,6 +8,7 @@ ghost use Rattle.cc_cminor.specs.Numbers.{StatementFits};
 ghost use Rattle.cc_cminor.specs.Pair.{Pair, tree_of, code_of, AreCalls, KeepsUp, FollowsFunction, IsPair};
 
 use super::code::Statement;
+use cc_c_laws::Mode;
 use cc_types::TypedUnit;
 use std::marker::Model;
 use std::sync::Arc;
@@ -15,6 +16,7 @@ use std::sync::Arc;
 /// The Cminor of one function of a typed unit. Contracts see the unit, the function's number and the code; that the code's run
 /// follows the function's meaning belongs to the type, so nobody holds a pair of which it is not true.
 pub struct CminorPair {
+    mode: Mode,
     unit: Arc<TypedUnit>,
     function: usize,
     code: Box<Statement>,
@@ -24,6 +26,7 @@ pub struct CminorPair {
 impl Drop for CminorPair {
     fn drop(self) {
         let CminorPair {
+            mode,
             unit,
             function,
             code,
@@ -35,29 +38,43 @@ impl Model for CminorPair {
     ghost use Rattle.std.specs.Arc.{arc_value};
     ghost use Rattle.std.specs.Coded.{codes};
     ghost use Rattle.cc_ast.specs.contracts.unit.Unit as parsed;
+    ghost use Rattle.cc_c_laws.specs.contracts.mode.Mode as modes;
     ghost use Rattle.cc_cminor.specs.contracts.code.Statement as written;
     ghost use Rattle.cc_cminor.specs.Pair.{Pair, IsPair};
 
     ghost Value = { Pair };
 
-    ghost coded = { Prim.hlevel (codes, parsed.the_row.coded, written.the_row.coded) };
+    ghost coded = { Prim.hlevel (codes, modes.the_row.coded, parsed.the_row.coded, written.the_row.coded) };
 
-    ghost view = { λ p. record { unit = arc_value p.unit; function = p.function; statement = p.code.value } };
+    ghost view = { λ p. record { mode = p.mode; unit = arc_value p.unit; function = p.function; statement = p.code.value } };
 
-    ghost invariant = { λ p. IsPair (record { unit = arc_value p.unit; function = p.function; statement = p.code.value }) };
+    ghost invariant = { λ p. IsPair (record { mode = p.mode; unit = arc_value p.unit; function = p.function; statement = p.code.value }) };
 }
 
 impl CminorPair {
-    // The one place where a pair is made.
-    pub(crate) fn new(unit: Arc<TypedUnit>, function: usize, code: Box<Statement>) -> CminorPair
-        requires { IsPair (record { unit = arc_value unit; function = function; statement = code.value }) }
-        ensures { result ≡ record { unit = arc_value unit; function = function; statement = code.value } }
+    /// The Cminor of the function with a number, of which its maker has shown what the type keeps. The passes to Cminor make pairs so.
+    pub fn new(
+        mode: Mode,
+        unit: Arc<TypedUnit>,
+        function: usize,
+        code: Box<Statement>,
+    ) -> CminorPair
+        requires { IsPair (record { mode = mode; unit = arc_value unit; function = function; statement = code.value }) }
+        ensures answer { result ≡ record { mode = mode; unit = arc_value unit; function = function; statement = code.value } }
     {
         CminorPair {
+            mode,
             unit,
             function,
             code,
         }
+    }
+
+    /// What the code owes if the function goes wrong.
+    pub fn mode(&self) -> Mode
+        ensures answer { result ≡ self.now.mode }
+    {
+        self.mode
     }
 
     /// The unit.
@@ -75,7 +92,7 @@ impl CminorPair {
         self.function
     }
 
-    /// The code. Parameter i is variable i; each call in it has its function's number of arguments; variables are below 1,024,
+    /// The code. Parameter i is variable i; each call in it has its function's number of arguments; variables are below 2,048,
     /// objects below 65,536, functions below 64; its run keeps up with the function, at rate 1 (each move of the run pays for one
     /// step of the source at most, so no loop is dropped), and so follows it.
     pub fn code(&self) -> &Statement
@@ -83,8 +100,8 @@ impl CminorPair {
         ensures typed { IsTyped (tree_of self.now) }
         ensures calls { AreCalls (tree_of self.now) (code_of self.now) }
         ensures numbers { StatementFits (code_of self.now) }
-        ensures keeps_up { KeepsUp (tree_of self.now) self.now.function (code_of self.now) }
-        ensures follows { FollowsFunction (tree_of self.now) self.now.function (code_of self.now) }
+        ensures keeps_up { KeepsUp self.now.mode (tree_of self.now) self.now.function (code_of self.now) }
+        ensures follows { FollowsFunction self.now.mode (tree_of self.now) self.now.function (code_of self.now) }
     {
         &self.code
     }
@@ -94,6 +111,7 @@ impl CminorPair {
         ensures answer { arc_value result ≡ self.unit }
     {
         let CminorPair {
+            mode: _,
             unit,
             function: _,
             code,

@@ -2,7 +2,9 @@
 use Rattle.std.specs.Prelude.{◌≤◌, ℕ, Option, Some, None}
 use Rattle.cc_task.specs.Task.{IsWithinLimits}
 use Rattle.cc_command_line.specs.declared.command_line.Work.{Work}
-use Rattle.cc_command_line.specs.declared.command_line.Work.TheVariants.{One, Stages, TakeOut, Library, Serve, Submit}
+use Rattle.cc_command_line.specs.declared.command_line.Work.TheVariants.{One, Stages, TakeOut, Keep, Library, Serve, Submit}
+use Rattle.cc_command_line.specs.declared.keeping.Keeping.{Keeping}
+use Rattle.cc_command_line.specs.declared.keeping.Keeping.TheVariants.{Call, Diff, Log, Restore, Copy}
 
 -- how many bytes an area may have, where one is to be made
 abbrev pub IsArea : Option ℕ → Type 0
@@ -14,10 +16,19 @@ abbrev pub IsWait : Option ℕ → Type 0
 IsWait None = Unit {0}
 IsWait (Some seconds) = (1 ≤ seconds) × (seconds ≤ 86400)
 
+-- what looks into libraries: a run is bounded, and an area within its limits
+abbrev pub IsBoundedLook : Keeping → Type 0
+IsBoundedLook (Call asked) = asked.steps ≤ 1000000000
+IsBoundedLook (Diff left right) = Unit {0}
+IsBoundedLook (Log disk name) = Unit {0}
+IsBoundedLook (Restore asked) = Unit {0}
+IsBoundedLook (Copy asked) = (64 ≤ asked.area) × (asked.area ≤ 1073741824)
+
 abbrev pub IsAllowed : Work → Type 0
 IsAllowed (One task) = IsWithinLimits task
-IsAllowed (Stages function) = Unit {0}
+IsAllowed (Stages kind function) = Unit {0}
 IsAllowed (TakeOut wanted) = Unit {0}
+IsAllowed (Keep asked) = IsBoundedLook asked
 IsAllowed (Library asked) = IsArea asked.area × (1 ≤ asked.workers) × (asked.workers ≤ 8)
 IsAllowed (Serve asked) =
     IsArea asked.area × (1 ≤ asked.workers) × (asked.workers ≤ 8) × (1 ≤ asked.clients) × (asked.clients ≤ 64) × (1 ≤ asked.keep) × (asked.keep ≤ 3650)

@@ -4,23 +4,33 @@ ghost use Rattle.std.specs.Prelude.{◌≤◌, IfOk};
 ghost use Rattle.cc_task.specs.Task.{IsWithinLimits};
 ghost use Rattle.cc_command_line.specs.Work.{IsAllowed};
 
+use crate::files::{
+    BOTH_RULE, EMPTY_RULE, NO_FILE_RULE, Named, files_named, paths_of, reads_program, with_file,
+    with_files,
+};
+use crate::keeping::{
+    Keeping, call_command, call_of, copy_command, copy_of, diff_command, diff_of, log_command,
+    log_of, restore_command, restore_of,
+};
 use crate::library::{Session, library_command, library_of};
 use crate::numbers::number_in;
 use crate::spool::{Server, Submitter, serve_command, serve_of, submit_command, submit_of};
 use crate::unit::{Wanted, image_command, image_of, source_command, source_of};
-use cc_task::{MOST_STEPS, Task};
+use cc_task::{Kind, MOST_STEPS, Task};
 use clap::error::ErrorKind;
 use clap::{Arg, ArgAction, ArgMatches, Command, Error};
 use std::alloc::{AllocError, Global};
 use std::convert::AsStr;
 
-const STEPS_RULE: &str = "STEPS is a decimal number from 0 to 1000000000";
+pub(crate) const STEPS_RULE: &str = "STEPS is a decimal number from 0 to 1000000000";
 
 const QUIET: &str = "quiet";
 
 const FUNCTION: &str = "FUNCTION";
 
-const WORD_RULE: &str =
+const CHECKED: &str = "checked";
+
+pub(crate) const WORD_RULE: &str =
     "WORD is a decimal number from 0 to 4294967295; a negative number is written as its value modulo 4294967296, \
     for example 4294967295 for -1";
 
@@ -28,18 +38,27 @@ const WORD_RULE: &str =
 const WHOLE_HELP: &str = "\
 Examples:
   cclib check < examples/quotient.c
+  cclib check main.c table.c
   cclib interpret 1000 < examples/quotient.c
   cclib run 10000 2 104 105 < examples/checksum.c
+  cclib run --checked 10000 2 104 105 < examples/checksum.c
   cclib asm < examples/quotient.c
   cclib stages main < examples/quotient.c
+  cclib size < examples/quotient.c
   cclib image < examples/quotient.c > quotient.hex
   cclib library units.disk --format 65536 < examples/units.script
   cclib image units.disk sum > sum.hex
   cclib source units.disk sum
+  cclib call units.disk sum 1000 4 5
+  cclib diff units.disk backup.disk
+  cclib log units.disk sum
+  cclib restore units.disk sum 1
+  cclib copy units.disk larger.disk --format 1048576
   cclib serve units.disk spool
   cclib submit spool add quotient < examples/quotient.c
 
-The C program is read from standard input. The WORDs are the program's own input;
+The C program is read from standard input, or from the files that --file names, which are
+put together in their order. The WORDs are the program's own input;
 a negative one is written modulo 4294967296: 4294967293 for -3.
 
 `library` reads a script of commands in place of a program:
@@ -58,10 +77,12 @@ Exit status: 0 for an answer, 1 for a fault, 2 for a command line that is refuse
 pub enum Work {
     /// A task for the text on standard input.
     One(Task),
-    /// Show what the compiler makes of each function of the text on standard input, or of the one of that name.
-    Stages(Option<String>),
+    /// Show what the compiler makes of each function of the text on standard input, or of the one of that name, for an image of this kind.
+    Stages(Kind, Option<String>),
     /// Print a part of a unit of a library.
     TakeOut(Wanted),
+    /// Look into libraries in files.
+    Keep(Keeping),
     /// The script on standard input, over a library.
     Library(Session),
     /// The scripts that are left in a folder, over a library.
@@ -95,6 +116,11 @@ const RUN: Runner = Runner {
     example: "The program comes on standard input: cclib run 1000 < examples/quotient.c",
 };
 
+// The command `run`, which takes a checked image too.
+fn run_command<'a>(alloc: Global) -> Result<Command<'a>, AllocError> {
+    runner_command(alloc, &RUN)?.arg(checked_word(alloc))
+}
+
 // A command that runs a program. Its numbers are read below and not by clap, which takes a sign.
 fn runner_command<'a>(alloc: Global, runner: &Runner) -> Result<Command<'a>, AllocError> {
     let steps = Arg::new(alloc, "STEPS")
@@ -109,24 +135,83 @@ fn runner_command<'a>(alloc: Global, runner: &Runner) -> Result<Command<'a>, All
         .num_args(0..)
         .allow_negative_numbers(true)
         .help("The input words: 0 to 4294967295 each");
-    begun.arg(words)
+    with_file(alloc, begun.arg(words)?)
+}
+
+// The word that asks for checked images.
+fn checked_option<'a>(alloc: Global, about: &'static str) -> Arg<'a> {
+    Arg::new(alloc, CHECKED)
+        .long(CHECKED)
+        .action(ArgAction::SetTrue)
+        .help(about)
+}
+
+/// The word that asks for a checked image.
+pub(crate) fn checked_word<'a>(alloc: Global) -> Arg<'a> {
+    checked_option(
+        alloc,
+        "The image stops in place where the program goes wrong by an index, a division or a shift",
+    )
+}
+
+/// The word that asks for a session in which all images are checked ones.
+pub(crate) fn checked_session<'a>(alloc: Global) -> Arg<'a> {
+    checked_option(
+        alloc,
+        "Compile checked images, which stop in place where the program goes wrong, and let `audit` confirm no others",
+    )
+}
+
+/// Whether a checked image is asked for.
+pub(crate) fn kind_of(given: &ArgMatches<'_>) -> Kind {
+    if given.get_flag(CHECKED) {
+        Kind::Checked
+    } else {
+        Kind::Plain
+    }
 }
 
 // A command without words of its own.
-fn plain_command<'a>(alloc: Global, name: &'static str, about: &'static str) -> Command<'a> {
-    Command::new(alloc, name)
-        .about(about)
-        .after_help("The program comes on standard input.")
+fn plain_command<'a>(
+    alloc: Global,
+    name: &'static str,
+    about: &'static str,
+    help: &'static str,
+) -> Result<Command<'a>, AllocError> {
+    let begun = Command::new(alloc, name).about(about).after_help(help);
+    with_file(alloc, begun)
+}
+
+fn check_command<'a>(alloc: Global) -> Result<Command<'a>, AllocError> {
+    let about = "Say `ok`, or the first fault of the program";
+    let help = "The program comes on standard input, or in files: cclib check main.c table.c";
+    let begun = plain_command(alloc, "check", about, help)?;
+    with_files(alloc, begun)
+}
+
+fn asm_command<'a>(alloc: Global) -> Result<Command<'a>, AllocError> {
+    let about = "Compile the program and list its image";
+    let help = "The program comes on standard input, or in files: cclib asm -f main.c -f table.c";
+    plain_command(alloc, "asm", about, help)?.arg(checked_word(alloc))
 }
 
 fn stages_command<'a>(alloc: Global) -> Result<Command<'a>, AllocError> {
     let function = Arg::new(alloc, FUNCTION).help(
         "The function that is shown: all of them where none is given",
     );
-    Command::new(alloc, "stages")
+    let begun = Command::new(alloc, "stages")
         .about("Show what the compiler makes of each function, stage by stage")
         .after_help("The program comes on standard input: cclib stages main < examples/quotient.c")
-        .arg(function)
+        .arg(function)?
+        .arg(checked_word(alloc))?;
+    with_file(alloc, begun)
+}
+
+fn size_command<'a>(alloc: Global) -> Result<Command<'a>, AllocError> {
+    let about =
+        "Say how much the program's image takes: its code, its globals, and a stack that is enough";
+    let help = "The program comes on standard input, or in files: cclib size -f main.c -f table.c";
+    plain_command(alloc, "size", about, help)?.arg(checked_word(alloc))
 }
 
 // The command with one more part.
@@ -144,7 +229,6 @@ fn with_part<'a>(
 }
 
 fn command<'a>(alloc: Global) -> Result<Command<'a>, AllocError> {
-    let check = "Say `ok`, or the first fault of the program";
     let quiet = Arg::new(alloc, QUIET)
         .long(QUIET)
         .action(ArgAction::SetTrue)
@@ -153,19 +237,24 @@ fn command<'a>(alloc: Global) -> Result<Command<'a>, AllocError> {
     let whole = Command::new(alloc, "cclib")
         .version("0.1.0")
         .about(
-            "Reads a C program from standard input: checks, interprets, compiles and runs it, or keeps compiled programs in a file",
+            "Reads a C program from standard input or files: checks, interprets, compiles and runs it, or keeps compiled programs in a file",
         )
         .after_help(WHOLE_HELP)
         .subcommand_required(true)
-        .arg(quiet)?
-        .subcommand(plain_command(alloc, "check", check))?;
+        .arg(quiet)?;
+    let whole = with_part(whole, check_command(alloc))?;
     let whole = with_part(whole, runner_command(alloc, &INTERPRET))?;
-    let whole = with_part(whole, runner_command(alloc, &RUN))?;
-    let asm = "Compile the program and list its image";
-    let whole = whole.subcommand(plain_command(alloc, "asm", asm))?;
+    let whole = with_part(whole, run_command(alloc))?;
+    let whole = with_part(whole, asm_command(alloc))?;
     let whole = with_part(whole, stages_command(alloc))?;
+    let whole = with_part(whole, size_command(alloc))?;
     let whole = with_part(whole, image_command(alloc))?;
     let whole = with_part(whole, source_command(alloc))?;
+    let whole = with_part(whole, call_command(alloc))?;
+    let whole = with_part(whole, diff_command(alloc))?;
+    let whole = with_part(whole, log_command(alloc))?;
+    let whole = with_part(whole, restore_command(alloc))?;
+    let whole = with_part(whole, copy_command(alloc))?;
     let whole = with_part(whole, library_command(alloc))?;
     let whole = with_part(whole, serve_command(alloc))?;
     with_part(whole, submit_command(alloc))
@@ -206,8 +295,8 @@ fn word_in(text: &str) -> Option<u32> {
     text.parse().ok()
 }
 
-// The input words that the texts stand for, or none where one of them stands for no word.
-fn words_in(alloc: Global, texts: &[&str]) -> Result<Option<Vec<u32>>, AllocError> {
+/// The input words that the texts stand for, or none where one of them stands for no word.
+pub(crate) fn words_in(alloc: Global, texts: &[&str]) -> Result<Option<Vec<u32>>, AllocError> {
     let mut words = Vec::new(alloc);
     for text in texts {
         let Some(word) = word_in(text) else {
@@ -238,9 +327,11 @@ fn task_of(alloc: Global, matches: &ArgMatches<'_>) -> Result<Task, Error>
         }
         Some(("run", given)) => {
             let steps = steps_of(alloc, &RUN, given)?;
-            Ok(Task::Run(steps, input_words(alloc, &RUN, given)?))
+            let words = input_words(alloc, &RUN, given)?;
+            Ok(Task::Run(kind_of(given), steps, words))
         }
-        Some(("asm", _)) => Ok(Task::Asm),
+        Some(("asm", given)) => Ok(Task::Asm(kind_of(given))),
+        Some(("size", given)) => Ok(Task::Size(kind_of(given))),
         _ => Ok(Task::Check),
     }
 }
@@ -250,8 +341,11 @@ fn stages_of(alloc: Global, given: &ArgMatches<'_>) -> Result<Work, AllocError>
     ensures { IfOk result IsAllowed }
 {
     match given.get_str(FUNCTION) {
-        Some(name) => Ok(Work::Stages(Some(String::from_str(alloc, name)?))),
-        None => Ok(Work::Stages(None)),
+        Some(name) => {
+            let name = String::from_str(alloc, name)?;
+            Ok(Work::Stages(kind_of(given), Some(name)))
+        }
+        None => Ok(Work::Stages(kind_of(given), None)),
     }
 }
 
@@ -262,6 +356,11 @@ fn work_of(alloc: Global, matches: &ArgMatches<'_>) -> Result<Work, Error>
         Some(("stages", given)) => Ok(stages_of(alloc, given)?),
         Some(("image", given)) => image_of(alloc, given),
         Some(("source", given)) => source_of(alloc, given),
+        Some(("call", given)) => call_of(alloc, given),
+        Some(("diff", given)) => diff_of(alloc, given),
+        Some(("log", given)) => log_of(alloc, given),
+        Some(("restore", given)) => restore_of(alloc, given),
+        Some(("copy", given)) => copy_of(alloc, given),
         Some(("library", given)) => library_of(alloc, given),
         Some(("serve", given)) => serve_of(alloc, given),
         Some(("submit", given)) => submit_of(alloc, given),
@@ -272,11 +371,55 @@ fn work_of(alloc: Global, matches: &ArgMatches<'_>) -> Result<Work, Error>
     }
 }
 
-/// What a command line asks for: the work, and whether no fault of it is to be explained.
+// The error of clap for files that break this rule.
+fn refused_files(alloc: Global, rule: &'static str) -> Result<Error, AllocError> {
+    let mut whole = command(alloc)?;
+    whole.error(ErrorKind::ValueValidation, rule)
+}
+
+// The files that a command line names; none where the program comes on standard input.
+fn files_of(alloc: Global, matches: &ArgMatches<'_>) -> Result<Vec<String>, Error> {
+    let Some((_, given)) = matches.subcommand() else {
+        return Ok(Vec::new(alloc));
+    };
+    match files_named(given) {
+        Named::Input => Ok(Vec::new(alloc)),
+        Named::Both => Err(refused_files(alloc, BOTH_RULE)?),
+        Named::Files(names) => match paths_of(alloc, names)? {
+            Some(paths) => Ok(paths),
+            None => Err(refused_files(alloc, EMPTY_RULE)?),
+        },
+    }
+}
+
+/// What a command line asks for: the work, whether no fault of it is to be explained, and the files that have its program; none where that
+/// comes on standard input.
 #[derive(Drop)]
 pub struct Invocation {
     pub work: Work,
     pub is_quiet: bool,
+    pub files: Vec<String>,
+}
+
+// A work whose program is in these files.
+fn invoked(
+    alloc: Global,
+    work: Work,
+    files: Vec<String>,
+    is_quiet: bool,
+) -> Result<Invocation, Error>
+    ensures { IsAllowed work → IfOk result (λ request. IsAllowed request.work) }
+{
+    if files.is_empty() || reads_program(&work) {
+        return Ok(Invocation {
+            work,
+            is_quiet,
+            files,
+        });
+    }
+    drop(work);
+    drop(files);
+    Err(refused_files(alloc, NO_FILE_RULE)?)
 }
 
 /// Reads the command line, whose first word is the program's name.
@@ -288,10 +431,18 @@ pub fn read_invocation<'a, S: AsStr>(alloc: Global, words: &'a [S]) -> Result<In
     let matches = command(alloc)?.try_get_matches_from(words)?;
     let is_quiet = matches.get_flag(QUIET);
     let work = work_of(alloc, &matches);
+    let files = files_of(alloc, &matches);
     drop(matches);
-    match work {
-        Ok(work) => Ok(Invocation { work, is_quiet }),
-        Err(error) => Err(error),
+    match (work, files) {
+        (Ok(work), Ok(files)) => invoked(alloc, work, files, is_quiet),
+        (Err(error), files) => {
+            drop(files);
+            Err(error)
+        }
+        (Ok(work), Err(error)) => {
+            drop(work);
+            Err(error)
+        }
     }
 }
 
@@ -300,7 +451,16 @@ pub fn line<'a, S: AsStr>(alloc: Global, words: &'a [S]) -> Result<Work, Error>
     ensures { IfOk result IsAllowed }
 {
     match read_invocation(alloc, words) {
-        Ok(Invocation { work, is_quiet: _ }) => Ok(work),
+        Ok(
+            Invocation {
+                work,
+                is_quiet: _,
+                files,
+            },
+        ) => {
+            drop(files);
+            Ok(work)
+        }
         Err(error) => Err(error),
     }
 }

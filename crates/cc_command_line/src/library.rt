@@ -3,8 +3,10 @@
 ghost use Rattle.std.specs.Prelude.{◌≤◌, IfOk, IfSome};
 ghost use Rattle.cc_command_line.specs.Work.{IsAllowed};
 
-use crate::command_line::Work;
+use crate::command_line::{Work, checked_session, kind_of};
+use crate::keeping::flag;
 use crate::numbers::number_in;
+use cc_task::Kind;
 use clap::error::ErrorKind;
 use clap::{Arg, ArgAction, ArgMatches, Command, Error};
 use std::alloc::{AllocError, Global};
@@ -23,6 +25,8 @@ pub(crate) const FORMAT: &str = "format";
 pub(crate) const AREA_RULE: &str = "AREA is a decimal number of bytes from 64 to 1073741824";
 
 pub(crate) const WORKERS: &str = "workers";
+
+const STRICT: &str = "strict";
 
 pub(crate) const WORKERS_RULE: &str = "N is a decimal number from 1 to 8";
 
@@ -54,6 +58,10 @@ pub struct Session {
     pub area: Option<u32>,
     /// How many threads compile: 1 to 8.
     pub workers: usize,
+    /// Whether a fault among the answers makes the status 1.
+    pub is_strict: bool,
+    /// How the images of the session are compiled.
+    pub kind: Kind,
 }
 
 // An option with a value, which a person reads under that name.
@@ -93,7 +101,15 @@ pub(crate) fn library_command<'a>(alloc: Global) -> Result<Command<'a>, AllocErr
         .after_help(LIBRARY_HELP)
         .arg(disk)?
         .arg(area)?;
-    begun.arg(workers_option(alloc))
+    let strict = flag(
+        alloc,
+        STRICT,
+        "End with the status 1 if an answer is a fault",
+    );
+    begun
+        .arg(workers_option(alloc))?
+        .arg(strict)?
+        .arg(checked_session(alloc))
 }
 
 // The error of clap for a value that breaks this rule.
@@ -151,5 +167,7 @@ pub(crate) fn library_of(alloc: Global, given: &ArgMatches<'_>) -> Result<Work, 
         disk,
         area,
         workers,
+        is_strict: given.get_flag(STRICT),
+        kind: kind_of(given),
     }))
 }

@@ -3,12 +3,14 @@
 ghost use Rattle.std.specs.Prelude.{◌≤◌, IfOk, IfSome};
 ghost use Rattle.cc_command_line.specs.Work.{IsAllowed};
 
-use crate::command_line::Work;
+use crate::command_line::{Work, checked_session, kind_of};
+use crate::files::with_file;
 use crate::library::{
     AREA_RULE, FORMAT, LEAST_AREA, MOST_AREA, MOST_WORKERS, PATH_RULE, WORKERS, WORKERS_RULE,
     option, path_of, workers_option,
 };
 use crate::numbers::number_in;
+use cc_task::Kind;
 use clap::error::ErrorKind;
 use clap::{Arg, ArgMatches, Command, Error};
 use std::alloc::{AllocError, Global};
@@ -99,6 +101,8 @@ pub struct Server {
     pub area: Option<u32>,
     /// How many threads compile: 1 to 8.
     pub workers: usize,
+    /// How the images of the server are compiled.
+    pub kind: Kind,
     /// How many scripts are done at a time: 1 to 64.
     pub clients: usize,
     /// For how many days answers that nobody took away are kept: 1 to 3,650.
@@ -171,7 +175,8 @@ pub(crate) fn serve_command<'a>(alloc: Global) -> Result<Command<'a>, AllocError
         .arg(clients.default_value("4"))?
         .arg(keep.default_value("7"))?
         .arg(done.default_value("1073741824"))?
-        .arg(patience.default_value("600"))
+        .arg(patience.default_value("600"))?
+        .arg(checked_session(alloc))
 }
 
 /// The command `submit` with its options.
@@ -188,12 +193,13 @@ pub(crate) fn submit_command<'a>(alloc: Global) -> Result<Command<'a>, AllocErro
     let words = Arg::new(alloc, "COMMAND")
         .num_args(0..)
         .help("A line of a script");
-    Command::new(alloc, "submit")
+    let begun = Command::new(alloc, "submit")
         .about("Leave a script for a server, wait for its answer and print it")
         .after_help(SUBMIT_HELP)
         .arg(folder)?
         .arg(wait)?
-        .arg(words)
+        .arg(words)?;
+    with_file(alloc, begun)
 }
 
 // The error of clap for a value that breaks this rule.
@@ -280,6 +286,7 @@ pub(crate) fn serve_of(alloc: Global, given: &ArgMatches<'_>) -> Result<Work, Er
         folder,
         area,
         workers: workers as usize,
+        kind: kind_of(given),
         clients: clients as usize,
         keep: keep as u32,
         done,

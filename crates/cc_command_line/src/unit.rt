@@ -3,9 +3,11 @@
 ghost use Rattle.std.specs.Prelude.{IfOk};
 ghost use Rattle.cc_command_line.specs.Work.{IsAllowed};
 
-use crate::command_line::Work;
-use crate::library::{PATH_RULE, path_of};
-use cc_task::{Part, Task};
+use crate::command_line::{Work, checked_word, kind_of};
+use crate::files::with_file;
+use crate::library::{PATH_RULE, option, path_of};
+use crate::numbers::number_in;
+use cc_task::{Kind, Part, Task};
 use clap::error::ErrorKind;
 use clap::{Arg, ArgMatches, Command, Error};
 use std::alloc::{AllocError, Global};
@@ -14,8 +16,18 @@ const DISK: &str = "DISK";
 
 const NAME: &str = "NAME";
 
+const AT: &str = "at";
+
+/// The most commands of which a library can have the records.
+pub(crate) const MOST_COMMANDS: u64 = 1_073_741_824;
+
+pub(crate) const AT_RULE: &str = "K is the number of a line of `cclib log DISK`, from 1 on";
+
 const BOTH_RULE: &str =
     "DISK and NAME go together; without both, the program comes on standard input: cclib image < FILE";
+
+const CHECKED_RULE: &str =
+    "--checked is for a program on standard input; the image of a unit is printed as it was stored";
 
 // What a person reads below the words of `image`.
 const IMAGE_HELP: &str = "\
@@ -43,6 +55,8 @@ pub struct Wanted {
     pub name: String,
     /// Which part is wanted.
     pub part: Part,
+    /// The number of the command that stored it, if that is asked for in place of what the library has now.
+    pub at: Option<u64>,
 }
 
 // The word that says which file, and the one that says which unit.
@@ -57,7 +71,13 @@ fn with_unit<'a>(
     let name = Arg::new(alloc, NAME)
         .required(is_required)
         .help("The name of the unit");
-    command.arg(disk)?.arg(name)
+    let at = option(
+        alloc,
+        AT,
+        "K",
+        "Print what command K of `cclib log DISK` stored, in place of what the library has now",
+    );
+    command.arg(disk)?.arg(name)?.arg(at)
 }
 
 /// The command `image` with its words.
@@ -66,8 +86,10 @@ pub(crate) fn image_command<'a>(alloc: Global) -> Result<Command<'a>, AllocError
         .about(
             "Compile the program and print its image as Intel HEX, or print that of a unit of a library",
         )
-        .after_help(IMAGE_HELP);
-    with_unit(alloc, begun, false)
+        .after_help(IMAGE_HELP)
+        .arg(checked_word(alloc))?;
+    let begun = with_unit(alloc, begun, false)?;
+    with_file(alloc, begun)
 }
 
 /// The command `source` with its words.
@@ -96,25 +118,52 @@ fn wanted_of(
     given: &ArgMatches<'_>,
     name: &str,
     part: Part,
+    at: Option<u64>,
 ) -> Result<Option<Wanted>, AllocError> {
     let Some(disk) = path_of(alloc, given, DISK)? else {
         return Ok(None);
     };
     let name = String::from_str(alloc, name)?;
-    Ok(Some(Wanted { disk, name, part }))
+    Ok(Some(Wanted {
+        disk,
+        name,
+        part,
+        at,
+    }))
+}
+
+// The number of the command that is asked for, if one is; none where it is no number.
+fn at_of(given: &ArgMatches<'_>) -> Option<Option<u64>> {
+    let Some(text) = given.get_str(AT) else {
+        return Some(None);
+    };
+    match number_in(text, 1, MOST_COMMANDS) {
+        Some(number) => Some(Some(number)),
+        None => None,
+    }
 }
 
 /// What `image` asks for: a task for a text where it has no word, else the image of a unit.
 pub(crate) fn image_of(alloc: Global, given: &ArgMatches<'_>) -> Result<Work, Error>
     ensures { IfOk result IsAllowed }
 {
+    let kind = kind_of(given);
+    let Some(at) = at_of(given) else {
+        return Err(refused_image(alloc, AT_RULE)?);
+    };
     if given.get_str(DISK).is_none() {
-        return Ok(Work::One(Task::Image));
+        if at.is_some() {
+            return Err(refused_image(alloc, BOTH_RULE)?);
+        }
+        return Ok(Work::One(Task::Image(kind)));
+    }
+    if kind == Kind::Checked {
+        return Err(refused_image(alloc, CHECKED_RULE)?);
     }
     let Some(name) = given.get_str(NAME) else {
         return Err(refused_image(alloc, BOTH_RULE)?);
     };
-    match wanted_of(alloc, given, name, Part::Image)? {
+    match wanted_of(alloc, given, name, Part::Image, at)? {
         Some(wanted) => Ok(Work::TakeOut(wanted)),
         None => Err(refused_image(alloc, PATH_RULE)?),
     }
@@ -124,8 +173,11 @@ pub(crate) fn image_of(alloc: Global, given: &ArgMatches<'_>) -> Result<Work, Er
 pub(crate) fn source_of(alloc: Global, given: &ArgMatches<'_>) -> Result<Work, Error>
     ensures { IfOk result IsAllowed }
 {
+    let Some(at) = at_of(given) else {
+        return Err(refused_source(alloc, AT_RULE)?);
+    };
     let name = given.get_str(NAME).unwrap_or("");
-    match wanted_of(alloc, given, name, Part::Source)? {
+    match wanted_of(alloc, given, name, Part::Source, at)? {
         Some(wanted) => Ok(Work::TakeOut(wanted)),
         None => Err(refused_source(alloc, PATH_RULE)?),
     }

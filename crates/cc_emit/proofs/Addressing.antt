@@ -1,11 +1,17 @@
 -- The code: the steps so far, each with what is known of its address, and those of the rest are those of all.
-use Rattle.std.proofs.Common.{◌≡◌, ℕ, ◌+◌, ◌*◌, ◌^◌, ◌<◌, ◌≤◌, Bool, List, [], ◌∷◌, ◌++◌, length, get_or, drop, refl, sym, ap, ◌∙◌, append_assoc, arith}
+use Rattle.std.proofs.Common.{◌≡◌, ℕ, ◌+◌, ◌*◌, ◌^◌, ◌<◌, ◌≤◌, Bool, true, false, List, [], ◌∷◌, ◌++◌, length, get_or, drop, nat_lt, refl, sym, ap, ap₂, ◌∙◌, subst, append_assoc, arith}
+use Rattle.std.specs.Prelude.{if◌then◌else◌}
+use Rattle.std.specs.List.{AllByRecursion}
 use Rattle.std.proofs.lemmas.List.{drop_more, drop_all}
 use Rattle.cc_select.specs.declared.step.Step.{Step}
+use Rattle.cc_select.specs.Selected.{labels}
 use Rattle.cc_emit.specs.declared.addressed.Addressed.{Addressed}
 use Rattle.cc_emit.specs.declared.addressed.Remembered.{Remembered}
 use Rattle.cc_emit.specs.declared.scratch.Scratch.{Scratch}
-use Rattle.cc_emit.specs.Scratch.{nothing, remembered, with_known, behind_step, addressed, step_access_size, accesses_size}
+use Rattle.cc_emit.specs.Scratch.{nothing, remembered, with_known, behind_step, addressed, step_access_size, labels_past, lead_back, loop_weight, weight, accesses_size}
+use Rattle.cc_emit.specs.Emission.{label_of_step}
+use Rattle.cc_emit.specs.internal.Loops.{AreLast, reach_past}
+use Rattle.cc_emit.proofs.Looping.{Reaches, label_below, less_not, reaches_more}
 
 abbrev pub SoFar : (base : ℕ → ℕ) → (sets_pointer : Bool) → (code : List Step) → (index : ℕ) → Scratch → List Addressed → Type 0
 SoFar base sets_pointer code i held steps = steps ++ addressed base sets_pointer held (drop i code) ≡ addressed base sets_pointer nothing code
@@ -30,22 +36,42 @@ so_far_all base sets_pointer code i held steps le o = sym (append_none steps) �
 
 -- ---- how many instructions accesses take: those so far and those of the rest are those of all
 
-abbrev pub Sized : (base : ℕ → ℕ) → (sets_pointer : Bool) → (code : List Step) → (index : ℕ) → Scratch → (size : ℕ) → Type 0
-Sized base sets_pointer code i held n = (n + accesses_size (addressed base sets_pointer held (drop i code)) ≡ accesses_size (addressed base sets_pointer nothing code)) × (n ≤ 4 * i) × (i ≤ length code)
+abbrev pub Sized : (base : ℕ → ℕ) → (sets_pointer : Bool) → (code : List Step) → (index : ℕ) → Scratch → (reach size : ℕ) → Type 0
+Sized base sets_pointer code i held reach n =
+    (labels : List ℕ) × (n + accesses_size base sets_pointer held labels (drop i code) ≡ accesses_size base sets_pointer nothing [] code) × Reaches code labels i reach × (n ≤ 32 * i) × (i ≤ length code)
 
-pub sized_more : (base : ℕ → ℕ) (sets_pointer : Bool) (code : List Step) (i : ℕ) (held held' : Scratch) (step : Step) (known : Remembered) (n m one : ℕ) → i < length code → step ≡ get_or code i step → known ≡ remembered base sets_pointer held step → held' ≡ behind_step base sets_pointer step held
-    → one ≡ step_access_size known step → one ≤ 4 → m ≡ n + one → Sized base sets_pointer code i held n → Sized base sets_pointer code (i + 1) held' m
-sized_more base sets_pointer code i held held' step known n m one lt is told next here few more (o, le, within) =
+pub sized_first : (base : ℕ → ℕ) (sets_pointer : Bool) (code : List Step) → Sized base sets_pointer code 0 nothing 0 0
+sized_first base sets_pointer code =
+    let all = accesses_size base sets_pointer nothing [] code in
+    let none : 0 + all ≡ all = omega arith in
+    ([], none, (λ k le. sym (less_not k 0 (omega arith))), omega arith, omega arith)
+
+weighed_few : (b : Bool) (one : ℕ) → one ≤ 4 → (if b then loop_weight else 1) * one ≤ 32
+weighed_few true one le = omega arith
+weighed_few false one le = omega arith
+
+pub sized_more : (base : ℕ → ℕ) (sets_pointer : Bool) (code : List Step) (last : List ℕ) (i : ℕ) (held held' : Scratch) (step : Step) (known : Remembered) (n m one w reach reach' : ℕ) → AreLast code (length last) last → AllByRecursion (λ label. label < length last) (labels code)
+    → i < length code → step ≡ get_or code i step → known ≡ remembered base sets_pointer held step → held' ≡ behind_step base sets_pointer step held → one ≡ step_access_size known step → one ≤ 4 → w ≡ (if nat_lt i reach then loop_weight else 1) → m ≡ n + w * one
+    → reach' ≡ reach_past last (label_of_step step) reach → Sized base sets_pointer code i held reach n → Sized base sets_pointer code (i + 1) held' reach' m
+sized_more base sets_pointer code last i held held' step known n m one w reach reach' is_last below lt is told next here few weighs sum past (labels, o, reaches, le, within) =
     let rest = drop (i + 1) code in
     let split : drop i code ≡ step ∷ rest = drop_more code i step lt ∙ ap (λ x. x ∷ rest) (sym is) in
-    let all : n + (step_access_size (remembered base sets_pointer held step) step + accesses_size (addressed base sets_pointer (behind_step base sets_pointer step held) rest)) ≡ accesses_size (addressed base sets_pointer nothing code) =
-    sym (ap (λ steps. n + accesses_size (addressed base sets_pointer held steps)) split) ∙ o in
-    let now : one ≡ step_access_size (remembered base sets_pointer held step) step = here ∙ ap (λ k. step_access_size k step) told in
-    let onward : accesses_size (addressed base sets_pointer held' rest) ≡ accesses_size (addressed base sets_pointer (behind_step base sets_pointer step held) rest) = ap (λ (k : Scratch). accesses_size (addressed base sets_pointer k rest)) next in
-    (omega arith, omega arith, omega arith)
+    let seen = labels_past (label_of_step step) labels in
+    let behind = behind_step base sets_pointer step held in
+    let all : n + (weight labels (step ∷ rest) * step_access_size (remembered base sets_pointer held step) step + accesses_size base sets_pointer behind seen rest) ≡ accesses_size base sets_pointer nothing [] code =
+    sym (ap (λ steps. n + accesses_size base sets_pointer held labels steps) split) ∙ o in
+    let size : one ≡ step_access_size (remembered base sets_pointer held step) step = here ∙ ap (λ k. step_access_size k step) told in
+    let leads : lead_back labels (step ∷ rest) ≡ nat_lt i reach = sym (ap (lead_back labels) split) ∙ reaches i (omega arith) in
+    let weight_is : w ≡ weight labels (step ∷ rest) = weighs ∙ ap (λ b. if b then loop_weight else 1) (sym leads) in
+    let counted : w * one ≡ weight labels (step ∷ rest) * step_access_size (remembered base sets_pointer held step) step = ap₂ (λ a b. a * b) weight_is size in
+    let small : w * one ≤ 32 = subst (λ v. v * one ≤ 32) (sym weighs) (weighed_few (nat_lt i reach) one few) in
+    let onward : accesses_size base sets_pointer held' seen rest ≡ accesses_size base sets_pointer behind seen rest = ap (λ (k : Scratch). accesses_size base sets_pointer k seen rest) next in
+    let on : Reaches code seen (i + 1) reach' =
+    subst (Reaches code seen (i + 1)) (sym past) (reaches_more code (length last) last labels (label_of_step step) i reach is_last (λ l e. label_below (length last) code i l step lt is e below) reaches) in
+    (seen, omega (arith, all, counted, onward, sum), on, omega (arith, small, le, sum), omega arith)
 
-pub sized_all : (base : ℕ → ℕ) (sets_pointer : Bool) (code : List Step) (i : ℕ) (held : Scratch) (n : ℕ) → length code ≤ i → Sized base sets_pointer code i held n → n ≡ accesses_size (addressed base sets_pointer nothing code)
-sized_all base sets_pointer code i held n le (o, few, within) = (let none : accesses_size (addressed base sets_pointer held (drop i code)) ≡ 0 = ap (λ steps. accesses_size (addressed base sets_pointer held steps)) (drop_all i code le) in omega arith)
+pub sized_all : (base : ℕ → ℕ) (sets_pointer : Bool) (code : List Step) (i : ℕ) (held : Scratch) (reach n : ℕ) → length code ≤ i → Sized base sets_pointer code i held reach n → n ≡ accesses_size base sets_pointer nothing [] code
+sized_all base sets_pointer code i held reach n le (labels, o, reaches, few, within) = (let none : accesses_size base sets_pointer held labels (drop i code) ≡ 0 = ap (λ steps. accesses_size base sets_pointer held labels steps) (drop_all i code le) in omega arith)
 
-pub sized_few : (base : ℕ → ℕ) (sets_pointer : Bool) (code : List Step) (i : ℕ) (held : Scratch) (n : ℕ) → length code ≤ 2 ^ 59 → Sized base sets_pointer code i held n → n ≤ 2 ^ 61
-sized_few base sets_pointer code i held n le (o, few, within) = omega arith
+pub sized_few : (base : ℕ → ℕ) (sets_pointer : Bool) (code : List Step) (i : ℕ) (held : Scratch) (reach n : ℕ) → length code ≤ 2 ^ 56 → Sized base sets_pointer code i held reach n → n ≤ 2 ^ 61
+sized_few base sets_pointer code i held reach n le (labels, o, reaches, few, within) = omega arith

@@ -3,7 +3,8 @@ use Rattle.std.proofs.Common.{◌≡◌, ℕ, zero, suc, ◌+◌, ◌-◌, ◌*�
 use Rattle.std.specs.Prelude.{◌==◌, if◌then◌else◌, ◌&&◌, not, slice_get}
 use Rattle.std.proofs.lemmas.Bool.Decides.{eqb_tells, nat_tests}
 use Rattle.cc_rv32.specs.Machine as machine
-use Rattle.cc_rv32.specs.Machine.{is_accessible, stack_from, stack_to, with_register, with_word}
+use Rattle.cc_rv32.specs.Machine.{stack_to, with_register, with_word}
+use Rattle.cc_emit.specs.Board.{is_accessible_above}
 use Rattle.cc_simulation.specs.Behavior.{AreWords}
 use Rattle.cc_simulation.specs.World.{first_or_zero, rest_of}
 use Rattle.cc_simulation.specs.Unknown.{survives}
@@ -32,6 +33,13 @@ set_same f d w le =
 
 pub set_other : (f : ℕ → ℕ) (d w r : ℕ) → (r ≡ d → ⊥) → with_register f d w r ≡ f r
 set_other f d w r e = ap (λ b. if b && not (d == 0) then w else f r) (eqb_not r d e)
+
+pub set_twice : (f : ℕ → ℕ) (d v w : ℕ) → with_register (with_register f d v) d w ≡ with_register f d w
+set_twice f d v w = λ i r. at r ((r == d) && not (d == 0)) i
+  where
+    at : (r : ℕ) (b : Bool) → (if b then w else (if b then v else f r)) ≡ (if b then w else f r)
+    at r true = refl
+    at r false = refl
 
 cond_below : (b : Bool) (w v n : ℕ) → w < n → v < n → (if b then w else v) < n
 cond_below true w v n p q = p
@@ -81,8 +89,8 @@ put_slot l d w i v f g = elim (eqb_tells d i) [ inl h ↦ ap (λ b. if b then w 
 
 -- ---- addresses
 
-pub in_stack : (a : ℕ) → a % 4 ≡ 0 → stack_from ≤ a → a < stack_to → is_accessible 4 a ≡ true
-in_stack a z from to = grind (arith, nat_tests)
+pub in_stack : (floor a : ℕ) → a % 4 ≡ 0 → floor ≤ a → a < stack_to → is_accessible_above floor 4 a ≡ true
+in_stack floor a z from to = grind (arith, nat_tests)
 
 -- ---- the parts of a word
 

@@ -13,7 +13,8 @@ use Rattle.cc_rv32.specs.declared.instr.ImmediateOperation.{ImmediateOperation}
 use Rattle.cc_rv32.specs.declared.instr.ImmediateOperation.TheVariants.{Slti, Sltiu}
 use Rattle.cc_rv32.specs.declared.instr.BranchOperation.{BranchOperation}
 use Rattle.cc_rv32.specs.declared.instr.BranchOperation.TheVariants.{Beq, Bne, Blt, Bge, Bltu, Bgeu}
-use Rattle.cc_rv32.specs.Machine.{State, computed, execute, immediate_operation, is_taken, puts, shift_operation}
+use Rattle.cc_emit.specs.Board.{execute_above}
+use Rattle.cc_rv32.specs.Machine.{State, computed, immediate_operation, is_taken, puts, shift_operation}
 use Rattle.cc_select.specs.declared.step.Step.{Step}
 use Rattle.cc_select.specs.Immediates.{is_comparison}
 use Rattle.cc_select.specs.Selected.{led}
@@ -155,12 +156,12 @@ first_word (OnZero i) w = computed i 0 w
 first_word (ZeroOfImmediate i n) w = computed (immediate_operation i) w n
 first_word (NonzeroOfImmediate i n) w = computed (immediate_operation i) w n
 
-pub first_executes : (k : WordRecipe) (to a : ℕ) (s : State) → s.registers 0 ≡ 0 → execute (first_instr k to a) s ≡ puts to (first_word k (s.registers a)) s
-first_executes (WithImmediate i n) to a s z = refl
-first_executes (ShiftBy i n) to a s z = refl
-first_executes (OnZero i) to a s z = ap (λ n. puts to (computed i n (s.registers a)) s) z
-first_executes (ZeroOfImmediate i n) to a s z = refl
-first_executes (NonzeroOfImmediate i n) to a s z = refl
+pub first_executes : (floor : ℕ) (k : WordRecipe) (to a : ℕ) (s : State) → s.registers 0 ≡ 0 → execute_above floor (first_instr k to a) s ≡ puts to (first_word k (s.registers a)) s
+first_executes floor (WithImmediate i n) to a s z = refl
+first_executes floor (ShiftBy i n) to a s z = refl
+first_executes floor (OnZero i) to a s z = ap (λ n. puts to (computed i n (s.registers a)) s) z
+first_executes floor (ZeroOfImmediate i n) to a s z = refl
+first_executes floor (NonzeroOfImmediate i n) to a s z = refl
 
 -- it is a word, and how it compares to 0 tells the recipe's word
 abbrev pub TellsFirst : WordRecipe → (w v : ℕ) → Type 0

@@ -11,7 +11,7 @@ use Rattle.cc_linear_language.specs.declared.item.LinearItem.TheVariants.{Jump, 
 use Rattle.cc_linear_language.specs.Linear.{IsItem}
 use Rattle.cc_rv32.specs.declared.instr.BranchOperation.TheVariants.{Beq, Bne}
 use Rattle.cc_select.specs.declared.step.Step.{Step}
-use Rattle.cc_select.specs.declared.step.Step.TheVariants.{One, Immediate, LoadAt, StoreAt, Branch, BranchImmediate}
+use Rattle.cc_select.specs.declared.step.Step.TheVariants.{One, Immediate, LoadAt, StoreAt, LoadNear, StoreNear, Branch, BranchImmediate}
 use Rattle.cc_select.specs.Selected.{IsStep}
 use Rattle.cc_emit.specs.declared.condition.Condition.{Condition}
 use Rattle.cc_emit.specs.declared.recipe.WordRecipe.{WordRecipe}
@@ -263,6 +263,8 @@ leads count slots functions ls (One i) all fits = leads_one count slots function
 leads count slots functions ls (Immediate o to b w) all fits = tt
 leads count slots functions ls (LoadAt width g to n) all fits = tt
 leads count slots functions ls (StoreAt width g n b) all fits = tt
+leads count slots functions ls (LoadNear width g to i w) all fits = tt
+leads count slots functions ls (StoreNear width g i w b) all fits = tt
 leads count slots functions ls (Branch o nonzero b c n) all fits = contained_below count ls n fits.3 all
 leads count slots functions ls (BranchImmediate o nonzero b w n) all fits = contained_below count ls n fits.4 all
 

@@ -5,7 +5,8 @@ use Rattle.std.proofs.lemmas.Bool.Decides.{eqb_tells, nat_tests}
 use Rattle.cc_words.specs.declared.operators.Width.{Width}
 use Rattle.cc_words.specs.declared.operators.Width.TheVariants.{Byte, Word}
 use Rattle.cc_words.specs.Widths.{bytes, kept, same_width, words_of}
-use Rattle.cc_rv32.specs.Machine.{globals_from, globals_to, is_accessible, load_bytes, loaded, part_at, store_bytes, stored, with_part, with_word}
+use Rattle.cc_rv32.specs.Machine.{globals_from, globals_to, load_bytes, loaded, part_at, store_bytes, stored, with_part, with_word}
+use Rattle.cc_emit.specs.Board.{is_accessible_above}
 use Rattle.cc_emit.specs.Contract.{element_place, load_of, store_of}
 use Rattle.cc_emit.proofs.Basics.{word_same, word_other, word_word}
 
@@ -138,10 +139,10 @@ elements_apart w b i j ne = elim (less_or_more i j) [ inl lt ↦ inl (less w i j
     less Word i j lt = omega arith
 
 -- the machine may load and store it
-pub load_accessible : (w : Width) (a : ℕ) → a % bytes w ≡ 0 → globals_from ≤ a → a < globals_to → is_accessible (load_bytes (load_of w)) a ≡ true
-load_accessible Byte a z from to = grind (arith, nat_tests)
-load_accessible Word a z from to = grind (arith, nat_tests)
+pub load_accessible : (floor : ℕ) (w : Width) (a : ℕ) → a % bytes w ≡ 0 → globals_from ≤ a → a < globals_to → is_accessible_above floor (load_bytes (load_of w)) a ≡ true
+load_accessible floor Byte a z from to = grind (arith, nat_tests)
+load_accessible floor Word a z from to = grind (arith, nat_tests)
 
-pub store_accessible : (w : Width) (a : ℕ) → a % bytes w ≡ 0 → globals_from ≤ a → a < globals_to → is_accessible (store_bytes (store_of w)) a ≡ true
-store_accessible Byte a z from to = grind (arith, nat_tests)
-store_accessible Word a z from to = grind (arith, nat_tests)
+pub store_accessible : (floor : ℕ) (w : Width) (a : ℕ) → a % bytes w ≡ 0 → globals_from ≤ a → a < globals_to → is_accessible_above floor (store_bytes (store_of w)) a ≡ true
+store_accessible floor Byte a z from to = grind (arith, nat_tests)
+store_accessible floor Word a z from to = grind (arith, nat_tests)

@@ -27,14 +27,15 @@ use Rattle.cc_rv32.specs.declared.instr.RegisterOperation.TheVariants as operati
 use Rattle.cc_rv32.specs.Machine as machine
 use Rattle.cc_rv32.specs.declared.instr.LoadOperation.TheVariants.{Lw}
 use Rattle.cc_rv32.specs.declared.instr.StoreOperation.TheVariants.{Sw}
-use Rattle.cc_rv32.specs.Machine.{Continues, State, Traps, branches, computed, execute, globals_to, is_accessible, is_taken, loaded, puts, stored, with_register, with_word}
+use Rattle.cc_emit.specs.Board.{execute_above, is_accessible_above}
+use Rattle.cc_rv32.specs.Machine.{Continues, State, Traps, branches, computed, globals_to, is_taken, loaded, puts, stored, with_register, with_word}
 use Rattle.cc_words.specs.declared.operators.Width.{Width}
 use Rattle.cc_words.specs.declared.operators.Width.TheVariants.{Byte, Word}
 use Rattle.cc_words.specs.Widths.{bytes, kept}
 use Rattle.cc_emit.specs.declared.item.PieceItem.{PieceItem}
 use Rattle.cc_emit.specs.declared.item.PieceItem.TheVariants.{Go, Plain}
 use Rattle.cc_emit.specs.declared.condition.Condition.{Condition}
-use Rattle.cc_emit.specs.Contract.{Code, IsPlace, Path, element_place, filled, load_of, store_of}
+use Rattle.cc_emit.specs.Contract.{Code, IsPlace, Path, Shares, element_place, filled, load_of, store_of}
 use Rattle.cc_emit.specs.Frames.{Frame}
 use Rattle.cc_emit.specs.Branches.{compares, opposite, turned}
 use Rattle.cc_emit.specs.Emission.{access_size, addi, base_register, based, branch_items, branch_size, const_items, const_size, distance, high, indexed, load_element, low, part_of, prologue_size, recipe, recipe_items, recipe_size, store_element, unary_instr, upper_items}
@@ -43,18 +44,18 @@ use Rattle.cc_emit.specs.declared.recipe.Recipe.TheVariants.{Direct, NonzeroOf, 
 use Rattle.cc_emit.specs.declared.addressed.Remembered.{Remembered}
 use Rattle.cc_emit.specs.declared.addressed.Remembered.TheVariants.{Nothing, Upper, Element, ByPointer, ElementByPointer}
 use Rattle.cc_emit.specs.declared.scratch.Scratch.{Scratch}
-use Rattle.cc_emit.specs.Scratch.{nothing, known_of, address_of, sum_base, without, without_address, behind_const, behind_recipe, behind_element, behind_at}
+use Rattle.cc_emit.specs.Scratch.{nothing, known_of, address_of, sum_base, without, without_address, behind_recipe, behind_element, behind_at}
 use Rattle.cc_emit.proofs.Fine.{IsTarget}
-use Rattle.cc_emit.proofs.Basics.{in_stack, high_low, high_word, first_word, eqb_yes, eqb_says, same_first, set_same, set_other}
+use Rattle.cc_emit.proofs.Basics.{in_stack, high_low, high_word, first_word, eqb_yes, eqb_says, same_first, set_same, set_other, set_twice}
 use Rattle.cc_emit.proofs.Bytes.{load_accessible, loaded_word, store_accessible}
-use Rattle.cc_emit.proofs.Elements.{element_tells, holds, placed}
+use Rattle.cc_emit.proofs.Elements.{IsElement, element_tells, holds, placed}
 use Rattle.cc_emit.proofs.Places.{DistanceIs, Nears, close_nears, distance_is, stays_near}
 use Rattle.cc_emit.proofs.Branching.{Tells, if_not, led_by, opposite_taken, turned_tells}
 use Rattle.cc_emit.proofs.Recipes.{IsRight, recipe_right, binary_word, unary_right, unary_executes}
 use Rattle.cc_emit.proofs.Standing.{Site, Standing, Stands, addressed_at, all_addressed, near, labels, machine_step, first_items, standing_tail, standing_from, step_at, jump_step}
 use Rattle.cc_emit.proofs.Saving.{load_step, store_step}
-use Rattle.cc_emit.proofs.Holding.{IsKnown, IsKnownAt, is_known, element_address, parts_of, upper_stays, address_stays_6}
-use Rattle.cc_emit.proofs.Within.{Within, within_set, within_scratch, within_5, within_as, within_nothing, within_pc, within_slot, within_store, within_read, within_write, low_stack}
+use Rattle.cc_emit.proofs.Holding.{IsAddress, IsKnown, IsKnownAt, is_known, element_address, parts_of, upper_stays, address_stays_6}
+use Rattle.cc_emit.proofs.Within.{Within, within_set, within_scratch, within_5, within_as, within_nothing, within_pc, within_slot, within_store, within_read, within_write, above_floor}
 
 -- the machine comes to where these items stand
 pub record Reaches (x : Site) (next : List Step) (l : Locations) (h : World) (s : State) : Type 0 where
@@ -103,7 +104,7 @@ pub walk_by : (x : Site) {held : Scratch} (l : Locations) (h : World) (s t : Sta
 walk_by x l h s t b e at w = record { more = 0; to = t; path = (t, e, refl); at = at; within = w }
 
 -- the last instruction sets a register
-walk_set : (x : Site) {held : Scratch} (l : Locations) (h : World) (s : State) (p b d v : ℕ) (i : Instr) → s.pc ≡ p → x.code p ≡ Some i → p + 4 ≡ x.place + 4 * b → execute i s ≡ puts d v s → IsTarget x.frame d → v < 2 ^ 32 → Within x held l h s → Walked x (without d held) (put (Register d) v l) h s b
+walk_set : (x : Site) {held : Scratch} (l : Locations) (h : World) (s : State) (p b d v : ℕ) (i : Instr) → s.pc ≡ p → x.code.at p ≡ Some i → p + 4 ≡ x.place + 4 * b → execute_above x.code.floor i s ≡ puts d v s → IsTarget x.frame d → v < 2 ^ 32 → Within x held l h s → Walked x (without d held) (put (Register d) v l) h s b
 walk_set x l h s p b d v i e f g k u lt w =
     walk_by x (put (Register d) v l) h s (record s { pc = s.pc + 4; registers = with_register s.registers d v }) b (step_at x.code s p i e f ∙ k) (ap (λ n. n + 4) e ∙ g) (within_set x l h s (s.pc + 4) d v u lt w)
 
@@ -111,7 +112,7 @@ walk_set x l h s p b d v i e f g k u lt w =
 pub reach_by : (x : Site) {held : Scratch} (next : List Step) (l : Locations) (h : World) (s t : State) (v b : ℕ) → machine_step x.code s ≡ Continues t → t.pc ≡ x.place + 4 * b → Standing x held v b next → Within x held l h t → Reaches x next l h s
 reach_by x {held} next l h s t v b e at st w = record { more = 0; to = t; path = (t, e, refl); long = v; offset = b; held = held; at = at; standing = st; within = w }
 
-pub reach_set : (x : Site) {held : Scratch} (next : List Step) (l : Locations) (h : World) (s : State) (p q b d v : ℕ) (i : Instr) → s.pc ≡ p → x.code p ≡ Some i → p + 4 ≡ x.place + 4 * b → execute i s ≡ puts d v s → IsTarget x.frame d → v < 2 ^ 32 → Standing x (without d held) q b next → Within x held l h s → Reaches x next (put (Register d) v l) h s
+pub reach_set : (x : Site) {held : Scratch} (next : List Step) (l : Locations) (h : World) (s : State) (p q b d v : ℕ) (i : Instr) → s.pc ≡ p → x.code.at p ≡ Some i → p + 4 ≡ x.place + 4 * b → execute_above x.code.floor i s ≡ puts d v s → IsTarget x.frame d → v < 2 ^ 32 → Standing x (without d held) q b next → Within x held l h s → Reaches x next (put (Register d) v l) h s
 reach_set x next l h s p q b d v i e f g k u lt st w =
     reach_by x next (put (Register d) v l) h s (record s { pc = s.pc + 4; registers = with_register s.registers d v }) q b (step_at x.code s p i e f ∙ k) (ap (λ n. n + 4) e ∙ g) st (within_set x l h s (s.pc + 4) d v u lt w)
 
@@ -132,7 +133,7 @@ abbrev pub StandsWhole : Site → Type 0
 StandsWhole x = Standing x nothing 0 (prologue_size x.frame) x.steps
 
 -- to a label
-reach_jump : (x : Site) {held : Scratch} (p n : ℕ) (l : Locations) (h : World) (s : State) → s.pc ≡ p → IsPlace p → x.code p ≡ Some (instr.Jal 0 ((x.place + 4 * labels x n + (2 ^ 32 - p)) % 2 ^ 32)) → StandsWhole x → Within x held l h s → Reaches x (place x.steps n) l h s
+reach_jump : (x : Site) {held : Scratch} (p n : ℕ) (l : Locations) (h : World) (s : State) → s.pc ≡ p → IsPlace p → x.code.at p ≡ Some (instr.Jal 0 ((x.place + 4 * labels x n + (2 ^ 32 - p)) % 2 ^ 32)) → StandsWhole x → Within x held l h s → Reaches x (place x.steps n) l h s
 reach_jump x p n l h s e from f all w =
     let b = labels x n in
     let target = standing_from x n 0 (prologue_size x.frame) x.steps all in
@@ -143,14 +144,14 @@ jump_case x w a n rest l h s (e, st, inside) all =
     stepped x (One (Jump n) ∷ rest) (place x.steps n) l l h h s (λ ws. refl) (reach_jump x (x.place + 4 * a) n l h s e st.from (first_items x w a (One (Jump n)) rest st).0 all inside)
 
 -- a branch goes on at one of two places
-branch_step : (code : Code) (s : State) (p q : ℕ) (i : Instr) (t : Bool) → s.pc ≡ p → q % 4 ≡ 0 → code p ≡ Some i → (to : ℕ) → execute i s ≡ branches t to s → (t ≡ true → to ≡ q) → machine_step code s ≡ Continues (record s { pc = if t then q else p + 4 })
+branch_step : (code : Code) (s : State) (p q : ℕ) (i : Instr) (t : Bool) → s.pc ≡ p → q % 4 ≡ 0 → code.at p ≡ Some i → (to : ℕ) → execute_above code.floor i s ≡ branches t to s → (t ≡ true → to ≡ q) → machine_step code s ≡ Continues (record s { pc = if t then q else p + 4 })
 branch_step code s p q i true e z f to k there =
     step_at code s p i e f ∙ k ∙ ap (λ n. if n % 4 == 0 then Continues (record s { pc = n }) else Traps) (there refl) ∙ ap (λ b. if b then Continues (record s { pc = q }) else Traps) (eqb_yes (q % 4) 0 z)
 branch_step code s p q i false e z f to k there = step_at code s p i e f ∙ k ∙ ap (λ n. Continues (record s { pc = n + 4 })) e
 
 -- the long form: the branch over the jump, then the jump or not
 over_reaches : (x : Site) {held : Scratch} (v a n : ℕ) (next rest : List Step) (l : Locations) (h : World) (s : State) (i : Instr) (t : Bool) → s.pc ≡ x.place + 4 * a → Within x held l h s → IsPlace (x.place + 4 * a) → Standing x held v (a + 2) rest → StandsWhole x
-    → Stands x (x.place + 4 * a) (Plain i ∷ Go (labels x n) ∷ []) → execute i s ≡ branches t (add s.pc 8) s → (if t then rest else place x.steps n) ≡ next → Reaches x next l h s
+    → Stands x (x.place + 4 * a) (Plain i ∷ Go (labels x n) ∷ []) → execute_above x.code.floor i s ≡ branches t (add s.pc 8) s → (if t then rest else place x.steps n) ≡ next → Reaches x next l h s
 over_reaches x v a n next rest l h s i true e inside p st all f k same =
     let q = p.to in
     let z = p.aligned in
@@ -172,7 +173,7 @@ offset_arrives place a b y pc p q n (inr d) e = let x = p.to in let z = q.to in 
 
 -- the short form
 short_reaches : (x : Site) {held : Scratch} (v a n : ℕ) (next rest : List Step) (l : Locations) (h : World) (s : State) (i : Instr) (t : Bool) → s.pc ≡ x.place + 4 * a → Within x held l h s → IsPlace (x.place + 4 * a) → Standing x held v (a + 1) rest → StandsWhole x
-    → Nears a (labels x n) → Stands x (x.place + 4 * a) (Plain i ∷ []) → execute i s ≡ branches t (add s.pc (distance a (labels x n))) s → (if t then place x.steps n else rest) ≡ next → Reaches x next l h s
+    → Nears a (labels x n) → Stands x (x.place + 4 * a) (Plain i ∷ []) → execute_above x.code.floor i s ≡ branches t (add s.pc (distance a (labels x n))) s → (if t then place x.steps n else rest) ≡ next → Reaches x next l h s
 short_reaches x v a n next rest l h s i true e inside p st all nears f k same =
     let b = labels x n in
     let target = standing_from x n 0 (prologue_size x.frame) x.steps all in
@@ -230,8 +231,8 @@ behind_2 place a = omega arith
 
 -- a word, by the parts that are not zero
 const_walks_by : (x : Site) {held : Scratch} (a to word : ℕ) (no_high no_low : Bool) (l : Locations) (h : World) (s : State) → s.pc ≡ x.place + 4 * a → Within x held l h s → IsTarget x.frame to → word < 2 ^ 32 → (no_high ≡ true → high word ≡ 0) → (no_low ≡ true → low word ≡ 0)
-    → Stands x (x.place + 4 * a) (if no_high then addi to 0 (low word) ∷ [] else if no_low then Plain (Lui to (high word)) ∷ [] else Plain (Lui 5 (high word)) ∷ addi to 5 (low word) ∷ [])
-    → Walked x (if no_high then without to held else if no_low then without to held else without to (without_address held)) (put (Register to) word l) h s (a + (if no_high then 1 else if no_low then 1 else 2))
+    → Stands x (x.place + 4 * a) (if no_high then addi to 0 (low word) ∷ [] else if no_low then Plain (Lui to (high word)) ∷ [] else Plain (Lui to (high word)) ∷ addi to to (low word) ∷ [])
+    → Walked x (without to held) (put (Register to) word l) h s (a + (if no_high then 1 else if no_low then 1 else 2))
 const_walks_by x a to word true no_low l h s e inside u lt is_high is_low f =
     let zero = inside.sound.zero in
     let none = is_high refl in
@@ -244,14 +245,17 @@ const_walks_by x a to word false true l h s e inside u lt is_high is_low f =
     let small = high_word word in
     let value : high word * 2 ^ 12 ≡ word = omega arith in
     walk_set x l h s (x.place + 4 * a) (a + 1) to word (Lui to (high word)) e f.0 (behind_1 x.place a) (ap (λ n. puts to n s) value) u lt inside
-const_walks_by x a to word false false l h s e inside u lt is_high is_low f =
+const_walks_by x {held} a to word false false l h s e inside u lt is_high is_low f =
     let up = high word * 2 ^ 12 in
-    let s5 : State = record s { pc = s.pc + 4; registers = with_register s.registers 5 up } in
-    let w5 = within_5 x l h s (s.pc + 4) up (high_word word) inside in
-    walk_more x (put (Register to) word l) h s s5 (a + 2) (step_at x.code s (x.place + 4 * a) (Lui 5 (high word)) e f.0)
-    (walk_set x l h s5 (x.place + 4 * a + 4) (a + 2) to word (OpImm Addi to 5 (low word)) (ap (λ n. n + 4) e) f.1.0 (behind_2 x.place a) (ap (λ n. puts to n s5) (high_low word lt)) u lt w5)
+    let lo = u.0.0 in
+    let t : State = record s { pc = s.pc + 4; registers = with_register s.registers to up } in
+    let sum : add (t.registers to) (low word) ≡ word = ap (λ n. add n (low word)) (set_same s.registers to up (omega arith)) ∙ high_low word lt in
+    walk_more x (put (Register to) word l) h s t (a + 2) (step_at x.code s (x.place + 4 * a) (Lui to (high word)) e f.0)
+    (walk_by x (put (Register to) word l) h t (record t { pc = t.pc + 4; registers = with_register t.registers to word }) (a + 2)
+    (step_at x.code t (x.place + 4 * a + 4) (OpImm Addi to to (low word)) (ap (λ n. n + 4) e) f.1.0 ∙ ap (λ n. puts to n t) sum) (ap (λ n. n + 4 + 4) e ∙ behind_2 x.place a)
+    (subst (λ (g : ℕ → ℕ). Within x (without to held) (put (Register to) word l) h (record s { pc = s.pc + 4 + 4; registers = g })) (sym (set_twice s.registers to up word)) (within_set x l h s (s.pc + 4 + 4) to word u lt inside)))
 
-pub const_walks : (x : Site) {held : Scratch} (a to word : ℕ) (l : Locations) (h : World) (s : State) → s.pc ≡ x.place + 4 * a → Within x held l h s → IsTarget x.frame to → word < 2 ^ 32 → Stands x (x.place + 4 * a) (const_items to word) → Walked x (behind_const to word held) (put (Register to) word l) h s (a + const_size word)
+pub const_walks : (x : Site) {held : Scratch} (a to word : ℕ) (l : Locations) (h : World) (s : State) → s.pc ≡ x.place + 4 * a → Within x held l h s → IsTarget x.frame to → word < 2 ^ 32 → Stands x (x.place + 4 * a) (const_items to word) → Walked x (without to held) (put (Register to) word l) h s (a + const_size word)
 const_walks x a to word l h s e inside u lt f = const_walks_by x a to word (high word == 0) (low word == 0) l h s e inside u lt (eqb_says (high word) 0) (eqb_says (low word) 0) f
 
 pub const_case : (x : Site) {held : Scratch} (w a to word : ℕ) (rest : List Step) (l : Locations) (h : World) (s : State) → Given x held w a (One (Const to word) ∷ rest) l h s → Stepped x (One (Const to word) ∷ rest) l h s
@@ -265,13 +269,13 @@ unary_case x w a to b o rest l h s (e, st, inside) =
     let fine = st.fine.0 in
     let v = apply_unary o (l (Register b)) in
     let r = unary_right o (s.registers b) (inside.sound.registers b) in
-    let same : execute (unary_instr o to b) s ≡ puts to v s = unary_executes o to b s inside.sound.zero ∙ ap (λ n. puts to n s) (r.0 ∙ ap (apply_unary o) (sym (inside.same b fine.1))) in
+    let same : execute_above x.code.floor (unary_instr o to b) s ≡ puts to v s = unary_executes x.code.floor o to b s inside.sound.zero ∙ ap (λ n. puts to n s) (r.0 ∙ ap (apply_unary o) (sym (inside.same b fine.1))) in
     stepped x (One (Unary o to b) ∷ rest) rest l (put (Register to) v l) h h s (λ ws. refl)
     (reach_set x rest l h s (x.place + 4 * a) _ (a + 1) to v (unary_instr o to b) e (first_items x w a (One (Unary o to b)) rest st).0 (behind_1 x.place a) same fine.0 (subst (λ n. apply_unary o n < 2 ^ 32) (sym (inside.same b fine.1)) r.1) (standing_tail x w a (One (Unary o to b)) rest st) inside)
 
 -- x5, then a question about it
-pub asked : (x : Site) {held : Scratch} (w a to v t : ℕ) (i j : Instr) (rest : List Step) (l : Locations) (h : World) (s : State) → s.pc ≡ x.place + 4 * a → Standing x (without to (without_address held)) w (a + 2) rest → Within x held l h s → Stands x (x.place + 4 * a) (Plain i ∷ Plain j ∷ []) → execute i s ≡ puts 5 t s → t < 2 ^ 32
-    → ((u : State) → u.registers 5 ≡ t → u.registers 0 ≡ 0 → execute j u ≡ puts to v u) → IsTarget x.frame to → v < 2 ^ 32 → Reaches x rest (put (Register to) v l) h s
+pub asked : (x : Site) {held : Scratch} (w a to v t : ℕ) (i j : Instr) (rest : List Step) (l : Locations) (h : World) (s : State) → s.pc ≡ x.place + 4 * a → Standing x (without to (without_address held)) w (a + 2) rest → Within x held l h s → Stands x (x.place + 4 * a) (Plain i ∷ Plain j ∷ []) → execute_above x.code.floor i s ≡ puts 5 t s → t < 2 ^ 32
+    → ((u : State) → u.registers 5 ≡ t → u.registers 0 ≡ 0 → execute_above x.code.floor j u ≡ puts to v u) → IsTarget x.frame to → v < 2 ^ 32 → Reaches x rest (put (Register to) v l) h s
 asked x w a to v t i j rest l h s e st inside items value b5 question u lt =
     let s5 : State = record s { pc = s.pc + 4; registers = with_register s.registers 5 t } in
     let w5 = within_5 x l h s (s.pc + 4) t b5 inside in
@@ -305,13 +309,13 @@ binary_case x w a to b c o rest l h s given = binary_at x w a to b c o rest l h 
 
 -- ---- moves
 
-slot_address : (x : Site) {held : Scratch} (l : Locations) (h : World) (s : State) (i : ℕ) → i < x.frame.slots → Within x held l h s → (is_accessible 4 (s.registers 2 + 4 * i) ≡ true) × ((s.registers 2 + 4 * i) % 2 ^ 32 ≡ s.registers 2 + 4 * i)
+slot_address : (x : Site) {held : Scratch} (l : Locations) (h : World) (s : State) (i : ℕ) → i < x.frame.slots → Within x held l h s → (is_accessible_above x.code.floor 4 (s.registers 2 + 4 * i) ≡ true) × ((s.registers 2 + 4 * i) % 2 ^ 32 ≡ s.registers 2 + 4 * i)
 slot_address x l h s i lt w =
     let stack = w.stack in
-    let from = low_stack x l h s w in
+    let from = above_floor x l h s w in
     let top = x.top in
     let z = x.aligned in
-    (in_stack (s.registers 2 + 4 * i) (omega arith) (omega arith) (omega arith), omega arith)
+    (in_stack x.code.floor (s.registers 2 + 4 * i) (omega arith) (omega arith) (omega arith), omega arith)
 
 pub copy_case : (x : Site) {held : Scratch} (w a : ℕ) (m : Move) (rest : List Step) (l : Locations) (h : World) (s : State) → Given x held w a (One (Copy m) ∷ rest) l h s → Stepped x (One (Copy m) ∷ rest) l h s
 copy_case x w a (Between to b) rest l h s (e, st, inside) =
@@ -466,7 +470,7 @@ uppered_reaches x next k g ElementByPointer s p b items e f go = (let none : p �
 
 -- the item behind those before an access, and the machine there
 abbrev Arrives : (x : Site) (next : List Step) (k : Locations) (g : World) (p n : ℕ) (item : PieceItem) (t : State) → Type 0
-Arrives x next k g p n item t = x.code (p + 4 * n) ≡ Some (filled x.places x.place (p + 4 * n) item) → t.pc ≡ p + 4 * n → Reaches x next k g t
+Arrives x next k g p n item t = x.code.at (p + 4 * n) ≡ Some (filled x.places x.place (p + 4 * n) item) → t.pc ≡ p + 4 * n → Reaches x next k g t
 
 based_reaches : (x : Site) (next : List Step) (k : Locations) (g : World) (known : Remembered) (s : State) (p r b : ℕ) (item : PieceItem) → s.pc ≡ p → Stands x p (based known b r (item ∷ [])) → Arrives x next k g p (upper_before known + 1) item (added (uppered known s b) (base_register known) r)
     → Reaches x next k g s
@@ -476,7 +480,7 @@ based_reaches x next k g known s p r b item e f go =
     let u = uppered known s b in
     let q = p + 4 * upper_before known in
     let four : q + 4 ≡ p + 4 * (upper_before known + 1) = omega arith in
-    reach_more x next k g u (added u (base_register known) r) (step_at x.code u q (Op operations.Add 5 r (base_register known)) at stands.0) (go (subst (λ n. x.code n ≡ Some (filled x.places x.place n item)) four stands.1.0) (ap (λ n. n + 4) at ∙ four)))
+    reach_more x next k g u (added u (base_register known) r) (step_at x.code u q (Op operations.Add 5 r (base_register known)) at stands.0) (go (subst (λ n. x.code.at n ≡ Some (filled x.places x.place n item)) four stands.1.0) (ap (λ n. n + 4) at ∙ four)))
 
 shifted_reaches : (x : Site) (next : List Step) (k : Locations) (g : World) (known : Remembered) (s : State) (p i b : ℕ) (item : PieceItem) → s.pc ≡ p → Stands x p (Plain (Shift Slli 5 i 2) ∷ based known b 5 (item ∷ []))
     → Arrives x next k g p (upper_before known + 2) item (added (uppered known (shifted s i) b) (base_register known) 5) → Reaches x next k g s
@@ -486,7 +490,7 @@ shifted_reaches x next k g known s p i b item e f go =
     (based_reaches x next k g known t (p + 4) 5 b item (ap (λ n. n + 4) e) f.1
     (λ stands at.
     let long : p + 4 + 4 * (upper_before known + 1) ≡ p + 4 * (upper_before known + 2) = omega arith in
-    go (subst (λ n. x.code n ≡ Some (filled x.places x.place n item)) long stands) (at ∙ long)))
+    go (subst (λ n. x.code.at n ≡ Some (filled x.places x.place n item)) long stands) (at ∙ long)))
 
 -- before a load or a store
 pub element_reaches : (x : Site) (next : List Step) (k : Locations) (g : World) (known : Remembered) (w : Width) (s : State) (p i b : ℕ) (item : PieceItem) → s.pc ≡ p → Stands x p (indexed known w b i (item ∷ [])) → Arrives x next k g p (before known w) item (at_element known w s i b)
@@ -498,9 +502,9 @@ element_reaches x next k g Upper Word s p i b item e f go = shifted_reaches x ne
 element_reaches x next k g ByPointer Byte s p i b item e f go = based_reaches x next k g ByPointer s p i b item e f go
 element_reaches x next k g ByPointer Word s p i b item e f go = shifted_reaches x next k g ByPointer s p i b item e f go
 element_reaches x next k g Element w s p i b item e f go =
-    (let none : p ≡ p + 4 * 0 = omega arith in go (subst (λ n. x.code n ≡ Some (filled x.places x.place n item)) none f.0) (e ∙ none))
+    (let none : p ≡ p + 4 * 0 = omega arith in go (subst (λ n. x.code.at n ≡ Some (filled x.places x.place n item)) none f.0) (e ∙ none))
 element_reaches x next k g ElementByPointer w s p i b item e f go =
-    (let none : p ≡ p + 4 * 0 = omega arith in go (subst (λ n. x.code n ≡ Some (filled x.places x.place n item)) none f.0) (e ∙ none))
+    (let none : p ≡ p + 4 * 0 = omega arith in go (subst (λ n. x.code.at n ≡ Some (filled x.places x.place n item)) none f.0) (e ∙ none))
 
 behind_access : (known : Remembered) (w : Width) (place a : ℕ) → place + 4 * a + 4 * before known w + 4 ≡ place + 4 * (a + access_size known w)
 behind_access Nothing Byte place a = omega arith
@@ -522,36 +526,70 @@ same_memory ByPointer Byte s i b = refl
 same_memory ByPointer Word s i b = refl
 same_memory ElementByPointer w s i b = refl
 
-load_at : (x : Site) {held : Scratch} (w a : ℕ) (width : Width) (g to i : ℕ) (rest : List Step) (l : Locations) (h : World) (s : State) → Given x held w a (One (Load width g to i) ∷ rest) l h s → (z : Option ℕ) → element h width g (l (Register i)) ≡ z → Case x (One (Load width g to i) ∷ rest) l h s
-load_at x w a width g to i rest l h s given None is = inr (λ ws. ap (λ z. tried z (λ q. Goes (at_steps rest (put (Register to) q l) h ws))) is)
-load_at x {held} w a width g to i rest l h s (e, st, inside) (Some v) is =
-    let items = first_items x w a (One (Load width g to i)) rest st in
-    let fine = st.fine.0 in
-    let n = l (Register i) in
-    let b = x.layout.base g in
-    let at = element_place width b n in
+-- where an element lies, from what x5 holds of its address and the object's part
+abbrev pub Leads : Width → (index at b : ℕ) → (word : ℕ) → Type 0
+Leads width i at b word = (o part : ℕ) (f : ℕ → ℕ) → f i ≡ word → (o + part) % 2 ^ 32 ≡ b → IsAddress width i o f → (f 5 + part) % 2 ^ 32 ≡ at
+
+-- an element is loaded, and one is stored: the one of that number, by a register and an address from which its object lies so far
+pub loaded_reaches : (x : Site) {held : Scratch} (v a : ℕ) (width : Width) (g to i b n word : ℕ) (rest : List Step) (l : Locations) (h : World) (s : State) → s.pc ≡ x.place + 4 * a → b < 2 ^ 32 → Leads width i (element_place width (x.layout.base g) n) b (l (Register i)) → IsElement h width g n word → IsTarget x.frame to → IsAllocatable i
+    → Stands x (x.place + 4 * a) (indexed (known_of x.frame.sets_pointer held width b i) width b i (load_element width to 5 (part_of (known_of x.frame.sets_pointer held width b i) b) ∷ []))
+    → Standing x (without to (behind_element (known_of x.frame.sets_pointer held width b i) held width b i)) v (a + access_size (known_of x.frame.sets_pointer held width b i) width) rest → Within x held l h s → Reaches x rest (put (Register to) word l) h s
+loaded_reaches x {held} v a width g to i b n word rest l h s e small leads there target ui items st inside =
+    let at = element_place width (x.layout.base g) n in
     let p = x.place + 4 * a in
-    let there = element_tells h width g n v is in
-    let lies = placed x h s width g n v inside.shares there in
+    let lies = placed x h s width g n word inside.shares there in
     let from = lies.from in
     let below = lies.below in
-    let low_from = x.layout.from g in
-    let low_to = x.layout.to g in
-    let small : b < 2 ^ 32 = omega arith in
     let known = known_of x.frame.sets_pointer held width b i in
     let told = is_known x.frame.sets_pointer (x.from.registers 3) held width b i s.registers inside.pointer inside.holds in
     let u = at_element known width s i b in
-    let wu = within_element x known l h width s i b told fine.1 inside in
-    let value : loaded (load_of width) u.memory at ≡ v = ap (λ (m : ℕ → ℕ). loaded (load_of width) m at) (same_memory known width s i b) ∙ holds x h s width g n v inside.shares there in
-    let lv : v < 2 ^ 32 = (let q = loaded_word width u.memory at wu.sound.memory in omega arith) in
-    let address = element_address width i b n (sum_base known b) (part_of known b) u.registers (sym (wu.same i fine.1)) (omega arith) (parts_of known width b i s.registers small told) wu.holds.address.1 in
-    let t : State = record u { pc = u.pc + 4; registers = with_register u.registers to v } in
-    inl (stepped x (One (Load width g to i) ∷ rest) rest l (put (Register to) v l) h h s (λ ws. ap (λ z. tried z (λ q. Goes (at_steps rest (put (Register to) q l) h ws))) is)
-    (element_reaches x rest (put (Register to) v l) h known width s p i b (load_element width to 5 (part_of known b)) e items
+    let wu = within_element x known l h width s i b told ui inside in
+    let value : loaded (load_of width) u.memory at ≡ word = ap (λ (m : ℕ → ℕ). loaded (load_of width) m at) (same_memory known width s i b) ∙ holds x h s width g n word inside.shares there in
+    let lv : word < 2 ^ 32 = (let q = loaded_word width u.memory at wu.sound.memory in omega arith) in
+    let address = leads (sum_base known b) (part_of known b) u.registers (sym (wu.same i ui)) (parts_of known width b i s.registers small told) wu.holds.address.1 in
+    let t : State = record u { pc = u.pc + 4; registers = with_register u.registers to word } in
+    element_reaches x rest (put (Register to) word l) h known width s p i b (load_element width to 5 (part_of known b)) e items
     (λ stands pc.
-    reach_by x rest (put (Register to) v l) h u t _ (a + access_size known width)
-    (load_step x.code u (load_of width) (p + 4 * before known width) to 5 (part_of known b) at pc stands address (load_accessible width at lies.aligned (omega arith) lies.below) ∙ ap (λ n. puts to n u) value)
-    (ap (λ n. n + 4) pc ∙ behind_access known width x.place a) (standing_tail x w a (One (Load width g to i)) rest st) (within_set x l h u (u.pc + 4) to v fine.0 lv wu))))
+    reach_by x rest (put (Register to) word l) h u t v (a + access_size known width)
+    (load_step x.code u (load_of width) (p + 4 * before known width) to 5 (part_of known b) at pc stands address (load_accessible x.code.floor width at lies.aligned (omega arith) lies.below) ∙ ap (λ n. puts to n u) value)
+    (ap (λ n. n + 4) pc ∙ behind_access known width x.place a) st (within_set x l h u (u.pc + 4) to word target lv wu))
+
+pub stored_reaches : (x : Site) {held : Scratch} (v a : ℕ) (width : Width) (g i r b n old : ℕ) (rest : List Step) (l : Locations) (h : World) (s : State) → s.pc ≡ x.place + 4 * a → b < 2 ^ 32 → Leads width i (element_place width (x.layout.base g) n) b (l (Register i)) → IsElement h width g n old → IsAllocatable i → IsAllocatable r
+    → Stands x (x.place + 4 * a) (indexed (known_of x.frame.sets_pointer held width b i) width b i (store_element width 5 r (part_of (known_of x.frame.sets_pointer held width b i) b) ∷ []))
+    → Standing x (behind_element (known_of x.frame.sets_pointer held width b i) held width b i) v (a + access_size (known_of x.frame.sets_pointer held width b i) width) rest → Within x held l h s → Reaches x rest l (with_element h g n (kept width (l (Register r)))) s
+stored_reaches x {held} v a width g i r b n old rest l h s e small leads there ui ur items st inside =
+    let at = element_place width (x.layout.base g) n in
+    let p = x.place + 4 * a in
+    let lies = placed x h s width g n old inside.shares there in
+    let from = lies.from in
+    let below = lies.below in
+    let k = with_element h g n (kept width (l (Register r))) in
+    let known = known_of x.frame.sets_pointer held width b i in
+    let told = is_known x.frame.sets_pointer (x.from.registers 3) held width b i s.registers inside.pointer inside.holds in
+    let u = at_element known width s i b in
+    let wu = within_element x known l h width s i b told ui inside in
+    let address = leads (sum_base known b) (part_of known b) u.registers (sym (wu.same i ui)) (parts_of known width b i s.registers small told) wu.holds.address.1 in
+    let t : State = record u { pc = u.pc + 4; memory = stored (store_of width) u.memory at (l (Register r)) } in
+    element_reaches x rest l k known width s p i b (store_element width 5 r (part_of known b)) e items
+    (λ stands pc.
+    reach_by x rest l k u t v (a + access_size known width)
+    (store_step x.code u (store_of width) (p + 4 * before known width) 5 r (part_of known b) at pc stands address (store_accessible x.code.floor width at lies.aligned (omega arith) lies.below)
+    ∙ ap (λ n. Continues (record u { pc = u.pc + 4; memory = stored (store_of width) u.memory at n })) (sym (wu.same r ur)))
+    (ap (λ n. n + 4) pc ∙ behind_access known width x.place a) st (within_store x l h u (u.pc + 4) width g n (l (Register r)) old there (word_of_register x l h s r ur inside) wu))
+
+-- an object's address is a word, and an element of it lies within the globals
+pub base_word : (x : Site) (h : World) (s : State) (width : Width) (g n v : ℕ) → Shares x.layout s h → IsElement h width g n v → (x.layout.base g < 2 ^ 32) × (element_place width (x.layout.base g) n < 2 ^ 32)
+base_word x h s width g n v sh there = let below = (placed x h s width g n v sh there).below in let low = x.layout.to g in (omega arith, omega arith)
+
+load_at : (x : Site) {held : Scratch} (w a : ℕ) (width : Width) (g to i : ℕ) (rest : List Step) (l : Locations) (h : World) (s : State) → Given x held w a (One (Load width g to i) ∷ rest) l h s → (z : Option ℕ) → element h width g (l (Register i)) ≡ z → Case x (One (Load width g to i) ∷ rest) l h s
+load_at x w a width g to i rest l h s given None is = inr (λ ws. ap (λ z. tried z (λ q. Goes (at_steps rest (put (Register to) q l) h ws))) is)
+load_at x {held} w a width g to i rest l h s (e, st, inside) (Some v) is =
+    let n = l (Register i) in
+    let there = element_tells h width g n v is in
+    let words = base_word x h s width g n v inside.shares there in
+    inl (stepped x (One (Load width g to i) ∷ rest) rest l (put (Register to) v l) h h s (λ ws. ap (λ z. tried z (λ q. Goes (at_steps rest (put (Register to) q l) h ws))) is)
+    (loaded_reaches x _ a width g to i (x.layout.base g) n v rest l h s e words.0 (λ o part f same both is_at. element_address width i (x.layout.base g) n o part f same words.1 both is_at) there st.fine.0.0 st.fine.0.1
+    (first_items x w a (One (Load width g to i)) rest st) (standing_tail x w a (One (Load width g to i)) rest st) inside))
 
 pub load_case : (x : Site) {held : Scratch} (w a : ℕ) (width : Width) (g to i : ℕ) (rest : List Step) (l : Locations) (h : World) (s : State) → Given x held w a (One (Load width g to i) ∷ rest) l h s → Case x (One (Load width g to i) ∷ rest) l h s
 load_case x w a width g to i rest l h s given = load_at x w a width g to i rest l h s given (element h width g (l (Register i))) refl
@@ -559,34 +597,12 @@ load_case x w a width g to i rest l h s given = load_at x w a width g to i rest 
 store_at : (x : Site) {held : Scratch} (w a : ℕ) (width : Width) (g i r : ℕ) (rest : List Step) (l : Locations) (h : World) (s : State) → Given x held w a (One (Store width g i r) ∷ rest) l h s → (z : Option ℕ) → element h width g (l (Register i)) ≡ z → Case x (One (Store width g i r) ∷ rest) l h s
 store_at x w a width g i r rest l h s given None is = inr (λ ws. ap (λ z. tried (option_map (λ old. with_element h g (l (Register i)) (kept width (l (Register r)))) z) (λ k. Goes (at_steps rest l k ws))) is)
 store_at x {held} w a width g i r rest l h s (e, st, inside) (Some v) is =
-    let items = first_items x w a (One (Store width g i r)) rest st in
-    let fine = st.fine.0 in
     let n = l (Register i) in
-    let b = x.layout.base g in
-    let at = element_place width b n in
-    let p = x.place + 4 * a in
     let there = element_tells h width g n v is in
-    let lies = placed x h s width g n v inside.shares there in
-    let from = lies.from in
-    let below = lies.below in
-    let low_from = x.layout.from g in
-    let low_to = x.layout.to g in
-    let small : b < 2 ^ 32 = omega arith in
-    let k = with_element h g n (kept width (l (Register r))) in
-    let known = known_of x.frame.sets_pointer held width b i in
-    let told = is_known x.frame.sets_pointer (x.from.registers 3) held width b i s.registers inside.pointer inside.holds in
-    let u = at_element known width s i b in
-    let wu = within_element x known l h width s i b told fine.0 inside in
-    let address = element_address width i b n (sum_base known b) (part_of known b) u.registers (sym (wu.same i fine.0)) (omega arith) (parts_of known width b i s.registers small told) wu.holds.address.1 in
-    let t : State = record u { pc = u.pc + 4; memory = stored (store_of width) u.memory at (l (Register r)) } in
-    inl (stepped x (One (Store width g i r) ∷ rest) rest l l h k s (λ ws. ap (λ z. tried (option_map (λ old. with_element h g (l (Register i)) (kept width (l (Register r)))) z) (λ k. Goes (at_steps rest l k ws))) is)
-    (element_reaches x rest l k known width s p i b (store_element width 5 r (part_of known b)) e items
-    (λ stands pc.
-    reach_by x rest l k u t _ (a + access_size known width)
-    (store_step x.code u (store_of width) (p + 4 * before known width) 5 r (part_of known b) at pc stands address (store_accessible width at lies.aligned (omega arith) lies.below)
-    ∙ ap (λ n. Continues (record u { pc = u.pc + 4; memory = stored (store_of width) u.memory at n })) (sym (wu.same r fine.1)))
-    (ap (λ n. n + 4) pc ∙ behind_access known width x.place a) (standing_tail x w a (One (Store width g i r)) rest st)
-    (within_store x l h u (u.pc + 4) width g n (l (Register r)) v there (word_of_register x l h s r fine.1 inside) wu))))
+    let words = base_word x h s width g n v inside.shares there in
+    inl (stepped x (One (Store width g i r) ∷ rest) rest l l h (with_element h g n (kept width (l (Register r)))) s (λ ws. ap (λ z. tried (option_map (λ old. with_element h g (l (Register i)) (kept width (l (Register r)))) z) (λ k. Goes (at_steps rest l k ws))) is)
+    (stored_reaches x _ a width g i r (x.layout.base g) n v rest l h s e words.0 (λ o part f same both is_at. element_address width i (x.layout.base g) n o part f same words.1 both is_at) there st.fine.0.0 st.fine.0.1
+    (first_items x w a (One (Store width g i r)) rest st) (standing_tail x w a (One (Store width g i r)) rest st) inside))
 
 pub store_case : (x : Site) {held : Scratch} (w a : ℕ) (width : Width) (g i r : ℕ) (rest : List Step) (l : Locations) (h : World) (s : State) → Given x held w a (One (Store width g i r) ∷ rest) l h s → Case x (One (Store width g i r) ∷ rest) l h s
 store_case x w a width g i r rest l h s given = store_at x w a width g i r rest l h s given (element h width g (l (Register i))) refl
@@ -600,7 +616,7 @@ not_kept f r lo hi = ((omega arith, omega arith), λ k. elim k [ inl q ↦ absur
 numbered : State → ℕ → State
 numbered s n = record s { pc = s.pc + 4; registers = with_register s.registers 17 n }
 
-number_step : (x : Site) {held : Scratch} (l : Locations) (h : World) (s : State) (p n : ℕ) → s.pc ≡ p → n < 2 ^ 32 → x.code p ≡ Some (OpImm Addi 17 0 n) → Within x held l h s → machine_step x.code s ≡ Continues (numbered s n)
+number_step : (x : Site) {held : Scratch} (l : Locations) (h : World) (s : State) (p n : ℕ) → s.pc ≡ p → n < 2 ^ 32 → x.code.at p ≡ Some (OpImm Addi 17 0 n) → Within x held l h s → machine_step x.code s ≡ Continues (numbered s n)
 unfolding numbered
 number_step x l h s p n e lt f w =
     let value : add (s.registers 0) n ≡ n = (let z = w.sound.zero in omega arith) in

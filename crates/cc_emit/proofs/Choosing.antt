@@ -11,7 +11,7 @@ use Rattle.cc_linear_language.specs.declared.item.LinearItem.{LinearItem}
 use Rattle.cc_linear_language.specs.declared.item.LinearItem.TheVariants.{Label, Jump, IfNonzero, IfZero, Copy, Const, Unary, Binary, Load, Store, Call, Read, Write, Return}
 use Rattle.cc_linear_language.specs.Linear.{IsItem}
 use Rattle.cc_select.specs.declared.step.Step.{Step}
-use Rattle.cc_select.specs.declared.step.Step.TheVariants.{One, Immediate, LoadAt, StoreAt, Branch, BranchImmediate}
+use Rattle.cc_select.specs.declared.step.Step.TheVariants.{One, Immediate, LoadAt, StoreAt, LoadNear, StoreNear, Branch, BranchImmediate}
 use Rattle.cc_select.specs.Selected.{IsStep}
 use Rattle.cc_emit.specs.Contract.{IsKept}
 use Rattle.cc_emit.specs.Frames.{kept_registers, writes, is_written, written, is_call, calls, frame_of}
@@ -112,6 +112,8 @@ fine meaning labels sets_pointer slots all (One i) few of u = fine_item meaning 
 fine meaning labels sets_pointer slots all (Immediate operator to from word) few of u = (target sets_pointer slots all to u.0 (of.writes to (eqb_yes to to refl)), u.1, u.2, u.3)
 fine meaning labels sets_pointer slots all (LoadAt width object to number) few of u = target sets_pointer slots all to u.1 (of.writes to (eqb_yes to to refl))
 fine meaning labels sets_pointer slots all (StoreAt width object number from) few of u = u.2
+fine meaning labels sets_pointer slots all (LoadNear width object to index word) few of u = (target sets_pointer slots all to u.1 (of.writes to (eqb_yes to to refl)), u.2)
+fine meaning labels sets_pointer slots all (StoreNear width object index word from) few of u = (u.1, u.3)
 fine meaning labels sets_pointer slots all (Branch operator nonzero left right to) few of u = (u.0, u.1, u.2)
 fine meaning labels sets_pointer slots all (BranchImmediate operator nonzero from word to) few of u = (u.1, u.2, u.3)
 

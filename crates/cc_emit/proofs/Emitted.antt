@@ -15,10 +15,10 @@ use Rattle.cc_ltl.specs.declared.location.Location.TheVariants.{Register, Slot}
 use Rattle.cc_ltl.specs.Ltl.{Locations, put, words_from, after_call, at_entry}
 use Rattle.cc_linear_language.specs.declared.item.LinearItem.TheVariants.{Label, Jump, IfNonzero, IfZero, Copy, Const, Unary, Binary, Load, Store, Call, Read, Write, Return}
 use Rattle.cc_select.specs.declared.step.Step.{Step}
-use Rattle.cc_select.specs.declared.step.Step.TheVariants.{One, Immediate, LoadAt, StoreAt, Branch, BranchImmediate}
+use Rattle.cc_select.specs.declared.step.Step.TheVariants.{One, Immediate, LoadAt, StoreAt, LoadNear, StoreNear, Branch, BranchImmediate}
 use Rattle.cc_select.specs.Selected.{Configuration, at_steps, steps_after_answer, selected_move, selected_output, selected_start}
-use Rattle.cc_rv32.specs.Machine.{Continues, State, stack_from}
-use Rattle.cc_emit.specs.Contract.{CallsMeet, Code, ComesBack, Enters, IsPlace, IsSound, ObjectLayout, Meets, Path, PieceMeets, Placed}
+use Rattle.cc_rv32.specs.Machine.{Continues, State}
+use Rattle.cc_emit.specs.Contract.{CallsMeet, Code, ComesBack, EachCalled, Enters, IsPlace, IsSound, ObjectLayout, Meets, Path, PieceMeets, Placed}
 use Rattle.cc_emit.specs.Frames.{Frame, frame_size}
 use Rattle.cc_emit.specs.Emission.{pointer_items, emitted, framed_items, prologue, prologue_size, saving, stack_moved}
 use Rattle.cc_emit.specs.declared.scratch.Scratch.{Scratch}
@@ -26,10 +26,10 @@ use Rattle.cc_emit.specs.Scratch.{nothing, addressed}
 use Rattle.cc_emit.proofs.Fine.{AreFine, IsFrame, Member}
 use Rattle.cc_emit.proofs.Basics.{words_append, listed, listed_words, take_listed, drop_listed}
 use Rattle.cc_emit.proofs.Places.{length_pointer_items, length_saving, length_stack_moved, seen_first}
-use Rattle.cc_emit.proofs.Standing.{Site, Standing, Stands, all_addressed, near, labels, machine_step, path_then, first_items, standing_tail, placed_append, between}
+use Rattle.cc_emit.proofs.Standing.{Site, Standing, Stands, HasRoom, each_append, each_map, first_calls, all_addressed, near, labels, machine_step, path_then, first_items, standing_tail, placed_append, between}
 use Rattle.cc_emit.proofs.Within.{Within, within_nothing}
 use Rattle.cc_emit.proofs.Cases.{Stepped, Case, StandsWhole, jump_case, if_zero_case, if_nonzero_case, const_case, copy_case, unary_case, binary_case, load_case, store_case, read_case, write_case}
-use Rattle.cc_emit.proofs.Steps.{immediate_case, load_at_case, store_at_case, branch_case, branch_immediate_case}
+use Rattle.cc_emit.proofs.Steps.{immediate_case, load_at_case, store_at_case, load_near_case, store_near_case, branch_case, branch_immediate_case}
 use Rattle.cc_emit.proofs.Returning.{return_path, called, called_step, enters_callee, return_place, regained, within_behind, framed, prologue_path, framed_pc, found, framed_within}
 
 abbrev pub DoesBy : {b : List Size} (y : ObjectLayout b) (code : Code) (rate : ℕ) (from s : State) → Stop Answer → List ℕ → ℕ → Type 0
@@ -57,8 +57,8 @@ one_move y code rate from s t z v m one p x =
 call_paid : (c m n : ℕ) → 1 ≤ c → n ≤ c + c * m → suc n ≤ (c + c) * suc m
 call_paid c m n one h = let f = mul-suc (c + c) m in let g = add-mul c c m in omega arith
 
-module _ (x : Site) (c d : ℕ) (one : 1 ≤ c) (below : d < 1024) (all_places : (g : ℕ) → g < x.meaning.functions → IsPlace (x.places g)) (calls : CallsMeet x.meaning x.layout x.code x.places c (suc d))
-    (sound : IsSound x.from) (back : x.from.registers 1 % 4 ≡ 0) (room : stack_from + 2032 * (1024 - d) ≤ x.from.registers 2) (all : StandsWhole x) where
+module _ (x : Site) (c : ℕ) (one : 1 ≤ c) (all_places : (g : ℕ) → g < x.meaning.functions → IsPlace (x.places g)) (calls : CallsMeet x.meaning x.layout x.code x.places c (suc x.opened))
+    (sound : IsSound x.from) (back : x.from.registers 1 % 4 ≡ 0) (all : StandsWhole x) where
   abbrev rate : ℕ
   rate = c + c
 
@@ -66,10 +66,10 @@ module _ (x : Site) (c d : ℕ) (one : 1 ≤ c) (below : d < 1024) (all_places :
   Done s z done = Does x.layout x.code rate x.from s z done
 
   abbrev lrun : ℕ → ℕ → Configuration → Outcome Answer
-  lrun k j q = run (selected_move x.meaning.arity x.steps) selected_output (call_effect x.meaning (suc d)) k j q
+  lrun k j q = run (selected_move x.meaning.arity x.steps) selected_output (call_effect x.meaning (suc x.opened)) k j q
 
   abbrev lwork : ℕ → ℕ → Configuration → ℕ
-  lwork k j q = work (selected_move x.meaning.arity x.steps) (call_effect x.meaning (suc d)) k j q
+  lwork k j q = work (selected_move x.meaning.arity x.steps) (call_effect x.meaning (suc x.opened)) k j q
 
   abbrev FollowsWith : (k j : ℕ) → Configuration → State → Type 0
   FollowsWith k j q s = (i steps : ℕ) → i ≤ k → steps ≤ j → Done s (lrun i steps q) (lwork i steps q)
@@ -86,7 +86,7 @@ module _ (x : Site) (c d : ℕ) (one : 1 ≤ c) (below : d < 1024) (all_places :
 
   -- what is owed of a move
   abbrev Owes : (i steps : ℕ) → List ℕ → State → Move Configuration → Type 0
-  Owes i steps o s mv = Done s (act (call_effect x.meaning (suc d)) mv o steps (lrun i)) (work_act (call_effect x.meaning (suc d)) mv steps (lwork i))
+  Owes i steps o s mv = Done s (act (call_effect x.meaning (suc x.opened)) mv o steps (lrun i)) (work_act (call_effect x.meaning (suc x.opened)) mv steps (lwork i))
 
   stepped_follows : (k j : ℕ) (ops : List Step) (l : Locations) (h : World) (s : State) → s.output ≡ h.output → (z : Stepped x ops l h s) → (words : List ℕ) → FollowsWith k j (at_steps z.next z.locations z.world words) z.reaches.to
       → FollowsWith (suc k) j (at_steps ops l h (z.prefix ++ words)) s
@@ -117,7 +117,7 @@ module _ (x : Site) (c d : ℕ) (one : 1 ≤ c) (below : d < 1024) (all_places :
   -- ---- calls
 
   abbrev effect : ℕ → (g : ℕ) → Locations → World → Effect
-  effect j g l h = x.meaning.call j (suc d) g (words_from 10 (x.meaning.arity g) l) h
+  effect j g l h = x.meaning.call j (suc x.opened) g (words_from 10 (x.meaning.arity g) l) h
 
   abbrev Comes : ℕ → (ops : List Step) (l : Locations) → State → List ℕ → ℕ → Effect → Type 0
   Comes i ops l s words steps e = Done s (resumed e (steps_after_answer ops l words) (lrun i)) (suc (work_resumed e (steps_after_answer ops l words) steps (lwork i)))
@@ -152,7 +152,7 @@ module _ (x : Site) (c d : ℕ) (one : 1 ≤ c) (below : d < 1024) (all_places :
   unfinished s ops l g i steps words o to (n, t, p, q, b) = (suc n, t, (called s (x.places g), to, p), q, call_paid c n steps one b)
 
   abbrev EntersBy : (g : ℕ) → Locations → World → State → Type 0
-  EntersBy g l h s = Enters x.meaning x.layout g (suc d) (x.places g) (words_from 10 (x.meaning.arity g) l) h (called s (x.places g))
+  EntersBy g l h s = Enters x.meaning x.layout x.code g (suc x.opened) (x.places g) (words_from 10 (x.meaning.arity g) l) h (called s (x.places g))
 
   at_call : (s : State) (ops : List Step) (l : Locations) (h : World) (g i steps : ℕ) (words : List ℕ) → machine_step x.code s ≡ Continues (called s (x.places g)) → g < x.meaning.functions → EntersBy g l h s
       → ((a : Answer) (left : ℕ) → effect steps g l h ≡ Gives a left → Comes i ops l s words steps (Gives a left)) → (e : Effect) → effect steps g l h ≡ e → Comes i ops l s words steps e
@@ -171,7 +171,7 @@ module _ (x : Site) (c d : ℕ) (one : 1 ≤ c) (below : d < 1024) (all_places :
   none_fewer : (j steps g left : ℕ) (l : Locations) (h : World) (a : Answer) → steps ≤ j → effect steps g l h ≡ Gives a left → effect j g l h ≡ Gives a (left + (j - steps))
   none_fewer j steps g left l h a le eq =
       let e : steps + (j - steps) ≡ j = omega arith in
-      ap (λ q. effect q g l h) (sym e) ∙ subst (λ e. Lasts (j - steps) e (effect (steps + (j - steps)) g l h)) eq (x.meaning.later steps (j - steps) (suc d) g (words_from 10 (x.meaning.arity g) l) h)
+      ap (λ q. effect q g l h) (sym e) ∙ subst (λ e. Lasts (j - steps) e (effect (steps + (j - steps)) g l h)) eq (x.meaning.later steps (j - steps) (suc x.opened) g (words_from 10 (x.meaning.arity g) l) h)
 
   call_simulated : (k j w a0 : ℕ) {held : Scratch} (s : State) (ops : List Step) (l : Locations) (h : World) (g : ℕ) → Member 1 x.frame.saved → Within x held l h s → s.pc ≡ x.place + 4 * a0 → Standing x nothing w (a0 + 1) ops → machine_step x.code s ≡ Continues (called s (x.places g)) → g < x.meaning.functions → EntersBy g l h s → Later k
       → (e : Effect) → effect j g l h ≡ e → Simulated (suc k) j (One (Call g) ∷ ops) l h s
@@ -190,7 +190,7 @@ module _ (x : Site) (c d : ℕ) (one : 1 ≤ c) (below : d < 1024) (all_places :
             let same : Gives a left ≡ Gives b (rest + (j - steps)) = sym eq ∙ none_fewer j steps g rest l h b les e in
             let a_b : a ≡ b = cc in
             let lefts : left ≡ rest + (j - steps) = cc in
-            let fewer = (x.meaning.exact (suc d) g (words_from 10 (x.meaning.arity g) l) h steps rest b e).0 in
+            let fewer = (x.meaning.exact (suc x.opened) g (words_from 10 (x.meaning.arity g) l) h steps rest b e).0 in
             subst (λ q. Comes i ops l s (mine ++ onward.0) steps (Gives q rest)) a_b (answers i steps rest p s ops l g a t onward.0 to met.2 (omega arith) (onward.2 i rest le (omega arith)))),
       )
   call_simulated k j w a0 s ops l h g saves inside here_at st to lt enter later (Unfinished o) eq =
@@ -233,10 +233,12 @@ module _ (x : Site) (c d : ℕ) (one : 1 ≤ c) (below : d < 1024) (all_places :
   simulate_next k later j w a held (One (Call g) ∷ ops) l h s e st inside =
       let fine = st.fine.0 in
       let on_s : IsPlace s.pc = subst IsPlace (sym e) st.from in
-      call_simulated k j _ a s ops l h g fine.2 inside e (standing_tail x w a (One (Call g)) ops st) (called_step x.code s (x.place + 4 * a) (x.places g) e st.from (all_places g fine.0) (first_items x w a (One (Call g)) ops st).0) fine.0 (enters_callee x d g l h s below room fine.1 on_s inside) later (effect j g l h) refl
+      call_simulated k j _ a s ops l h g fine.2 inside e (standing_tail x w a (One (Call g)) ops st) (called_step x.code s (x.place + 4 * a) (x.places g) e st.from (all_places g fine.0) (first_items x w a (One (Call g)) ops st).0) fine.0 (enters_callee x g l h s (first_calls x w a (One (Call g)) ops st).0 fine.1 on_s inside) later (effect j g l h) refl
   simulate_next k later j w a held (Immediate o to b v ∷ ops) l h s e st inside = at_stepped k j (Immediate o to b v ∷ ops) l h s later inside.shares.output (immediate_case x w a o to b v ops l h s (e, st, inside))
   simulate_next k later j w a held (LoadAt width g to n ∷ ops) l h s e st inside = at_case k j (LoadAt width g to n ∷ ops) l h s later inside.shares.output (load_at_case x w a width g to n ops l h s (e, st, inside))
   simulate_next k later j w a held (StoreAt width g n b ∷ ops) l h s e st inside = at_case k j (StoreAt width g n b ∷ ops) l h s later inside.shares.output (store_at_case x w a width g n b ops l h s (e, st, inside))
+  simulate_next k later j w a held (LoadNear width g to i n ∷ ops) l h s e st inside = at_case k j (LoadNear width g to i n ∷ ops) l h s later inside.shares.output (load_near_case x w a width g to i n ops l h s (e, st, inside))
+  simulate_next k later j w a held (StoreNear width g i n b ∷ ops) l h s e st inside = at_case k j (StoreNear width g i n b ∷ ops) l h s later inside.shares.output (store_near_case x w a width g i n b ops l h s (e, st, inside))
   simulate_next k later j w a held (Branch o nonzero b c n ∷ ops) l h s e st inside = at_stepped k j (Branch o nonzero b c n ∷ ops) l h s later inside.shares.output (branch_case x w a o nonzero b c n ops l h s (e, st, inside) all)
   simulate_next k later j w a held (BranchImmediate o nonzero b v n ∷ ops) l h s e st inside = at_stepped k j (BranchImmediate o nonzero b v n ∷ ops) l h s later inside.shares.output (branch_immediate_case x w a o nonzero b v n ops l h s (e, st, inside) all)
   simulate_next k later j w a held (One Return ∷ ops) l h s e st inside = ([], tt, return_follows k j s ops l h inside.shares.output (return_path x w a ops l h s sound back e st inside))
@@ -291,8 +293,8 @@ meets_of y code r c p n s t (Unfinished o) v z one path (e, b) does =
 meets_of y code r c p n s t (Failed o) v z one path k does = tt
 
 -- the function's items stand behind its prologue
-standing_all : (x : Site) → IsPlace x.place → IsPlace (x.place + 4 * length (framed_items x.layout.base x.frame (all_addressed x))) → Stands x x.place (framed_items x.layout.base x.frame (all_addressed x)) → AreFine x.meaning x.frame x.steps → Stands x x.place (prologue x.frame) × StandsWhole x
-standing_all x from to placed fine =
+standing_all : (x : Site) → IsPlace x.place → IsPlace (x.place + 4 * length (framed_items x.layout.base x.frame (all_addressed x))) → Stands x x.place (framed_items x.layout.base x.frame (all_addressed x)) → EachCalled (HasRoom x) (framed_items x.layout.base x.frame (all_addressed x)) → AreFine x.meaning x.frame x.steps → Stands x x.place (prologue x.frame) × StandsWhole x
+standing_all x from to placed calls fine =
     let f = x.frame in
     let first = prologue f in
     let rest = emitted x.layout.base f (near x) (labels x) 0 (prologue_size f) (all_addressed x) in
@@ -310,29 +312,29 @@ standing_all x from to placed fine =
         placed = subst (λ b. Stands x b rest) e both.1;
         from = between x.place (x.place + 4 * prologue_size f) _ from last (omega arith) (omega arith) (omega arith);
         to = last;
+        calls = (each_append (HasRoom x) first rest calls).1;
         fine = fine;
         seen = seen_first f (all_addressed x);
       },
     )
 
-enough_room : (d n top : ℕ) → d < 1024 → n ≤ 508 → stack_from + 2032 * (1024 - d) ≤ top → stack_from + 4 * n ≤ top
-enough_room d n top below small room = omega arith
-
 -- what is emitted in a frame meets a piece's contract
 pub framed_meets : (meaning : Meaning) (layout : ObjectLayout meaning.objects) (f rate : ℕ) (frame : Frame) (ops : List Step) → TracksForAll meaning f rate (selected_move meaning.arity ops) selected_output (selected_start frame.slots ops) → IsFrame frame → AreFine meaning frame ops
-    → PieceMeets meaning layout f (rate + rate) (framed_items layout.base frame (addressed layout.base frame.sets_pointer nothing ops))
-framed_meets meaning layout f rate frame ops keeps is_frame fine code places place from to placed all_places d c below one calls ws h s n enters =
+    → PieceMeets meaning layout f (frame_size frame) (rate + rate) (framed_items layout.base frame (addressed layout.base frame.sets_pointer nothing ops))
+framed_meets meaning layout f rate frame ops keeps is_frame fine code places place from to placed enough all_places d c below one calls ws h s n enters =
     let small = is_frame.small in
-    let x : Site = record { meaning = meaning; layout = layout; frame = frame; steps = ops; code = code; places = places; place = place; from = s; is_frame = is_frame; aligned = enters.aligned; room = enough_room d (frame.slots + length frame.saved) (s.registers 2) below small enters.room; top = enters.top } in
+    let own = enough.own d below in
+    let entered = enters.room in
+    let x : Site = record { meaning = meaning; layout = layout; frame = frame; steps = ops; code = code; places = places; place = place; from = s; opened = d; is_frame = is_frame; aligned = enters.aligned; room = omega arith; top = enters.top } in
     let bound = keeps d below ws h enters.is_call n in
     let most = bound.0 in
     let most_steps = bound.1 in
-    let stand = standing_all x from to placed fine in
+    let stand = standing_all x from to placed (each_map (λ g. frame_size frame + code.need g (suc d) ≤ code.need f d) (HasRoom x) (λ g (le : frame_size frame + code.need g (suc d) ≤ code.need f d). omega arith) (framed_items layout.base frame (addressed layout.base frame.sets_pointer nothing ops)) (enough.calls d below)) fine in
     let t = framed frame s in
     let on_s : Placed code places place s.pc (prologue frame) = subst (λ b. Placed code places place b (prologue frame)) (sym enters.at) stand.0 in
     let path : Path code (prologue_size frame) s t = prologue_path code places place frame s enters.aligned x.room enters.top small on_s in
     let within = framed_within x f d ws h enters in
-    let sim = simulate x c d one below all_places calls enters.sound enters.back enters.room stand.1 most most_steps 0 (prologue_size frame) nothing ops (found frame t ws) h t (framed_pc frame s place enters.at) stand.1 within in
+    let sim = simulate x c one all_places calls enters.sound enters.back stand.1 most most_steps 0 (prologue_size frame) nothing ops (found frame t ws) h t (framed_pc frame s place enters.at) stand.1 within in
     let mine = listed 32 0 t.registers in
     let slots = listed frame.slots 0 (λ k. t.memory (t.registers 2 + 4 * k)) in
     let words = mine ++ (slots ++ sim.0) in

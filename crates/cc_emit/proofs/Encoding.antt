@@ -14,7 +14,7 @@ use Rattle.cc_linear_language.specs.declared.item.LinearItem.TheVariants.{Label,
 use Rattle.cc_select.specs.declared.step.WordOperator.{WordOperator}
 use Rattle.cc_select.specs.declared.step.WordOperator.TheVariants as immediates
 use Rattle.cc_select.specs.declared.step.Step.{Step}
-use Rattle.cc_select.specs.declared.step.Step.TheVariants.{One, Immediate, LoadAt, StoreAt, Branch, BranchImmediate}
+use Rattle.cc_select.specs.declared.step.Step.TheVariants.{One, Immediate, LoadAt, StoreAt, LoadNear, StoreNear, Branch, BranchImmediate}
 use Rattle.cc_rv32.specs.declared.instr.Instr.TheVariants.{Lui, Op}
 use Rattle.cc_rv32.specs.declared.instr.RegisterOperation.TheVariants as operation
 use Rattle.cc_rv32.specs.declared.instr.ImmediateOperation.TheVariants.{Addi, Slti, Sltiu}
@@ -157,10 +157,10 @@ module _ (functions long : ℕ) where
   unary_encodable Complement to a t p = (t, p, (omega arith, omega arith))
   unary_encodable IsZero to a t p = (t, p, (omega arith, omega arith))
 
-  const_fit : (no_high no_low : Bool) (to w : ℕ) → to < 32 → Fit (if no_high then addi to 0 (low w) ∷ [] else if no_low then Plain (Lui to (high w)) ∷ [] else Plain (Lui 5 (high w)) ∷ addi to 5 (low w) ∷ [])
+  const_fit : (no_high no_low : Bool) (to w : ℕ) → to < 32 → Fit (if no_high then addi to 0 (low w) ∷ [] else if no_low then Plain (Lui to (high w)) ∷ [] else Plain (Lui to (high w)) ∷ addi to to (low w) ∷ [])
   const_fit true no_low to w t = ((t, omega arith, low_fits w), tt)
   const_fit false true to w t = ((t, omega arith), tt)
-  const_fit false false to w t = ((omega arith, omega arith), ((t, omega arith, low_fits w), tt))
+  const_fit false false to w t = ((t, omega arith), ((t, t, low_fits w), tt))
 
   branch_fit : (near : Bool) (c : Condition) (a to : ℕ) → AreRegisters c → (near ≡ true → Nears a to) → to ≤ long → Fit (branch_items near c a to)
   branch_fit true c a to u n le = ((u.0, u.1, near_offset a to (n refl)), tt)
@@ -272,6 +272,10 @@ module _ (functions long : ℕ) where
   step_fit meaning base f near labels a k (Immediate o to from word) e is u n le = word_recipe_fit (word_recipe o word) to from (has_room o word) u.0.0.1 u.1.1
   step_fit meaning base f near labels a k (LoadAt width object to number) e is u n le = upper_fit k (known_place width (base object) number) (load_element width to (base_register k) (part_of k (known_place width (base object) number)) ∷ []) ((u.0.1, register_below k, part_fits k _), tt)
   step_fit meaning base f near labels a k (StoreAt width object number from) e is u n le = upper_fit k (known_place width (base object) number) (store_element width (base_register k) from (part_of k (known_place width (base object) number)) ∷ []) ((register_below k, u.1, part_fits k _), tt)
+  step_fit meaning base f near labels a k (LoadNear width object to index word) e is u n le =
+      access_fit k width (known_place width (base object) word) index (load_element width to 5 (part_of k (known_place width (base object) word))) u.1.1 (u.0.0.1, omega arith, part_fits k _)
+  step_fit meaning base f near labels a k (StoreNear width object index word from) e is u n le =
+      access_fit k width (known_place width (base object) word) index (store_element width 5 from (part_of k (known_place width (base object) word))) u.0.1 (omega arith, u.1.1, part_fits k _)
   step_fit meaning base f near labels a k (Branch o nonzero left right to) e is u n le =
       branch_fit (near to) (turned nonzero (comparison o left right)) a (labels to) (turned_registers nonzero (comparison o left right) (comparison_registers o left right u.1.1 u.2.1)) (λ q. close_nears a (labels to) (n to q)) (le to)
   step_fit meaning base f near labels a k (BranchImmediate o nonzero from word to) e is u n le =

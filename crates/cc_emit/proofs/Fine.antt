@@ -9,7 +9,7 @@ use Rattle.cc_ltl.specs.Ltl.{IsWord}
 use Rattle.cc_linear_language.specs.declared.item.LinearItem.{LinearItem}
 use Rattle.cc_linear_language.specs.declared.item.LinearItem.TheVariants.{Label, Jump, IfNonzero, IfZero, Copy, Const, Unary, Binary, Load, Store, Call, Read, Write, Return}
 use Rattle.cc_select.specs.declared.step.Step.{Step}
-use Rattle.cc_select.specs.declared.step.Step.TheVariants.{One, Immediate, LoadAt, StoreAt, Branch, BranchImmediate}
+use Rattle.cc_select.specs.declared.step.Step.TheVariants.{One, Immediate, LoadAt, StoreAt, LoadNear, StoreNear, Branch, BranchImmediate}
 use Rattle.cc_select.specs.Immediates.{has_word, is_comparison}
 use Rattle.cc_emit.specs.Contract.{IsKept}
 use Rattle.cc_emit.specs.Frames.{Frame}
@@ -62,6 +62,8 @@ IsFineStep meaning f (One item) = IsFine meaning f item
 IsFineStep meaning f (Immediate operator to from word) = IsTarget f to × IsAllocatable from × IsWord word × (has_word operator word ≡ true)
 IsFineStep meaning f (LoadAt width object to number) = IsTarget f to
 IsFineStep meaning f (StoreAt width object number from) = IsAllocatable from
+IsFineStep meaning f (LoadNear width object to index word) = IsTarget f to × IsAllocatable index
+IsFineStep meaning f (StoreNear width object index word from) = IsAllocatable index × IsAllocatable from
 IsFineStep meaning f (Branch operator nonzero left right to) = (is_comparison operator ≡ true) × IsAllocatable left × IsAllocatable right
 IsFineStep meaning f (BranchImmediate operator nonzero from word to) = IsAllocatable from × IsWord word × (has_word operator word ≡ true)
 

@@ -37,6 +37,8 @@ pub mod Choosing
 pub mod Encoding
 -- a pair's code is a piece
 pub mod Pieces
+-- the code: which steps are in loops
+pub mod Looping
 -- the code: what is known of addresses
 pub mod Addressing
 -- the code: which registers are saved

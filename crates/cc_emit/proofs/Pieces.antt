@@ -17,7 +17,7 @@ use Rattle.cc_select.specs.Pair as above
 use Rattle.cc_emit.specs.declared.item.PieceItem.{PieceItem}
 use Rattle.cc_emit.specs.Contract.{IsPiece}
 use Rattle.cc_emit.specs.Objects.{object_address}
-use Rattle.cc_emit.specs.Frames.{frame_of}
+use Rattle.cc_emit.specs.Frames.{frame_of, frame_size}
 use Rattle.cc_emit.specs.Scratch.{gains}
 use Rattle.cc_emit.specs.Function.{function_items}
 use Rattle.cc_emit.specs.Piece.{AreOf, IsPieceOfUnit}
@@ -63,8 +63,12 @@ few_parameters unit limits g = few_in unit first_file_scope g (prefix_none (exte
 abbrev pub items_for : above.Pair → List PieceItem
 items_for p = function_items (object_address (objects_in (above.tree_of p))) p.ltl.slots p.code
 
-items_do : (p : above.Pair) → IsWithinLimits (above.tree_of p) → IsSelected p.ltl.slots (length (functions (above.tree_of p))) p.code → above.KeepsUp (above.tree_of p) p.function p.ltl.slots p.code
-    → AreOf (above.tree_of p) p.function (items_for p)
+-- the bytes of its frame
+abbrev pub frame_for : above.Pair → ℕ
+frame_for p = frame_size (frame_of false p.ltl.slots p.code)
+
+items_do : (p : above.Pair) → IsWithinLimits (above.tree_of p) → IsSelected p.ltl.slots (length (functions (above.tree_of p))) p.code → above.KeepsUp p.mode (above.tree_of p) p.function p.ltl.slots p.code
+    → AreOf p.mode (above.tree_of p) p.function (frame_for p) (items_for p)
 items_do p limits selected keeps meaning is layout in_order =
     let tree = above.tree_of p in
     let base : layout.base ≡ object_address (objects_in tree) = λ i g. (in_order g ∙ ap (λ (o : List Size). object_address o g) is.objects) i in
@@ -75,14 +79,18 @@ items_do p limits selected keeps meaning is layout in_order =
     let fine = are_fine meaning (labels p.code) sets_pointer p.ltl.slots p.code few fits in
     let framed = is_frame sets_pointer p.ltl.slots p.code selected.few in
     let rate = keeps.0 in
-    let piece : IsPiece meaning layout p.function (function_items layout.base p.ltl.slots p.code) = record {
+    let piece : IsPiece meaning layout p.function (frame_size frame) (function_items layout.base p.ltl.slots p.code) = record {
       rate = rate + rate;
       meets = framed_meets meaning layout p.function rate frame p.code (keeps.1 meaning is) framed fine;
+      small = (let z = framed.small in omega arith);
       fit = framed_fit meaning layout.base frame p.code framed fine;
     } in
-    subst (λ (b : ℕ → ℕ). IsPiece meaning layout p.function (function_items b p.ltl.slots p.code)) base piece
+    subst (λ (b : ℕ → ℕ). IsPiece meaning layout p.function (frame_for p) (function_items b p.ltl.slots p.code)) base piece
+
+frame_small : (p : above.Pair) → IsSelected p.ltl.slots (length (functions (above.tree_of p))) p.code → frame_for p ≤ 2032
+frame_small p selected = let z = (is_frame false p.ltl.slots p.code selected.few).small in omega arith
 
 -- with what `SelectedPair::code` and `into_parts` say of a pair, and the limits of its unit
-pub piece_of : (p : above.Pair) → IsLtl p.ltl → length p.ltl.blocks ≤ most_blocks → LtlKeepsUp (above.tree_of p) p.function p.ltl → IsTyped (above.tree_of p) → IsWithinLimits (above.tree_of p) → p.function < length (functions (above.tree_of p)) → IsSelected p.ltl.slots (length (functions (above.tree_of p))) p.code → above.KeepsUp (above.tree_of p) p.function p.ltl.slots p.code
-    → IsPieceOfUnit (record { unit = p.unit; function = p.function; ltl = p.ltl; items = items_for p })
-piece_of p is_ltl few ltl_keeps typed limits lt selected keeps = record { typed = typed; function = lt; ltl = is_ltl; few = few; ltl_keeps_up = ltl_keeps; items = items_do p limits selected keeps }
+pub piece_of : (p : above.Pair) → IsLtl p.ltl → length p.ltl.blocks ≤ most_blocks → LtlKeepsUp p.mode (above.tree_of p) p.function p.ltl → IsTyped (above.tree_of p) → IsWithinLimits (above.tree_of p) → p.function < length (functions (above.tree_of p)) → IsSelected p.ltl.slots (length (functions (above.tree_of p))) p.code → above.KeepsUp p.mode (above.tree_of p) p.function p.ltl.slots p.code
+    → IsPieceOfUnit (record { mode = p.mode; unit = p.unit; function = p.function; ltl = p.ltl; frame = frame_for p; items = items_for p })
+piece_of p is_ltl few ltl_keeps typed limits lt selected keeps = record { typed = typed; function = lt; ltl = is_ltl; few = few; small = frame_small p selected; ltl_keeps_up = ltl_keeps; items = items_do p limits selected keeps }

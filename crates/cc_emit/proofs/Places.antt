@@ -7,7 +7,7 @@ use Rattle.std.proofs.lemmas.List.{length-append}
 use Rattle.cc_linear_language.specs.declared.item.LinearItem.{LinearItem}
 use Rattle.cc_linear_language.specs.declared.item.LinearItem.TheVariants.{Label, Jump, IfNonzero, IfZero, Copy, Const, Unary, Binary, Load, Store, Call, Read, Write, Return}
 use Rattle.cc_select.specs.declared.step.Step.{Step}
-use Rattle.cc_select.specs.declared.step.Step.TheVariants.{One, Immediate, LoadAt, StoreAt, Branch, BranchImmediate}
+use Rattle.cc_select.specs.declared.step.Step.TheVariants.{One, Immediate, LoadAt, StoreAt, LoadNear, StoreNear, Branch, BranchImmediate}
 use Rattle.cc_rv32.specs.Fields.{IsBranchOffset}
 use Rattle.cc_rv32.specs.declared.instr.Instr.TheVariants.{Jalr}
 use Rattle.cc_emit.specs.declared.condition.Condition.{Condition}
@@ -120,6 +120,8 @@ step_size_is base f near labels a k (One i) = one_size_is base f near labels a k
 step_size_is base f near labels a k (Immediate o to b w) = word_recipe_size_is (word_recipe o w) to b
 step_size_is base f near labels a k (LoadAt width g to n) = known_access_size_is k _ _
 step_size_is base f near labels a k (StoreAt width g n b) = known_access_size_is k _ _
+step_size_is base f near labels a k (LoadNear width g to i w) = access_size_is k width _ i _
+step_size_is base f near labels a k (StoreNear width g i w b) = access_size_is k width _ i _
 step_size_is base f near labels a k (Branch o nonzero b c n) = branch_size_is (near n) _ a (labels n)
 step_size_is base f near labels a k (BranchImmediate o nonzero b w n) = word_branch_size_is (against_zero (word_recipe o w) b) (word_recipe o w) (near n) nonzero b a (labels n)
 
@@ -156,6 +158,8 @@ step_size_le f near k (One i) = one_size_le f near k i
 step_size_le f near k (Immediate o to b w) = omega arith
 step_size_le f near k (LoadAt width g to n) = omega arith
 step_size_le f near k (StoreAt width g n b) = omega arith
+step_size_le f near k (LoadNear width g to i w) = omega arith
+step_size_le f near k (StoreNear width g i w b) = omega arith
 step_size_le f near k (Branch o nonzero b c n) = branch_size_le (near n)
 step_size_le f near k (BranchImmediate o nonzero b w n) = word_branch_size_le (against_zero (word_recipe o w) b) (near n)
 

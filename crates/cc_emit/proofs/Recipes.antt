@@ -13,7 +13,8 @@ use Rattle.cc_words.specs.declared.operators.Binary.TheVariants.{Add, Sub, Mul, 
 use Rattle.cc_words.proofs.Laws.{is_zero-lt_u, sub_is, eq-sub, ne-sub, le_s-lt_s, le_u-lt_u, complement-xor, IsWord-add, IsWord-sub, IsWord-mul, IsWord-neg, IsWord-div_s, IsWord-div_u, IsWord-rem_s, IsWord-rem_u, IsWord-shl, IsWord-shr_s, IsWord-shr_u, IsWord-and, IsWord-or, IsWord-xor, IsWord-eq, IsWord-ne, IsWord-lt_s, IsWord-lt_u, IsWord-le_s, IsWord-le_u, IsWord-is_zero, IsWord-complement}
 use Rattle.cc_rv32.specs.declared.instr.RegisterOperation.TheVariants as operation
 use Rattle.cc_rv32.specs.declared.instr.ImmediateOperation.TheVariants.{Addi, Sltiu}
-use Rattle.cc_rv32.specs.Machine.{State, computed, execute, immediate_operation, puts, shift_operation}
+use Rattle.cc_emit.specs.Board.{execute_above}
+use Rattle.cc_rv32.specs.Machine.{State, computed, immediate_operation, puts, shift_operation}
 use Rattle.cc_select.specs.declared.step.WordOperator.{WordOperator}
 use Rattle.cc_select.specs.declared.step.WordOperator.TheVariants as immediates
 use Rattle.cc_select.specs.Immediates.{is_exchanged, operator_of, applied, apply_immediate, is_short, has_word}
@@ -98,10 +99,10 @@ unary_by Neg w = sub 0 w
 unary_by Complement w = xor w (2 ^ 32 - 1)
 unary_by IsZero w = lt_u w 1
 
-pub unary_executes : (o : unary.Unary) (to b : ℕ) (s : State) → s.registers 0 ≡ 0 → execute (unary_instr o to b) s ≡ puts to (unary_by o (s.registers b)) s
-unary_executes Neg to b s z = ap (λ n. puts to (sub n (s.registers b)) s) z
-unary_executes Complement to b s z = refl
-unary_executes IsZero to b s z = refl
+pub unary_executes : (floor : ℕ) (o : unary.Unary) (to b : ℕ) (s : State) → s.registers 0 ≡ 0 → execute_above floor (unary_instr o to b) s ≡ puts to (unary_by o (s.registers b)) s
+unary_executes floor Neg to b s z = ap (λ n. puts to (sub n (s.registers b)) s) z
+unary_executes floor Complement to b s z = refl
+unary_executes floor IsZero to b s z = refl
 
 pub unary_right : (o : unary.Unary) (w : ℕ) → IsWord w → (unary_by o w ≡ apply_unary o w) × IsWord (apply_unary o w)
 unary_right Neg w h = (refl, IsWord-neg w)

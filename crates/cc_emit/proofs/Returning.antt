@@ -13,7 +13,7 @@ use Rattle.cc_linear_language.specs.declared.item.LinearItem.TheVariants.{Return
 use Rattle.cc_rv32.specs.declared.instr.Instr.TheVariants.{Jal, Jalr, Lui, OpImm}
 use Rattle.cc_rv32.specs.declared.instr.ImmediateOperation.TheVariants.{Addi}
 use Rattle.cc_emit.specs.declared.item.PieceItem.TheVariants.{Plain}
-use Rattle.cc_rv32.specs.Machine.{Continues, State, Traps, jumps, puts, stack_from, stack_to, with_register}
+use Rattle.cc_rv32.specs.Machine.{Continues, State, Traps, jumps, puts, stack_to, with_register}
 use Rattle.cc_select.specs.declared.step.Step.{Step}
 use Rattle.cc_select.specs.declared.step.Step.TheVariants.{One}
 use Rattle.cc_emit.specs.Contract.{global_pointer, Code, ComesBack, Enters, IsKeptOrPointer, IsKept, IsPlace, IsSound, Passes, Path, Placed, Shares, element_place}
@@ -23,13 +23,13 @@ use Rattle.cc_emit.specs.declared.scratch.Scratch.{Scratch}
 use Rattle.cc_emit.specs.Scratch.{nothing}
 use Rattle.cc_emit.proofs.Holding.{IsPointer, pointer_behind, pointer_given, holds_nothing}
 use Rattle.cc_emit.proofs.Fine.{AreSavable, IsSavable, Member}
-use Rattle.cc_emit.proofs.Basics.{high_low, set_same, set_other, set_word, eqb_yes, put_register, with_zero, survives_tells, listed, listed_at}
+use Rattle.cc_emit.proofs.Basics.{high_low, set_same, set_other, set_twice, set_word, eqb_yes, put_register, with_zero, survives_tells, listed, listed_at}
 use Rattle.cc_emit.proofs.Places.{length_pointer_items, length_restoring, length_stack_moved}
 use Rattle.cc_emit.proofs.Bytes.{loaded_word}
 use Rattle.cc_emit.proofs.Elements.{elements_stay}
-use Rattle.cc_emit.proofs.Standing.{machine_step, path_then, size_at, size_found, Site, Standing, Stands, first_items, placed_append, step_at}
+use Rattle.cc_emit.proofs.Standing.{machine_step, path_then, size_at, size_found, Site, Standing, HasRoom, Stands, first_items, placed_append, step_at}
 use Rattle.cc_emit.proofs.Saving.{with_saved, saved_below, saved_above, saved_words, saved_at, saving_path, restored, restored_right, restored_member, restored_other, restored_words, restoring_path, stack_path}
-use Rattle.cc_emit.proofs.Within.{SavedAt, saved_moved, Within, low_stack}
+use Rattle.cc_emit.proofs.Within.{SavedAt, saved_moved, Within, above_floor}
 
 -- a jump that keeps no return address
 jump_to : (s : State) (to b : ℕ) → to ≡ b → b % 4 ≡ 0 → jumps 0 to s ≡ Continues (record s { pc = b })
@@ -69,7 +69,7 @@ return_path x w a rest l h s sound back e st inside =
     let both = placed_append x.code x.places x.place (x.place + 4 * a) (restoring o rs) _ (first_items x w a (One Return) rest st) in
     let ends = placed_append x.code x.places x.place (x.place + 4 * a + 4 * length (restoring o rs)) move _ both.1 in
     let stack = inside.stack in
-    let from = low_stack x l h s inside in
+    let from = above_floor x l h s inside in
     let top = x.top in
     let z = x.aligned in
     let on_s : Stands x s.pc (restoring o rs) = subst (λ n. Stands x n (restoring o rs)) (sym e) both.0 in
@@ -115,7 +115,7 @@ return_path x w a rest l h s sound back e st inside =
 pub called : State → (place : ℕ) → State
 called s place = record s { pc = place; registers = with_register s.registers 1 (s.pc + 4) }
 
-pub called_step : (code : Code) (s : State) (a b : ℕ) → s.pc ≡ a → IsPlace a → IsPlace b → code a ≡ Some (Jal 1 ((b + (2 ^ 32 - a)) % 2 ^ 32)) → machine_step code s ≡ Continues (called s b)
+pub called_step : (code : Code) (s : State) (a b : ℕ) → s.pc ≡ a → IsPlace a → IsPlace b → code.at a ≡ Some (Jal 1 ((b + (2 ^ 32 - a)) % 2 ^ 32)) → machine_step code s ≡ Continues (called s b)
 unfolding called
 called_step code s a b e p q f =
     let to : add s.pc ((b + (2 ^ 32 - a)) % 2 ^ 32) ≡ b = (let lo = p.to in let hi = q.to in omega arith) in
@@ -143,9 +143,9 @@ words_shared x s h g sound sh =
     are_words (object_words h g)
     (λ i lt. (let e = sh.globals g i (omega arith) in let b = loaded_word (size_at x g).width s.memory (element_place (size_at x g).width (x.layout.base g) i) sound.memory in omega arith))
 
-pub enters_callee : (x : Site) {held : Scratch} (d g : ℕ) (l : Locations) (h : World) (s : State) → d < 1024 → stack_from + 2032 * (1024 - d) ≤ x.from.registers 2 → x.meaning.arity g ≤ 8 → IsPlace s.pc → Within x held l h s → Enters x.meaning x.layout g (suc d) (x.places g) (words_from 10 (x.meaning.arity g) l) h (called s (x.places g))
+pub enters_callee : (x : Site) {held : Scratch} (g : ℕ) (l : Locations) (h : World) (s : State) → HasRoom x g → x.meaning.arity g ≤ 8 → IsPlace s.pc → Within x held l h s → Enters x.meaning x.layout x.code g (suc x.opened) (x.places g) (words_from 10 (x.meaning.arity g) l) h (called s (x.places g))
 unfolding called
-enters_callee x d g l h s below room le p w =
+enters_callee x g l h s room le p w =
     let stack = w.stack in
     let top = x.top in
     let z = x.aligned in
@@ -235,13 +235,6 @@ begun f s = record s { pc = s.pc + 4 * pointer_size f.sets_pointer; registers = 
 pointer_path : (code : Code) (places : ℕ → ℕ) (place : ℕ) (f : Frame) (s : State) → Placed code places place s.pc (pointer_items f) → Path code (pointer_size f.sets_pointer) s (begun f s)
 pointer_path code places place f s p = by f.sets_pointer p
   where
-    twice : (g : ℕ → ℕ) (v w : ℕ) → with_register (with_register g 3 v) 3 w ≡ with_register g 3 w
-    twice g v w = λ i r. at r ((r == 3) && not (3 == 0)) i
-      where
-        at : (r : ℕ) (b : Bool) → (if b then w else (if b then v else g r)) ≡ (if b then w else g r)
-        at r true = refl
-        at r false = refl
-
     by : (b : Bool) → Placed code places place s.pc (if b then Plain (Lui 3 (high global_pointer)) ∷ addi 3 3 (low global_pointer) ∷ [] else [])
         → Path code (if b then 2 else 0) s (record s { pc = s.pc + 4 * (if b then 2 else 0); registers = begun_registers b s.registers })
     by true p =
@@ -253,14 +246,14 @@ pointer_path code places place f s p = by f.sets_pointer p
         let sum : add (u.registers 3) (low global_pointer) ≡ global_pointer = ap (λ n. add n (low global_pointer)) u3 ∙ high_low global_pointer (omega arith) in
         let two : machine_step code u ≡ Continues v = step_at code u (s.pc + 4) (OpImm Addi 3 3 (low global_pointer)) refl p.1.0 ∙ ap (λ n. puts 3 n u) sum in
         let at : s.pc + 4 + 4 ≡ s.pc + 4 * 2 = omega arith in
-        (u, one, (v, two, ap₂ (λ (k : ℕ) (g : ℕ → ℕ). record s { pc = k; registers = g }) at (twice s.registers up global_pointer)))
+        (u, one, (v, two, ap₂ (λ (k : ℕ) (g : ℕ → ℕ). record s { pc = k; registers = g }) at (set_twice s.registers 3 up global_pointer)))
     by false p = ap (λ k. record s { pc = k }) (let e : s.pc ≡ s.pc + 4 * 0 = omega arith in e)
 
 -- behind it
 pub framed : Frame → State → State
 framed f s = record s { pc = s.pc + 4 * pointer_size f.sets_pointer + 4 * stack_moved_size f + 4 * length f.saved; registers = with_register (begun f s).registers 2 (s.registers 2 - frame_size f); memory = with_saved f.saved (s.registers 2 - frame_size f + 4 * f.slots) (with_register (begun f s).registers 2 (s.registers 2 - frame_size f)) s.memory }
 
-pub prologue_path : (code : Code) (places : ℕ → ℕ) (place : ℕ) (f : Frame) (s : State) → s.registers 2 % 4 ≡ 0 → stack_from + frame_size f ≤ s.registers 2 → s.registers 2 ≤ stack_to → f.slots + length f.saved ≤ 508 → Placed code places place s.pc (prologue f) → Path code (prologue_size f) s (framed f s)
+pub prologue_path : (code : Code) (places : ℕ → ℕ) (place : ℕ) (f : Frame) (s : State) → s.registers 2 % 4 ≡ 0 → code.floor + frame_size f ≤ s.registers 2 → s.registers 2 ≤ stack_to → f.slots + length f.saved ≤ 508 → Placed code places place s.pc (prologue f) → Path code (prologue_size f) s (framed f s)
 unfolding framed
 prologue_path code places place f s z room top small p =
     let n = s.registers 2 - frame_size f in
@@ -319,12 +312,13 @@ found_register f t ws r hi p = found_by (nat_le 10 r) r ws t (le_says r) hi p
     le_says : (r : ℕ) → nat_le 10 r ≡ true → 10 ≤ r
     le_says r e = grind (arith, nat_tests)
 
-pub framed_within : (x : Site) (fn d : ℕ) (ws : List ℕ) (h : World) → Enters x.meaning x.layout fn d x.place ws h x.from → Within x nothing (found x.frame (framed x.frame x.from) ws) h (framed x.frame x.from)
+pub framed_within : (x : Site) (fn d : ℕ) (ws : List ℕ) (h : World) → Enters x.meaning x.layout x.code fn d x.place ws h x.from → Within x nothing (found x.frame (framed x.frame x.from) ws) h (framed x.frame x.from)
 unfolding framed
 framed_within x fn d ws h enters =
     let f = x.frame in
     let s = x.from in
     let room = x.room in
+    let floor = x.code.low in
     let top = x.top in
     let n = s.registers 2 - frame_size f in
     let at = n + 4 * f.slots in

@@ -8,8 +8,9 @@ use Rattle.cc_rv32.specs.declared.instr.LoadOperation.{LoadOperation}
 use Rattle.cc_rv32.specs.declared.instr.LoadOperation.TheVariants.{Lw}
 use Rattle.cc_rv32.specs.declared.instr.StoreOperation.{StoreOperation}
 use Rattle.cc_rv32.specs.declared.instr.StoreOperation.TheVariants.{Sw}
-use Rattle.cc_rv32.specs.Machine.{Continues, State, Traps, is_accessible, load_bytes, loaded, puts, store_bytes, stored, stack_from, stack_to, with_register, with_word}
+use Rattle.cc_rv32.specs.Machine.{Continues, State, Traps, load_bytes, loaded, puts, store_bytes, stored, stack_to, with_register, with_word}
 use Rattle.cc_words.specs.Words.{add}
+use Rattle.cc_emit.specs.Board.{is_accessible_above}
 use Rattle.cc_emit.specs.Contract.{Code, IsKept, Path, Placed}
 use Rattle.cc_emit.specs.Frames.{Frame, frame_size}
 use Rattle.cc_emit.specs.Emission.{addi, restoring, saving, stack_moved, stack_moved_size}
@@ -18,15 +19,15 @@ use Rattle.cc_emit.proofs.Basics.{eqb_says, eqb_denies, set_same, set_other, set
 use Rattle.cc_emit.proofs.Standing.{machine_step, step_at}
 use Rattle.cc_emit.proofs.Within.{SavedAt}
 
-pub load_step : (code : Code) (s : State) (o : LoadOperation) (a d b i at : ℕ) → s.pc ≡ a → code a ≡ Some (Load o d b i) → (s.registers b + i) % 2 ^ 32 ≡ at → is_accessible (load_bytes o) at ≡ true
+pub load_step : (code : Code) (s : State) (o : LoadOperation) (a d b i at : ℕ) → s.pc ≡ a → code.at a ≡ Some (Load o d b i) → (s.registers b + i) % 2 ^ 32 ≡ at → is_accessible_above code.floor (load_bytes o) at ≡ true
     → machine_step code s ≡ Continues (record s { pc = s.pc + 4; registers = with_register s.registers d (loaded o s.memory at) })
 load_step code s o a d b i at e f to ok =
-    step_at code s a (Load o d b i) e f ∙ ap (λ n. if is_accessible (load_bytes o) n then puts d (loaded o s.memory n) s else Traps) to ∙ ap (λ t. if t then puts d (loaded o s.memory at) s else Traps) ok
+    step_at code s a (Load o d b i) e f ∙ ap (λ n. if is_accessible_above code.floor (load_bytes o) n then puts d (loaded o s.memory n) s else Traps) to ∙ ap (λ t. if t then puts d (loaded o s.memory at) s else Traps) ok
 
-pub store_step : (code : Code) (s : State) (o : StoreOperation) (a b r i at : ℕ) → s.pc ≡ a → code a ≡ Some (Store o b r i) → (s.registers b + i) % 2 ^ 32 ≡ at → is_accessible (store_bytes o) at ≡ true
+pub store_step : (code : Code) (s : State) (o : StoreOperation) (a b r i at : ℕ) → s.pc ≡ a → code.at a ≡ Some (Store o b r i) → (s.registers b + i) % 2 ^ 32 ≡ at → is_accessible_above code.floor (store_bytes o) at ≡ true
     → machine_step code s ≡ Continues (record s { pc = s.pc + 4; memory = stored o s.memory at (s.registers r) })
 store_step code s o a b r i at e f to ok =
-    step_at code s a (Store o b r i) e f ∙ ap (λ n. if is_accessible (store_bytes o) n then Continues (record s { pc = s.pc + 4; memory = stored o s.memory n (s.registers r) }) else Traps) to
+    step_at code s a (Store o b r i) e f ∙ ap (λ n. if is_accessible_above code.floor (store_bytes o) n then Continues (record s { pc = s.pc + 4; memory = stored o s.memory n (s.registers r) }) else Traps) to
     ∙ ap (λ t. if t then Continues (record s { pc = s.pc + 4; memory = stored o s.memory at (s.registers r) }) else Traps) ok
 
 -- the memory behind saving
@@ -50,14 +51,14 @@ pub saved_at : (rs : List ℕ) (a : ℕ) (f m : ℕ → ℕ) → SavedAt rs a f 
 saved_at [] a f m = tt
 saved_at (r ∷ rs) a f m = (saved_below rs (a + 4) f (with_word m a (f r)) a (omega arith) ∙ word_same m a (f r), saved_at rs (a + 4) f (with_word m a (f r)))
 
-pub saving_path : (code : Code) (places : ℕ → ℕ) (place : ℕ) (rs : List ℕ) (o : ℕ) (s : State) → Placed code places place s.pc (saving o rs) → (s.registers 2 + o) % 4 ≡ 0 → stack_from ≤ s.registers 2 + o → s.registers 2 + o + 4 * length rs ≤ stack_to
+pub saving_path : (code : Code) (places : ℕ → ℕ) (place : ℕ) (rs : List ℕ) (o : ℕ) (s : State) → Placed code places place s.pc (saving o rs) → (s.registers 2 + o) % 4 ≡ 0 → code.floor ≤ s.registers 2 + o → s.registers 2 + o + 4 * length rs ≤ stack_to
     → Path code (length rs) s (record s { pc = s.pc + 4 * length rs; memory = with_saved rs (s.registers 2 + o) s.registers s.memory })
 saving_path code places place [] o s p z from to = ap (λ n. record s { pc = n }) (let e : s.pc ≡ s.pc + 4 * 0 = omega arith in e)
 saving_path code places place (r ∷ rs) o s p z from to =
     let at = s.registers 2 + o in
     let u : State = record s { pc = s.pc + 4; memory = with_word s.memory at (s.registers r) } in
     let address : (s.registers 2 + o) % 2 ^ 32 ≡ at = omega arith in
-    let one : machine_step code s ≡ Continues u = store_step code s Sw s.pc 2 r o at refl p.0 address (in_stack at z from (omega arith)) in
+    let one : machine_step code s ≡ Continues u = store_step code s Sw s.pc 2 r o at refl p.0 address (in_stack code.floor at z from (omega arith)) in
     let a1 : s.registers 2 + (o + 4) ≡ at + 4 = omega arith in
     let n1 : s.pc + 4 + 4 * length rs ≡ s.pc + 4 * suc (length rs) = omega arith in
     let more = saving_path code places place rs (o + 4) u p.1 (omega arith) (omega arith) (omega arith) in
@@ -101,14 +102,14 @@ pub restored_words : (rs : List ℕ) (f g : ℕ → ℕ) → ((r : ℕ) → f r 
 restored_words [] f g p q r = q r
 restored_words (x ∷ rs) f g p q r = restored_words rs f (with_register g x (f x)) p (set_word g x (f x) (p x) q) r
 
-pub restoring_path : (code : Code) (places : ℕ → ℕ) (place : ℕ) (rs : List ℕ) (o : ℕ) (f : ℕ → ℕ) (s : State) → Placed code places place s.pc (restoring o rs) → AreSavable rs → SavedAt rs (s.registers 2 + o) f s.memory → (s.registers 2 + o) % 4 ≡ 0 → stack_from ≤ s.registers 2 + o → s.registers 2 + o + 4 * length rs ≤ stack_to
+pub restoring_path : (code : Code) (places : ℕ → ℕ) (place : ℕ) (rs : List ℕ) (o : ℕ) (f : ℕ → ℕ) (s : State) → Placed code places place s.pc (restoring o rs) → AreSavable rs → SavedAt rs (s.registers 2 + o) f s.memory → (s.registers 2 + o) % 4 ≡ 0 → code.floor ≤ s.registers 2 + o → s.registers 2 + o + 4 * length rs ≤ stack_to
     → Path code (length rs) s (record s { pc = s.pc + 4 * length rs; registers = restored rs f s.registers })
 restoring_path code places place [] o f s p sv at z from to = ap (λ n. record s { pc = n }) (let e : s.pc ≡ s.pc + 4 * 0 = omega arith in e)
 restoring_path code places place (r ∷ rs) o f s p sv saved z from to =
     let at = s.registers 2 + o in
     let u : State = record s { pc = s.pc + 4; registers = with_register s.registers r (f r) } in
     let address : (s.registers 2 + o) % 2 ^ 32 ≡ at = omega arith in
-    let one : machine_step code s ≡ Continues u = load_step code s Lw s.pc r 2 o at refl p.0 address (in_stack at z from (omega arith)) ∙ ap (λ w. Continues (record s { pc = s.pc + 4; registers = with_register s.registers r w })) saved.0 in
+    let one : machine_step code s ≡ Continues u = load_step code s Lw s.pc r 2 o at refl p.0 address (in_stack code.floor at z from (omega arith)) ∙ ap (λ w. Continues (record s { pc = s.pc + 4; registers = with_register s.registers r w })) saved.0 in
     let u2 : u.registers 2 ≡ s.registers 2 = set_other s.registers r (f r) 2 (λ e. differs r 2 sv.0 ((λ q. omega arith), (λ k. elim k [ inl b ↦ omega arith | inr b ↦ omega arith ])) e) in
     let a1 : at + 4 ≡ u.registers 2 + (o + 4) = omega arith in
     let n1 : s.pc + 4 + 4 * length rs ≡ s.pc + 4 * suc (length rs) = omega arith in

@@ -4,7 +4,7 @@ use Rattle.std.specs.Prelude.{if◌then◌else◌, ◌==◌}
 use Rattle.std.proofs.lemmas.List.{length-append}
 use Rattle.cc_rv32.specs.declared.instr.Instr.{Instr}
 use Rattle.cc_rv32.specs.declared.instr.Instr.TheVariants.{Jal}
-use Rattle.cc_rv32.specs.Machine.{Continues, State, Traps, Turn, execute, executed, stack_from, stack_to, with_register}
+use Rattle.cc_rv32.specs.Machine.{Continues, State, Traps, Turn, stack_to, with_register}
 use Rattle.cc_words.specs.declared.operators.Width.TheVariants.{Word}
 use Rattle.cc_simulation.specs.World.{Object, Size, World, object_of, size_in, size_of}
 use Rattle.cc_simulation.specs.Meaning.{Meaning}
@@ -13,7 +13,9 @@ use Rattle.cc_select.specs.declared.step.Step.{Step}
 use Rattle.cc_select.specs.declared.step.Step.TheVariants.{One}
 use Rattle.cc_select.specs.Selected as selected
 use Rattle.cc_emit.specs.declared.item.PieceItem.{PieceItem}
-use Rattle.cc_emit.specs.Contract.{Code, IsPlace, ObjectLayout, Path, Placed}
+use Rattle.cc_emit.specs.declared.item.PieceItem.TheVariants.{Plain, Call, Go}
+use Rattle.cc_emit.specs.Board.{execute_above, executed_above}
+use Rattle.cc_emit.specs.Contract.{Code, EachCalled, IsPlace, ObjectLayout, Path, Placed}
 use Rattle.cc_emit.specs.Frames.{Frame, frame_size}
 use Rattle.cc_emit.specs.declared.addressed.Addressed.{Addressed}
 use Rattle.cc_emit.specs.declared.scratch.Scratch.{Scratch}
@@ -25,7 +27,7 @@ use Rattle.cc_emit.proofs.Places.{AreSeen, size_is, seen_next}
 
 -- one instruction of some code
 abbrev pub machine_step : Code → State → Turn
-machine_step code s = executed (code s.pc) s
+machine_step code s = executed_above code.floor (code.at s.pc) s
 
 pub path_then : (code : Code) (m k : ℕ) (s t u : State) → Path code m s t → Path code k t u → Path code (m + k) s u
 path_then code zero k s t u p q =
@@ -45,10 +47,27 @@ pub record Site : Type 0 where
   pub places : ℕ → ℕ
   pub place : ℕ
   pub from : State
+  pub opened : ℕ
   pub is_frame : IsFrame frame
   pub aligned : from.registers 2 % 4 ≡ 0
-  pub room : stack_from + frame_size frame ≤ from.registers 2
+  pub room : code.floor + frame_size frame ≤ from.registers 2
   pub top : from.registers 2 ≤ stack_to
+
+-- there is room for a call of this function
+abbrev pub HasRoom : Site → ℕ → Type 0
+HasRoom x g = x.code.floor + frame_size x.frame + x.code.need g (suc x.opened) ≤ x.from.registers 2
+
+pub each_append : (Holds : ℕ → Type 0) (xs ys : List PieceItem) → EachCalled Holds (xs ++ ys) → EachCalled Holds xs × EachCalled Holds ys
+each_append Holds [] ys p = (tt, p)
+each_append Holds (Plain i ∷ xs) ys p = each_append Holds xs ys p
+each_append Holds (Call g ∷ xs) ys p = let q = each_append Holds xs ys p.1 in ((p.0, q.0), q.1)
+each_append Holds (Go n ∷ xs) ys p = each_append Holds xs ys p
+
+pub each_map : (Holds Other : ℕ → Type 0) → ((g : ℕ) → Holds g → Other g) → (xs : List PieceItem) → EachCalled Holds xs → EachCalled Other xs
+each_map Holds Other f [] p = tt
+each_map Holds Other f (Plain i ∷ xs) p = each_map Holds Other f xs p
+each_map Holds Other f (Call g ∷ xs) p = (f g p.0, each_map Holds Other f xs p.1)
+each_map Holds Other f (Go n ∷ xs) p = each_map Holds Other f xs p
 
 -- the size of an object
 abbrev pub size_at : Site → ℕ → Size
@@ -95,6 +114,7 @@ pub record Standing (x : Site) (held : Scratch) (w a : ℕ) (ops : List Step) : 
   pub placed : Stands x (x.place + 4 * a) (items_at x held w a ops)
   pub from : IsPlace (x.place + 4 * a)
   pub to : IsPlace (x.place + 4 * a + 4 * length (items_at x held w a ops))
+  pub calls : EachCalled (HasRoom x) (items_at x held w a ops)
   pub fine : AreFine x.meaning x.frame ops
   pub seen : AreSeen x.frame (all_addressed x) (addressed_at x held ops) w a
 
@@ -114,6 +134,12 @@ first_items x {held} w a op ops st =
     let i = one_addressed x held op in
     (placed_append x.code x.places x.place (x.place + 4 * a) (items_for x held w a op) (items_at x (behind x held op) (w + long_size x.frame i) (a + size x.frame (near x w) i) ops) st.placed).0
 
+-- there is room for the calls that they make
+pub first_calls : (x : Site) {held : Scratch} (w a : ℕ) (op : Step) (ops : List Step) → Standing x held w a (op ∷ ops) → EachCalled (HasRoom x) (items_for x held w a op)
+first_calls x {held} w a op ops st =
+    let i = one_addressed x held op in
+    (each_append (HasRoom x) (items_for x held w a op) (items_at x (behind x held op) (w + long_size x.frame i) (a + size x.frame (near x w) i) ops) st.calls).0
+
 -- the items behind it
 pub standing_tail : (x : Site) {held : Scratch} (w a : ℕ) (op : Step) (ops : List Step) → Standing x held w a (op ∷ ops) → Standing x (behind x held op) (w + long_size x.frame (one_addressed x held op)) (a + size x.frame (near x w) (one_addressed x held op)) ops
 standing_tail x {held} w a op ops st =
@@ -131,16 +157,17 @@ standing_tail x {held} w a op ops st =
       placed = subst (λ c. Stands x c rest) e (placed_append x.code x.places x.place (x.place + 4 * a) first rest st.placed).1;
       from = between (x.place + 4 * a) (x.place + 4 * b) _ st.from to (omega arith) (omega arith) (omega arith);
       to = to;
+      calls = (each_append (HasRoom x) first rest st.calls).1;
       fine = st.fine.1;
       seen = seen_next x.frame (all_addressed x) i (addressed_at x (behind x held op) ops) w a st.seen;
     }
 
 -- a label forgets what is known before it, and where no step is left nothing is to be known
 standing_none : (x : Site) {held : Scratch} (w a : ℕ) → Standing x held w a [] → Standing x nothing w a []
-standing_none x {held} w a st = record { placed = st.placed; from = st.from; to = st.to; fine = st.fine; seen = st.seen }
+standing_none x {held} w a st = record { placed = st.placed; from = st.from; to = st.to; calls = st.calls; fine = st.fine; seen = st.seen }
 
 standing_label : (x : Site) {held : Scratch} (w a l : ℕ) (op : Step) (ops : List Step) → is_label_step l op ≡ true → Standing x held w a (op ∷ ops) → Standing x nothing w a (op ∷ ops)
-standing_label x {held} w a l (One (Label n)) ops e st = record { placed = st.placed; from = st.from; to = st.to; fine = st.fine; seen = st.seen }
+standing_label x {held} w a l (One (Label n)) ops e st = record { placed = st.placed; from = st.from; to = st.to; calls = st.calls; fine = st.fine; seen = st.seen }
 standing_label x {held} w a l _ ops e st = absurd (let q : false ≡ true = e in cc)
 
 stands_if : (x : Site) (t : Bool) (v w a b : ℕ) (os ps : List Step) → (t ≡ true → Standing x nothing v a os) → Standing x nothing w b ps → Standing x nothing (if t then v else w) (if t then a else b) (if t then os else ps)
@@ -164,14 +191,14 @@ standing_from x {held} l w a (op ∷ ops) st =
 
 -- ---- single steps
 
-pub step_at : (code : Code) (s : State) (a : ℕ) (i : Instr) → s.pc ≡ a → code a ≡ Some i → machine_step code s ≡ execute i s
-step_at code s a i e f = ap (λ b. executed (code b) s) e ∙ ap (λ b. executed b s) f
+pub step_at : (code : Code) (s : State) (a : ℕ) (i : Instr) → s.pc ≡ a → code.at a ≡ Some i → machine_step code s ≡ execute_above code.floor i s
+step_at code s a i e f = ap (λ b. executed_above code.floor (code.at b) s) e ∙ ap (λ b. executed_above code.floor b s) f
 
 pub arrives : (p q : ℕ) → IsPlace p → IsPlace q → (p + (q + (2 ^ 32 - p)) % 2 ^ 32) % 2 ^ 32 ≡ q
 arrives p q from to = let x = from.to in let y = to.to in omega arith
 
 -- a jump from one place to another
-pub jump_step : (code : Code) (s : State) (p q : ℕ) → s.pc ≡ p → IsPlace p → IsPlace q → code p ≡ Some (Jal 0 ((q + (2 ^ 32 - p)) % 2 ^ 32)) → machine_step code s ≡ Continues (record s { pc = q })
+pub jump_step : (code : Code) (s : State) (p q : ℕ) → s.pc ≡ p → IsPlace p → IsPlace q → code.at p ≡ Some (Jal 0 ((q + (2 ^ 32 - p)) % 2 ^ 32)) → machine_step code s ≡ Continues (record s { pc = q })
 jump_step code s p q e from to f =
     let i = (q + (2 ^ 32 - p)) % 2 ^ 32 in
     let there : (s.pc + i) % 2 ^ 32 ≡ q = ap (λ n. (n + i) % 2 ^ 32) e ∙ arrives p q from to in

@@ -2,10 +2,11 @@
 -- known, and branches on comparisons.
 use Rattle.std.proofs.Common.{◌≡◌, ℕ, ◌+◌, ◌*◌, ◌%◌, ◌^◌, ◌<◌, List, [], ◌∷◌, Option, Some, None, true, Bool, refl, sym, ap, ap₂, ◌∙◌, subst, inl, inr, arith}
 use Rattle.std.specs.Prelude.{option_map}
-use Rattle.cc_words.specs.Words.{lt_u}
+use Rattle.cc_words.specs.Words.{add, lt_u}
 use Rattle.cc_words.specs.Operators.{apply_binary}
 use Rattle.cc_words.specs.declared.operators.Binary as binary
 use Rattle.cc_words.specs.declared.operators.Width.{Width}
+use Rattle.cc_words.specs.declared.operators.Width.TheVariants.{Byte, Word}
 use Rattle.cc_words.specs.Widths.{kept}
 use Rattle.cc_simulation.specs.World.{World, element, with_element}
 use Rattle.cc_simulation.specs.Run.{Goes, tried}
@@ -14,7 +15,7 @@ use Rattle.cc_ltl.specs.Registers.{IsAllocatable}
 use Rattle.cc_ltl.specs.Ltl.{Locations, put}
 use Rattle.cc_select.specs.declared.step.WordOperator.{WordOperator}
 use Rattle.cc_select.specs.declared.step.Step.{Step}
-use Rattle.cc_select.specs.declared.step.Step.TheVariants.{Immediate, LoadAt, StoreAt, Branch, BranchImmediate}
+use Rattle.cc_select.specs.declared.step.Step.TheVariants.{Immediate, LoadAt, StoreAt, LoadNear, StoreNear, Branch, BranchImmediate}
 use Rattle.cc_select.specs.Selected.{at_steps, led, place}
 use Rattle.cc_rv32.specs.declared.instr.Instr.TheVariants.{Op, OpImm, Shift}
 use Rattle.cc_rv32.specs.declared.instr.RegisterOperation.TheVariants as operations
@@ -41,7 +42,7 @@ use Rattle.cc_emit.proofs.Standing.{addressed_at, all_addressed, machine_step, f
 use Rattle.cc_emit.proofs.Saving.{load_step, store_step}
 use Rattle.cc_emit.proofs.Holding.{IsKnownAt, pointer_reaches, is_known_at}
 use Rattle.cc_emit.proofs.Within.{Within, within_set, within_5, within_store}
-use Rattle.cc_emit.proofs.Cases.{Case, Given, Reaches, StandsWhole, Stepped, asked, base_held, behind_1, near_nears, reach_by, reach_more, reach_set, stepped, told_reaches, upper_before, uppered, uppered_reaches, within_upper, word_of_register}
+use Rattle.cc_emit.proofs.Cases.{Case, Given, Leads, Reaches, StandsWhole, base_word, loaded_reaches, stored_reaches, Stepped, asked, base_held, behind_1, near_nears, reach_by, reach_more, reach_set, stepped, told_reaches, upper_before, uppered, uppered_reaches, within_upper, word_of_register}
 
 -- ---- a register and a word
 
@@ -121,7 +122,7 @@ load_at_by x {held} w a width g to n rest l h s (e, st, inside) (Some v) is =
     (uppered_reaches x rest (put (Register to) v l) h known s p b (load_element width to (base_register known) (part_of known b) ∷ []) e (first_items x w a (LoadAt width g to n) rest st)
     (λ stands pc.
     reach_by x rest (put (Register to) v l) h u t _ (a + known_access_size known)
-    (load_step x.code u (load_of width) (p + 4 * upper_before known) to (base_register known) (part_of known b) at pc stands.0 (known_address known width s (x.layout.base g) n lies.below told) (load_accessible width at lies.aligned (omega arith) lies.below) ∙ ap (λ i. puts to i u) value)
+    (load_step x.code u (load_of width) (p + 4 * upper_before known) to (base_register known) (part_of known b) at pc stands.0 (known_address known width s (x.layout.base g) n lies.below told) (load_accessible x.code.floor width at lies.aligned (omega arith) lies.below) ∙ ap (λ i. puts to i u) value)
     (ap (λ i. i + 4) pc ∙ behind_known known x.place a) (standing_tail x w a (LoadAt width g to n) rest st) (within_set x l h u (u.pc + 4) to v st.fine.0 lv wu))))
 
 pub load_at_case : (x : Site) {held : Scratch} (w a : ℕ) (width : Width) (g to n : ℕ) (rest : List Step) (l : Locations) (h : World) (s : State) → Given x held w a (LoadAt width g to n ∷ rest) l h s → Case x (LoadAt width g to n ∷ rest) l h s
@@ -147,13 +148,57 @@ store_at_by x {held} w a width g n r rest l h s (e, st, inside) (Some v) is =
     (uppered_reaches x rest l k known s p b (store_element width (base_register known) r (part_of known b) ∷ []) e (first_items x w a (StoreAt width g n r) rest st)
     (λ stands pc.
     reach_by x rest l k u t _ (a + known_access_size known)
-    (store_step x.code u (store_of width) (p + 4 * upper_before known) (base_register known) r (part_of known b) at pc stands.0 (known_address known width s (x.layout.base g) n lies.below told) (store_accessible width at lies.aligned (omega arith) lies.below)
+    (store_step x.code u (store_of width) (p + 4 * upper_before known) (base_register known) r (part_of known b) at pc stands.0 (known_address known width s (x.layout.base g) n lies.below told) (store_accessible x.code.floor width at lies.aligned (omega arith) lies.below)
     ∙ ap (λ i. Continues (record u { pc = u.pc + 4; memory = stored (store_of width) u.memory at i })) (sym (wu.same r st.fine.0)))
     (ap (λ i. i + 4) pc ∙ behind_known known x.place a) (standing_tail x w a (StoreAt width g n r) rest st)
     (within_store x l h u (u.pc + 4) width g n (l (Register r)) v there (word_of_register x l h s r st.fine.0 inside) wu))))
 
 pub store_at_case : (x : Site) {held : Scratch} (w a : ℕ) (width : Width) (g n r : ℕ) (rest : List Step) (l : Locations) (h : World) (s : State) → Given x held w a (StoreAt width g n r ∷ rest) l h s → Case x (StoreAt width g n r ∷ rest) l h s
 store_at_case x w a width g n r rest l h s given = store_at_by x w a width g n r rest l h s given (element h width g n) refl
+
+-- ---- elements near by: those of an object that begins so much further on
+
+near_leads : (width : Width) (i base n c at : ℕ) → n ≡ at → element_place width base (add n c) < 2 ^ 32 → Leads width i (element_place width base (add n c)) (known_place width base c) at
+near_leads Byte i base n c at e lt o part f same both is = by o part (f 5) (f i) both is (same ∙ sym e)
+  where
+    by : (hi lo five k : ℕ) → (hi + lo) % 2 ^ 32 ≡ (base + 1 * c) % 2 ^ 32 → five ≡ (1 * k + hi) % 2 ^ 32 → k ≡ n → (five + lo) % 2 ^ 32 ≡ base + 1 * ((n + c) % 2 ^ 32)
+    by hi lo five k p q r = omega arith
+near_leads Word i base n c at e lt o part f same both is = by o part (f 5) (f i) both is (same ∙ sym e)
+  where
+    by : (hi lo five k : ℕ) → (hi + lo) % 2 ^ 32 ≡ (base + 4 * c) % 2 ^ 32 → five ≡ (4 * k + hi) % 2 ^ 32 → k ≡ n → (five + lo) % 2 ^ 32 ≡ base + 4 * ((n + c) % 2 ^ 32)
+    by hi lo five k p q r = omega arith
+
+place_word : (width : Width) (base c : ℕ) → known_place width base c < 2 ^ 32
+place_word Byte base c = omega arith
+place_word Word base c = omega arith
+
+load_near_by : (x : Site) {held : Scratch} (w a : ℕ) (width : Width) (g to i c : ℕ) (rest : List Step) (l : Locations) (h : World) (s : State) → Given x held w a (LoadNear width g to i c ∷ rest) l h s → (z : Option ℕ) → element h width g (add (l (Register i)) c) ≡ z → Case x (LoadNear width g to i c ∷ rest) l h s
+load_near_by x w a width g to i c rest l h s given None is = inr (λ ws. ap (λ z. tried z (λ q. Goes (at_steps rest (put (Register to) q l) h ws))) is)
+load_near_by x {held} w a width g to i c rest l h s (e, st, inside) (Some v) is =
+    let n = add (l (Register i)) c in
+    let base = x.layout.base g in
+    let there = element_tells h width g n v is in
+    let words = base_word x h s width g n v inside.shares there in
+    inl (stepped x (LoadNear width g to i c ∷ rest) rest l (put (Register to) v l) h h s (λ ws. ap (λ z. tried z (λ q. Goes (at_steps rest (put (Register to) q l) h ws))) is)
+    (loaded_reaches x _ a width g to i (known_place width base c) n v rest l h s e (place_word width base c) (near_leads width i base (l (Register i)) c (l (Register i)) refl words.1) there st.fine.0.0 st.fine.0.1
+    (first_items x w a (LoadNear width g to i c) rest st) (standing_tail x w a (LoadNear width g to i c) rest st) inside))
+
+pub load_near_case : (x : Site) {held : Scratch} (w a : ℕ) (width : Width) (g to i c : ℕ) (rest : List Step) (l : Locations) (h : World) (s : State) → Given x held w a (LoadNear width g to i c ∷ rest) l h s → Case x (LoadNear width g to i c ∷ rest) l h s
+load_near_case x w a width g to i c rest l h s given = load_near_by x w a width g to i c rest l h s given (element h width g (add (l (Register i)) c)) refl
+
+store_near_by : (x : Site) {held : Scratch} (w a : ℕ) (width : Width) (g i c r : ℕ) (rest : List Step) (l : Locations) (h : World) (s : State) → Given x held w a (StoreNear width g i c r ∷ rest) l h s → (z : Option ℕ) → element h width g (add (l (Register i)) c) ≡ z → Case x (StoreNear width g i c r ∷ rest) l h s
+store_near_by x w a width g i c r rest l h s given None is = inr (λ ws. ap (λ z. tried (option_map (λ old. with_element h g (add (l (Register i)) c) (kept width (l (Register r)))) z) (λ k. Goes (at_steps rest l k ws))) is)
+store_near_by x {held} w a width g i c r rest l h s (e, st, inside) (Some v) is =
+    let n = add (l (Register i)) c in
+    let base = x.layout.base g in
+    let there = element_tells h width g n v is in
+    let words = base_word x h s width g n v inside.shares there in
+    inl (stepped x (StoreNear width g i c r ∷ rest) rest l l h (with_element h g n (kept width (l (Register r)))) s (λ ws. ap (λ z. tried (option_map (λ old. with_element h g n (kept width (l (Register r)))) z) (λ k. Goes (at_steps rest l k ws))) is)
+    (stored_reaches x _ a width g i r (known_place width base c) n v rest l h s e (place_word width base c) (near_leads width i base (l (Register i)) c (l (Register i)) refl words.1) there st.fine.0.0 st.fine.0.1
+    (first_items x w a (StoreNear width g i c r) rest st) (standing_tail x w a (StoreNear width g i c r) rest st) inside))
+
+pub store_near_case : (x : Site) {held : Scratch} (w a : ℕ) (width : Width) (g i c r : ℕ) (rest : List Step) (l : Locations) (h : World) (s : State) → Given x held w a (StoreNear width g i c r ∷ rest) l h s → Case x (StoreNear width g i c r ∷ rest) l h s
+store_near_case x w a width g i c r rest l h s given = store_near_by x w a width g i c r rest l h s given (element h width g (add (l (Register i)) c)) refl
 
 -- ---- branches on comparisons
 
@@ -183,7 +228,7 @@ word_branch_reaches x {held} v a b n k word None nonzero is rest l h s alone e i
     let next : IsPlace (x.place + 4 * (a + 1)) = record { aligned = omega arith; from = omega arith; to = omega arith } in
     let there : x.place + 4 * a + 4 ≡ x.place + 4 * (a + 1) = behind_1 x.place a in
     let long : a + (1 + branch_size is) ≡ a + 1 + branch_size is = omega arith in
-    let one : machine_step x.code s ≡ Continues t = step_at x.code s (x.place + 4 * a) (first_instr k 5 b) e f.0 ∙ first_executes k 5 b s inside.sound.zero in
+    let one : machine_step x.code s ≡ Continues t = step_at x.code s (x.place + 4 * a) (first_instr k 5 b) e f.0 ∙ first_executes x.code.floor k 5 b s inside.sound.zero in
     let tells : Tells (compares (asked_of k) 5 0) t.registers word = ap (λ q. is_taken (asked_of k) u q) wt.sound.zero ∙ first.1 in
     reach_more x (led nonzero word rest (place x.steps n)) l h s t one
     (told_reaches x v (a + 1) n rest l h t (compares (asked_of k) 5 0) word nonzero is (ap (λ q. q + 4) e ∙ there) wt next (subst (λ q. Standing x (without_address held) v q rest) long st) all (λ q. next_nears a (labels x n) (close q))

@@ -13,8 +13,8 @@ use Rattle.cc_emit.specs.declared.addressed.Remembered.{Remembered}
 use Rattle.cc_emit.specs.Frames.{Frame}
 use Rattle.cc_emit.specs.declared.condition.Condition.{Condition}
 use Rattle.cc_emit.specs.Branches.{against_zero}
-use Rattle.cc_emit.specs.Emission.{size, size_of_step, long_size, branch_size, word_branch_size, word_recipe, is_label, is_label_step}
-use Rattle.cc_emit.specs.internal.Behind.{long_behind, near_behind, behind, label_behind, branched_to, branched_to_step, label_of, label_of_step, IsTable}
+use Rattle.cc_emit.specs.Emission.{size, size_of_step, long_size, branch_size, word_branch_size, word_recipe, is_label, is_label_step, label_of_step}
+use Rattle.cc_emit.specs.internal.Behind.{long_behind, near_behind, behind, label_behind, branched_to, branched_to_step, label_of, IsTable}
 
 -- ---- how many labels a table needs
 

@@ -131,7 +131,10 @@ within_pc x l h s p w = record {
 
 -- where x2 lies
 pub low_stack : (x : Site) {held : Scratch} (l : Locations) (h : World) (s : State) → Within x held l h s → stack_from ≤ s.registers 2
-low_stack x l h s w = let a = w.stack in let b = x.room in omega arith
+low_stack x l h s w = let a = w.stack in let b = x.room in let c = x.code.low in omega arith
+
+pub above_floor : (x : Site) {held : Scratch} (l : Locations) (h : World) (s : State) → Within x held l h s → x.code.floor ≤ s.registers 2
+above_floor x l h s w = let a = w.stack in let b = x.room in omega arith
 
 -- the word of a slot is set
 pub within_slot : (x : Site) {held : Scratch} (l : Locations) (h : World) (s : State) (p i v : ℕ) → i < x.frame.slots → v < 2 ^ 32 → Within x held l h s → Within x held (put (Slot i) v l) h (record s { pc = p; memory = with_word s.memory (s.registers 2 + 4 * i) v })

@@ -11,15 +11,20 @@ use Rattle.cc_rv32.specs.declared.instr.StoreOperation.TheVariants.{Sb, Sw}
 use Rattle.cc_words.specs.declared.operators.Width.{Width}
 use Rattle.cc_words.specs.declared.operators.Width.TheVariants.{Byte, Word}
 use Rattle.cc_words.specs.Widths.{bytes, words_of}
-use Rattle.cc_rv32.specs.Machine.{State, Continues, executed, loaded, globals_from, globals_to, stack_from, stack_to}
+use Rattle.cc_rv32.specs.Machine.{State, Continues, loaded, globals_from, globals_to, stack_from, stack_to}
+use Rattle.cc_emit.specs.Board.{executed_above}
 use Rattle.cc_rv32.specs.Table.{IsEncodable}
 use Rattle.cc_simulation.specs.Behavior.{AreWords}
 use Rattle.cc_simulation.specs.World.{Size, World, Answer, Effect, Gives, Unfinished, Failed, size_of, size_in, object_words}
 use Rattle.cc_simulation.specs.Meaning.{Meaning, IsCall}
 
--- what stands at each address
-abbrev pub Code : Type 0
-Code = ℕ → Option Instr
+-- What is given of the machine: the instruction at each address; the lowest address of its stack; and `need f opened`, how many bytes of stack
+-- below x2 a call of the function f has, made when `opened` calls are open.
+pub record Code : Type 0 where
+  pub at : ℕ → Option Instr
+  pub floor : ℕ
+  pub low : stack_from ≤ floor
+  pub need : (function opened : ℕ) → ℕ
 
 -- ---- objects in the machine's memory
 
@@ -60,7 +65,7 @@ element_at s memory base index = loaded (load_of s.width) memory (element_place 
 -- in m instructions the machine comes from s to t
 abbrev pub Path : Code → ℕ → State → State → Type 0
 Path code zero s t = s ≡ t
-Path code (suc m) s t = (u : State) × (executed (code s.pc) s ≡ Continues u) × Path code m u t
+Path code (suc m) s t = (u : State) × (executed_above code.floor (code.at s.pc) s ≡ Continues u) × Path code m u t
 
 -- the instruction that an item becomes at the address a, in a piece at `place`
 abbrev pub filled : (places : ℕ → ℕ) → (place a : ℕ) → PieceItem → Instr
@@ -71,7 +76,7 @@ filled places place a (Go n) = Jal 0 ((place + 4 * n + (2 ^ 32 - a)) % 2 ^ 32)
 -- the items stand at this address
 abbrev pub Placed : Code → (places : ℕ → ℕ) → (place a : ℕ) → List PieceItem → Type 0
 Placed code places place a [] = Unit {0}
-Placed code places place a (item ∷ items) = (code a ≡ Some (filled places place a item)) × Placed code places place (a + 4) items
+Placed code places place a (item ∷ items) = (code.at a ≡ Some (filled places place a item)) × Placed code places place (a + 4) items
 
 -- what holds of every state of a run
 pub record IsSound (s : State) : Type 0 where
@@ -96,21 +101,34 @@ Passes (w ∷ ws) r s = (s.registers r ≡ w) × Passes ws (suc r) s
 abbrev pub IsKept : ℕ → Type 0
 IsKept r = ((8 ≤ r) × (r ≤ 9)) ⊎ ((18 ≤ r) × (r ≤ 27))
 
--- the most bytes of a function's frame, and the most calls that are open at once: so the stack has room for a frame of each
+-- what holds of each function that items call
+abbrev pub EachCalled : (ℕ → Type 0) → List PieceItem → Type 0
+EachCalled Holds [] = Unit {0}
+EachCalled Holds (Plain i ∷ items) = EachCalled Holds items
+EachCalled Holds (Call g ∷ items) = Holds g × EachCalled Holds items
+EachCalled Holds (Go n ∷ items) = EachCalled Holds items
+
+-- the most bytes of a function's frame, and the most calls that are open at once
 abbrev pub largest_frame : ℕ
 largest_frame = 2032
 
 abbrev pub most_open : ℕ
 most_open = 1024
 
+-- A call of the function f has bytes enough: for its frame, and in each call that its items make, for its frame and what the called function
+-- has. So `need` may be exact or more: `largest_frame` for each call that the limit still allows is one.
+pub record IsEnough (need : (function opened : ℕ) → ℕ) (f frame : ℕ) (items : List PieceItem) : Type 0 where
+  pub own : (opened : ℕ) → opened < most_open → frame ≤ need f opened
+  pub calls : (opened : ℕ) → opened < most_open → EachCalled (λ g. frame + need g (suc opened) ≤ need f opened) items
+
 -- the machine at a function's first word, called where `opened` calls are open
-pub record Enters (meaning : Meaning) (layout : ObjectLayout meaning.objects) (f opened place : ℕ) (ws : List ℕ) (h : World) (s : State) : Type 0 where
+pub record Enters (meaning : Meaning) (layout : ObjectLayout meaning.objects) (code : Code) (f opened place : ℕ) (ws : List ℕ) (h : World) (s : State) : Type 0 where
   pub is_call : IsCall meaning f ws h
   pub at : s.pc ≡ place
   pub sound : IsSound s
   pub back : s.registers 1 % 4 ≡ 0
   pub aligned : s.registers 2 % 4 ≡ 0
-  pub room : stack_from + largest_frame * (most_open - opened) ≤ s.registers 2
+  pub room : code.floor + code.need f opened ≤ s.registers 2
   pub top : s.registers 2 ≤ stack_to
   pub passes : Passes ws 10 s
   pub shares : Shares layout s h
@@ -146,7 +164,7 @@ Meets layout code c spare n s (Failed o) = Unit {0}
 -- each call from `opened` open calls does what the source's does; the jump to it pays the c steps that are spare
 abbrev pub CallsMeet : (meaning : Meaning) → ObjectLayout meaning.objects → Code → (ℕ → ℕ) → (c opened : ℕ) → Type 0
 CallsMeet meaning layout code places c opened =
-    (g : ℕ) (ws : List ℕ) (h : World) (s : State) (n : ℕ) → g < meaning.functions → Enters meaning layout g opened (places g) ws h s → Meets layout code c c n s (meaning.call n opened g ws h)
+    (g : ℕ) (ws : List ℕ) (h : World) (s : State) (n : ℕ) → g < meaning.functions → Enters meaning layout code g opened (places g) ws h s → Meets layout code c c n s (meaning.call n opened g ws h)
 
 -- an address at which code can stand: of a whole word, within the bytes that the memory map has for code
 pub record IsPlace (a : ℕ) : Type 0 where
@@ -158,11 +176,11 @@ pub record IsPlace (a : ℕ) : Type 0 where
 -- instruction, its body does what the source's body does. Of the two `rate * c` below the first is how many steps an instruction pays
 -- then. The second is what is spare: the steps of one instruction more, which is left to the jump that called the function. For a function
 -- without a frame has nothing to execute on entry, so where the source's body has begun the machine may still stand at its first word.
-abbrev pub PieceMeets : (meaning : Meaning) → ObjectLayout meaning.objects → (function rate : ℕ) → List PieceItem → Type 0
-PieceMeets meaning layout f rate items =
-    (code : Code) (places : ℕ → ℕ) (place : ℕ) → IsPlace place → IsPlace (place + 4 * length items) → Placed code places place place items → ((g : ℕ) → g < meaning.functions → IsPlace (places g))
+abbrev pub PieceMeets : (meaning : Meaning) → ObjectLayout meaning.objects → (function frame rate : ℕ) → List PieceItem → Type 0
+PieceMeets meaning layout f frame rate items =
+    (code : Code) (places : ℕ → ℕ) (place : ℕ) → IsPlace place → IsPlace (place + 4 * length items) → Placed code places place place items → IsEnough code.need f frame items → ((g : ℕ) → g < meaning.functions → IsPlace (places g))
     → (opened c : ℕ) → opened < most_open → 1 ≤ c → CallsMeet meaning layout code places c (suc opened)
-    → (ws : List ℕ) (h : World) (s : State) (n : ℕ) → Enters meaning layout f opened place ws h s → Meets layout code (rate * c) (rate * c) n s (meaning.body n opened f ws h)
+    → (ws : List ℕ) (h : World) (s : State) (n : ℕ) → Enters meaning layout code f opened place ws h s → Meets layout code (rate * c) (rate * c) n s (meaning.body n opened f ws h)
 
 -- an item that has a word, wherever the piece stands
 abbrev pub IsFit : (functions long : ℕ) → PieceItem → Type 0
@@ -176,7 +194,8 @@ AreFit functions long (i ∷ is) = IsFit functions long i × AreFit functions lo
 
 -- The items of a function's code do what it does. A pair of Linear and those above it keep `follows`, which is their promise, and `keeps_up`,
 -- which only serves to go on from there; a selected pair and a piece keep what serves to go on alone, and the promise is that of the linked image.
-pub record IsPiece (meaning : Meaning) (layout : ObjectLayout meaning.objects) (f : ℕ) (items : List PieceItem) : Type 0 where
+pub record IsPiece (meaning : Meaning) (layout : ObjectLayout meaning.objects) (f frame : ℕ) (items : List PieceItem) : Type 0 where
   pub rate : ℕ
-  pub meets : PieceMeets meaning layout f rate items
+  pub meets : PieceMeets meaning layout f frame rate items
+  pub small : frame ≤ largest_frame
   pub fit : AreFit meaning.functions (length items) items

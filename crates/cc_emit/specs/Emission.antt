@@ -22,7 +22,7 @@ use Rattle.cc_rv32.specs.declared.instr.BranchOperation.TheVariants.{Beq, Bne}
 use Rattle.cc_select.specs.declared.step.WordOperator.{WordOperator}
 use Rattle.cc_select.specs.declared.step.WordOperator.TheVariants as immediates
 use Rattle.cc_select.specs.declared.step.Step.{Step}
-use Rattle.cc_select.specs.declared.step.Step.TheVariants.{One, Immediate, LoadAt, StoreAt, Branch, BranchImmediate}
+use Rattle.cc_select.specs.declared.step.Step.TheVariants.{One, Immediate, LoadAt, StoreAt, LoadNear, StoreNear, Branch, BranchImmediate}
 use Rattle.cc_emit.specs.declared.addressed.Addressed.{Addressed}
 use Rattle.cc_emit.specs.declared.addressed.Remembered.{Remembered}
 use Rattle.cc_emit.specs.declared.addressed.Remembered.TheVariants.{Nothing, Upper, Element, ByPointer, ElementByPointer}
@@ -102,7 +102,7 @@ abbrev pub const_items : (to word : ℕ) → List PieceItem
 const_items to w =
     if high w == 0 then addi to 0 (low w) ∷ []
     else if low w == 0 then Plain (instr.Lui to (high w)) ∷ []
-    else Plain (instr.Lui 5 (high w)) ∷ addi to 5 (low w) ∷ []
+    else Plain (instr.Lui to (high w)) ∷ addi to to (low w) ∷ []
 
 -- an operator on one word
 abbrev pub unary_instr : unary.Unary → (to from : ℕ) → Instr
@@ -261,12 +261,16 @@ load_at known width to address = upper_items known address ++ load_element width
 abbrev pub store_at : Remembered → Width → (from address : ℕ) → List PieceItem
 store_at known width from address = upper_items known address ++ store_element width (base_register known) from (part_of known address) ∷ []
 
--- the items of a step at a place, of whose address so much is known
+-- the items of a step at a place, of whose address so much is known; an element near by is one of an object that begins so much further on
 abbrev pub items_of_step : (base : ℕ → ℕ) → Frame → (near : ℕ → Bool) → (labels : ℕ → ℕ) → (place : ℕ) → Remembered → Step → List PieceItem
 items_of_step base f near labels place known (One item) = items_of_one base f near labels place known item
 items_of_step base f near labels place known (Immediate operator to from word) = word_recipe_items (word_recipe operator word) to from
 items_of_step base f near labels place known (LoadAt width object to number) = load_at known width to (known_place width (base object) number)
 items_of_step base f near labels place known (StoreAt width object number from) = store_at known width from (known_place width (base object) number)
+items_of_step base f near labels place known (LoadNear width object to index word) =
+    indexed known width (known_place width (base object) word) index (load_element width to 5 (part_of known (known_place width (base object) word)) ∷ [])
+items_of_step base f near labels place known (StoreNear width object index word from) =
+    indexed known width (known_place width (base object) word) index (store_element width 5 from (part_of known (known_place width (base object) word)) ∷ [])
 items_of_step base f near labels place known (Branch operator nonzero left right to) = branch_items (near to) (turned nonzero (comparison operator left right)) place (labels to)
 items_of_step base f near labels place known (BranchImmediate operator nonzero from word to) =
     word_branch_items (against_zero (word_recipe operator word) from) (word_recipe operator word) (near to) nonzero from place (labels to)
@@ -347,6 +351,8 @@ size_of_step f near known (One item) = size_of_one f near known item
 size_of_step f near known (Immediate operator to from word) = word_recipe_size (word_recipe operator word)
 size_of_step f near known (LoadAt width object to number) = known_access_size known
 size_of_step f near known (StoreAt width object number from) = known_access_size known
+size_of_step f near known (LoadNear width object to index word) = access_size known width
+size_of_step f near known (StoreNear width object index word from) = access_size known width
 size_of_step f near known (Branch operator nonzero left right to) = branch_size (near to)
 size_of_step f near known (BranchImmediate operator nonzero from word to) = word_branch_size (against_zero (word_recipe operator word) from) (near to)
 
@@ -362,6 +368,11 @@ long_size f s = size f (λ label. false) s
 abbrev pub is_label_step : (label : ℕ) → Step → Bool
 is_label_step label (One (Label other)) = other == label
 is_label_step label step = false
+
+-- the label that a step is
+abbrev pub label_of_step : Step → Option ℕ
+label_of_step (One (Label label)) = Some label
+label_of_step step = None
 
 abbrev pub is_label : (label : ℕ) → Addressed → Bool
 is_label label s = is_label_step label s.step

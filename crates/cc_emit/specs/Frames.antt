@@ -5,7 +5,7 @@ use Rattle.cc_ltl.specs.Ltl.{target, same_location}
 use Rattle.cc_linear_language.specs.declared.item.LinearItem.{LinearItem}
 use Rattle.cc_linear_language.specs.declared.item.LinearItem.TheVariants.{Copy, Const, Unary, Binary, Load, Call}
 use Rattle.cc_select.specs.declared.step.Step.{Step}
-use Rattle.cc_select.specs.declared.step.Step.TheVariants.{One, Immediate, LoadAt}
+use Rattle.cc_select.specs.declared.step.Step.TheVariants.{One, Immediate, LoadAt, LoadNear}
 
 -- slot i lies at x2 + 4 * i, and behind the slots the saved registers in this order; `sets_pointer` where the function sets x3
 pub record Frame : Type 0 where
@@ -35,6 +35,7 @@ abbrev pub writes : (register : ℕ) → Step → Bool
 writes r (One item) = item_writes r item
 writes r (Immediate operator to from word) = to == r
 writes r (LoadAt width object to number) = to == r
+writes r (LoadNear width object to index word) = to == r
 writes r step = false
 
 abbrev pub is_written : List Step → (register : ℕ) → Bool

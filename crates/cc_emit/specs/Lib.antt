@@ -1,5 +1,7 @@
 -- what the code of one function owes on the machine, wherever it stands
 pub mod Contract
+-- the machine of a board with less stack
+pub mod Board
 -- where each object lies
 pub mod Objects
 -- the frame of a function

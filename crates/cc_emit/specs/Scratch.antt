@@ -3,9 +3,9 @@
 -- x3. So the next access to an object near by needs no upper part, and one to elements of the same number, in any object that is reached the same
 -- way, is one instruction.
 -- A function sets x3 to the global pointer where its accesses take fewer instructions so, those that set it counted: from there an access reaches
--- the first 4 KiB of the globals.
+-- the first 4 KiB of the globals. An access in a loop counts as eight.
 -- Which accesses are so is told of each step: its size follows from that alone.
-use Rattle.std.specs.Prelude.{ℕ, ◌*◌, ◌+◌, ◌^◌, Bool, true, false, ◌&&◌, ◌==◌, nat_le, nat_lt, if◌then◌else◌, Option, Some, None, List, [], ◌∷◌}
+use Rattle.std.specs.Prelude.{ℕ, ◌*◌, ◌+◌, ◌^◌, Bool, true, false, ◌&&◌, ◌||◌, ◌==◌, nat_le, nat_lt, if◌then◌else◌, Option, Some, None, List, [], ◌∷◌}
 use Rattle.cc_words.specs.declared.operators.Width.{Width}
 use Rattle.cc_words.specs.Widths.{same_width}
 use Rattle.cc_ltl.specs.declared.operation.Move.{Move}
@@ -13,7 +13,7 @@ use Rattle.cc_ltl.specs.declared.operation.Move.TheVariants.{Between, Reload, Sp
 use Rattle.cc_linear_language.specs.declared.item.LinearItem.{LinearItem}
 use Rattle.cc_linear_language.specs.declared.item.LinearItem.TheVariants.{Label, Jump, IfNonzero, IfZero, Copy, Const, Unary, Binary, Load, Store, Call, Read, Write, Return}
 use Rattle.cc_select.specs.declared.step.Step.{Step}
-use Rattle.cc_select.specs.declared.step.Step.TheVariants.{One, Immediate, LoadAt, StoreAt, Branch, BranchImmediate}
+use Rattle.cc_select.specs.declared.step.Step.TheVariants.{One, Immediate, LoadAt, StoreAt, LoadNear, StoreNear, Branch, BranchImmediate}
 use Rattle.cc_rv32.specs.Machine.{globals_from}
 use Rattle.cc_emit.specs.declared.condition.Condition.{Condition}
 use Rattle.cc_emit.specs.declared.recipe.Recipe.{Recipe}
@@ -27,7 +27,7 @@ use Rattle.cc_emit.specs.declared.scratch.ElementAddress.{ElementAddress}
 use Rattle.cc_emit.specs.declared.scratch.Scratch.{Scratch}
 use Rattle.cc_emit.specs.Branches.{against_zero}
 use Rattle.cc_emit.specs.Contract.{global_pointer}
-use Rattle.cc_emit.specs.Emission.{access_size, high, known_access_size, known_place, low, pointer_size, recipe, word_recipe}
+use Rattle.cc_emit.specs.Emission.{access_size, high, known_access_size, known_place, label_of_step, pointer_size, recipe, word_recipe}
 
 -- ---- what the registers hold
 
@@ -73,6 +73,8 @@ remembered base sets_pointer k (One (Load width object to index)) = known_of set
 remembered base sets_pointer k (One (Store width object index from)) = known_of sets_pointer k width (base object) index
 remembered base sets_pointer k (LoadAt width object to number) = known_at sets_pointer k (known_place width (base object) number)
 remembered base sets_pointer k (StoreAt width object number from) = known_at sets_pointer k (known_place width (base object) number)
+remembered base sets_pointer k (LoadNear width object to index word) = known_of sets_pointer k width (known_place width (base object) word) index
+remembered base sets_pointer k (StoreNear width object index word from) = known_of sets_pointer k width (known_place width (base object) word) index
 remembered base sets_pointer k step = Nothing
 
 -- ---- what the registers hold behind a step
@@ -94,10 +96,6 @@ abbrev pub behind_move : Move → Scratch → Scratch
 behind_move (Between to from) k = without to k
 behind_move (Reload to slot) k = without to k
 behind_move (Spill slot from) k = k
-
--- a word of two parts goes through x5
-abbrev pub behind_const : (to word : ℕ) → Scratch → Scratch
-behind_const to w k = if high w == 0 then without to k else if low w == 0 then without to k else without to (without_address k)
 
 abbrev pub behind_recipe : Recipe → (to : ℕ) → Scratch → Scratch
 behind_recipe (Direct o) to k = without to k
@@ -140,7 +138,7 @@ behind_one base sets_pointer (Jump to) k = nothing
 behind_one base sets_pointer (IfNonzero from to) k = k
 behind_one base sets_pointer (IfZero from to) k = k
 behind_one base sets_pointer (Copy m) k = behind_move m k
-behind_one base sets_pointer (Const to word) k = behind_const to word k
+behind_one base sets_pointer (Const to word) k = without to k
 behind_one base sets_pointer (Unary operator to from) k = without to k
 behind_one base sets_pointer (Binary operator to left right) k = behind_recipe (recipe operator) to k
 behind_one base sets_pointer (Load width object to index) k = without to (behind_element (known_of sets_pointer k width (base object) index) k width (base object) index)
@@ -156,6 +154,10 @@ behind_step base sets_pointer (Immediate operator to from word) k = behind_word_
 behind_step base sets_pointer (LoadAt width object to number) k =
     without to (behind_at (known_at sets_pointer k (known_place width (base object) number)) k (known_place width (base object) number))
 behind_step base sets_pointer (StoreAt width object number from) k = behind_at (known_at sets_pointer k (known_place width (base object) number)) k (known_place width (base object) number)
+behind_step base sets_pointer (LoadNear width object to index word) k =
+    without to (behind_element (known_of sets_pointer k width (known_place width (base object) word) index) k width (known_place width (base object) word) index)
+behind_step base sets_pointer (StoreNear width object index word from) k =
+    behind_element (known_of sets_pointer k width (known_place width (base object) word) index) k width (known_place width (base object) word) index
 behind_step base sets_pointer (Branch operator nonzero left right to) k = k
 behind_step base sets_pointer (BranchImmediate operator nonzero from word to) k = behind_word_branch (against_zero (word_recipe operator word) from) k
 
@@ -176,12 +178,52 @@ step_access_size known (One (Load width object to index)) = access_size known wi
 step_access_size known (One (Store width object index from)) = access_size known width
 step_access_size known (LoadAt width object to number) = known_access_size known
 step_access_size known (StoreAt width object number from) = known_access_size known
+step_access_size known (LoadNear width object to index word) = access_size known width
+step_access_size known (StoreNear width object index word from) = access_size known width
 step_access_size known step = 0
 
-abbrev pub accesses_size : List Addressed → ℕ
-accesses_size [] = 0
-accesses_size (s ∷ steps) = step_access_size s.known s.step + accesses_size steps
+-- the label to which a step may lead
+abbrev pub led_to : Step → Option ℕ
+led_to (One (Jump to)) = Some to
+led_to (One (IfNonzero from to)) = Some to
+led_to (One (IfZero from to)) = Some to
+led_to (Branch operator nonzero left right to) = Some to
+led_to (BranchImmediate operator nonzero from word to) = Some to
+led_to step = None
 
--- the accesses take fewer instructions with x3, those that set it counted; so the function is shorter, but for branches that are near or far by it
+abbrev pub is_led : Option ℕ → (label : ℕ) → Bool
+is_led None label = false
+is_led (Some to) label = to == label
+
+-- one of these steps may lead to the label
+abbrev pub lead_to : (label : ℕ) → List Step → Bool
+lead_to label [] = false
+lead_to label (step ∷ steps) = is_led (led_to step) label || lead_to label steps
+
+-- to one of the labels
+abbrev pub lead_back : (labels : List ℕ) → List Step → Bool
+lead_back [] steps = false
+lead_back (label ∷ labels) steps = lead_to label steps || lead_back labels steps
+
+-- how often an access counts, by the labels before it and the steps from it on: eight times in a loop, which is between a label and a later step
+-- that leads back to it
+abbrev pub loop_weight : ℕ
+loop_weight = 8
+
+abbrev pub weight : (labels : List ℕ) → List Step → ℕ
+weight labels steps = if lead_back labels steps then loop_weight else 1
+
+-- the labels before what is behind a step
+abbrev pub labels_past : Option ℕ → List ℕ → List ℕ
+labels_past None labels = labels
+labels_past (Some label) labels = label ∷ labels
+
+-- how many instructions the accesses of these steps take, each as often as it counts
+abbrev pub accesses_size : (base : ℕ → ℕ) → (sets_pointer : Bool) → Scratch → (labels : List ℕ) → List Step → ℕ
+accesses_size base sets_pointer k labels [] = 0
+accesses_size base sets_pointer k labels (step ∷ steps) =
+    weight labels (step ∷ steps) * step_access_size (remembered base sets_pointer k step) step + accesses_size base sets_pointer (behind_step base sets_pointer step k) (labels_past (label_of_step step) labels) steps
+
+-- the accesses take fewer instructions with x3, those that set it counted
 abbrev pub gains : (base : ℕ → ℕ) → List Step → Bool
-gains base steps = nat_lt (pointer_size true + accesses_size (addressed base true nothing steps)) (accesses_size (addressed base false nothing steps))
+gains base steps = nat_lt (pointer_size true + accesses_size base true nothing [] steps) (accesses_size base false nothing [] steps)

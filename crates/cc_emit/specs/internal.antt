@@ -3,5 +3,7 @@
 pub mod Behind
 -- the addresses of objects as a table
 pub mod Bases
+-- which steps are in loops
+pub mod Loops
 -- what the instruction of a recipe has to hold
 pub mod Room

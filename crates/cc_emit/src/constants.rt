@@ -3,7 +3,7 @@
 ghost use Rattle.std.specs.Prelude.{◌≡◌, ◌≤◌, ◌<◌, ◌++◌, OnOk};
 ghost use Rattle.cc_emit.specs.Emission.{const_items, const_size};
 
-use crate::instructions::{SCRATCH, ZERO, add_immediate, high, load_upper, low, put};
+use crate::instructions::{ZERO, add_immediate, high, load_upper, low, put};
 use crate::item::PieceItem;
 use std::alloc::AllocError;
 
@@ -30,7 +30,7 @@ pub(crate) fn put_constant(items: &mut Vec<PieceItem>, to: u8, word: u32) -> Res
     } else if low == 0 {
         put(items, load_upper(to, high))
     } else {
-        put(items, load_upper(SCRATCH, high))?;
-        put(items, add_immediate(to, SCRATCH, low))
+        put(items, load_upper(to, high))?;
+        put(items, add_immediate(to, to, low))
     }
 }

@@ -324,6 +324,26 @@ fn put_items_of(
             number,
             from,
         } => put_store_at(items, known, width, bases.of(object), number, from.number()),
+        Step::LoadNear {
+            width,
+            object,
+            to,
+            index,
+            word,
+        } => {
+            let base = known_place(width, bases.of(object), word);
+            put_load(items, known, width, base, to.number(), index.number())
+        }
+        Step::StoreNear {
+            width,
+            object,
+            index,
+            word,
+            from,
+        } => {
+            let base = known_place(width, bases.of(object), word);
+            put_store(items, known, width, base, index.number(), from.number())
+        }
         Step::Branch {
             operator,
             nonzero,
@@ -378,12 +398,13 @@ pub(crate) fn function_items(
 ) -> Result<Vec<PieceItem>, AllocError>
     requires slots { slots ≤ most_slots }
     requires fit { (functions : ℕ) × AllByRecursion (IsStep slots functions (labels code.now)) code.now }
-    requires few { length code.now ≤ 2 ^ 59 }
+    requires few { length code.now ≤ 2 ^ 56 }
     ensures { IfOk result (λ items. items.items ≡ function_items (base_in bases.now) slots code.now) }
 {
-    let (steps, sets_pointer) = addressed(alloc, bases, code)?;
+    let count = label_count(code);
+    let (steps, sets_pointer) = addressed(alloc, bases, code, count)?;
     let frame = Frame::new(alloc, sets_pointer, slots, code)?;
-    let places = Places::new(alloc, &frame, steps.as_slice(), label_count(code))?;
+    let places = Places::new(alloc, &frame, steps.as_slice(), count)?;
     let mut items = Vec::with_capacity(alloc, places.end())?;
     frame.put_prologue(&mut items)?;
     put_code(&mut items, &frame, &places, bases, steps.as_slice())?;

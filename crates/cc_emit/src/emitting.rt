@@ -5,6 +5,7 @@ ghost use Rattle.cc_emit.specs.Function.{pair_items};
 
 use crate::bases::Bases;
 use crate::emission::function_items;
+use crate::frame::frame_bytes;
 use crate::piece::Piece;
 use cc_linear_language::LinearPair;
 use cc_select::select;
@@ -12,13 +13,14 @@ use std::alloc::{AllocError, Global};
 use std::sync::Arc;
 
 /// The most steps that are emitted. No memory holds more.
-const MOST_STEPS: usize = 1 << 59;
+const MOST_STEPS: usize = 1 << 56;
 
 /// The code of a function of a unit, as its items: those of `specs/Function.antt`, at most 15 for a step.
 /// That the machine does with them what the function does belongs to the answer's type. The LTL is kept beside them.
 ///
 /// It fails only for lack of memory (40); the pair is gone then.
 pub fn emit(alloc: Global, pair: LinearPair) -> Result<Piece, AllocError>
+    ensures mode { IfOk result (λ piece. piece.mode ≡ pair.mode) }
     ensures unit { IfOk result (λ piece. piece.unit ≡ pair.unit) }
     ensures function { IfOk result (λ piece. piece.function ≡ pair.function) }
     ensures ltl { IfOk result (λ piece. piece.ltl ≡ pair.ltl) }
@@ -31,7 +33,9 @@ pub fn emit(alloc: Global, pair: LinearPair) -> Result<Piece, AllocError>
     }
     let bases = Bases::new(alloc, selected.unit().externals())?;
     let items = function_items(alloc, selected.slots(), code, &bases)?;
+    let frame = frame_bytes(alloc, selected.slots(), code)?;
+    let mode = selected.mode();
     let function = selected.function();
     let (unit, ltl) = selected.into_parts();
-    Ok(Piece::new(unit, function, ltl, items))
+    Ok(Piece::new(mode, unit, function, ltl, frame, items))
 }

@@ -133,6 +133,15 @@ impl Frame {
     }
 }
 
+/// How many bytes the frame of a function with these slots and steps has.
+pub(crate) fn frame_bytes(alloc: Global, slots: u16, code: &[Step]) -> Result<u32, AllocError>
+    requires { slots ≤ most_slots }
+    ensures { IfOk result (λ bytes. bytes ≡ frame_size (frame_of false slots code.now)) }
+{
+    let frame = Frame::new(alloc, false, slots, code)?;
+    Ok(frame.size())
+}
+
 /// How many items set `x3`: two where the function sets it, else none.
 pub(crate) fn pointer_size(sets_pointer: bool) -> usize
     ensures answer { result ≡ pointer_size sets_pointer }
@@ -203,7 +212,9 @@ fn target(step: &Step) -> Option<u8>
 {
     match step {
         Step::One(item) => item_target(item),
-        Step::Immediate { to, .. } | Step::LoadAt { to, .. } => Some(to.number()),
+        Step::Immediate { to, .. } | Step::LoadAt { to, .. } | Step::LoadNear { to, .. } => {
+            Some(to.number())
+        }
         _ => None,
     }
 }

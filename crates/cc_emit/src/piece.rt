@@ -5,9 +5,11 @@ ghost use Rattle.std.specs.Arc.{arc_value};
 ghost use Rattle.cc_c_laws.specs.Meaning.{functions};
 ghost use Rattle.cc_ltl.specs.Ltl.{IsLtl};
 ghost use Rattle.cc_linear_language.specs.Pair.{most_blocks, LtlKeepsUp};
+ghost use Rattle.cc_emit.specs.Contract.{largest_frame};
 ghost use Rattle.cc_emit.specs.Piece.{Piece as Shown, tree_of, IsPieceOfUnit};
 
 use crate::item::PieceItem;
+use cc_c_laws::Mode;
 use cc_ltl::Ltl;
 use cc_types::TypedUnit;
 use std::marker::Model;
@@ -17,9 +19,11 @@ use std::sync::Arc;
 /// the items; that the machine does with the items what the function does, wherever they stand, belongs to the type, so nobody holds a
 /// piece of which it is not true.
 pub struct Piece {
+    mode: Mode,
     unit: Arc<TypedUnit>,
     function: usize,
     ltl: Ltl,
+    frame: u32,
     items: Vec<PieceItem>,
 }
 
@@ -27,9 +31,11 @@ pub struct Piece {
 impl Drop for Piece {
     fn drop(self) {
         let Piece {
+            mode,
             unit,
             function,
             ltl,
+            frame: _,
             items,
         } = self;
     }
@@ -39,34 +45,46 @@ impl Model for Piece {
     ghost use Rattle.std.specs.Arc.{arc_value};
     ghost use Rattle.std.specs.Coded.{codes};
     ghost use Rattle.cc_ast.specs.contracts.unit.Unit as parsed;
+    ghost use Rattle.cc_c_laws.specs.contracts.mode.Mode as modes;
     ghost use Rattle.cc_emit.specs.Piece.{Piece as Shown, IsPieceOfUnit};
 
     ghost Value = { Shown };
 
-    ghost coded = { Prim.hlevel (codes, parsed.the_row.coded) };
+    ghost coded = { Prim.hlevel (codes, modes.the_row.coded, parsed.the_row.coded) };
 
-    ghost view = { λ p. record { unit = arc_value p.unit; function = p.function; ltl = p.ltl; items = p.items.items } };
+    ghost view = { λ p. record { mode = p.mode; unit = arc_value p.unit; function = p.function; ltl = p.ltl; frame = p.frame; items = p.items.items } };
 
-    ghost invariant = { λ p. IsPieceOfUnit (record { unit = arc_value p.unit; function = p.function; ltl = p.ltl; items = p.items.items }) };
+    ghost invariant = { λ p. IsPieceOfUnit (record { mode = p.mode; unit = arc_value p.unit; function = p.function; ltl = p.ltl; frame = p.frame; items = p.items.items }) };
 }
 
 impl Piece {
     // The one place where a piece is made.
     pub(crate) fn new(
+        mode: Mode,
         unit: Arc<TypedUnit>,
         function: usize,
         ltl: Ltl,
+        frame: u32,
         items: Vec<PieceItem>,
     ) -> Piece
-        requires { IsPieceOfUnit (record { unit = arc_value unit; function = function; ltl = ltl; items = items.items }) }
-        ensures { result ≡ record { unit = arc_value unit; function = function; ltl = ltl; items = items.items } }
+        requires { IsPieceOfUnit (record { mode = mode; unit = arc_value unit; function = function; ltl = ltl; frame = frame; items = items.items }) }
+        ensures { result ≡ record { mode = mode; unit = arc_value unit; function = function; ltl = ltl; frame = frame; items = items.items } }
     {
         Piece {
+            mode,
             unit,
             function,
             ltl,
+            frame,
             items,
         }
+    }
+
+    /// What the code owes if the function goes wrong.
+    pub fn mode(&self) -> Mode
+        ensures answer { result ≡ self.now.mode }
+    {
+        self.mode
     }
 
     /// The unit.
@@ -89,9 +107,17 @@ impl Piece {
         ensures ltl { result.now ≡ self.now.ltl }
         ensures is_ltl { IsLtl self.now.ltl }
         ensures few { length self.now.ltl.blocks ≤ most_blocks }
-        ensures keeps_up { LtlKeepsUp (tree_of self.now) self.now.function self.now.ltl }
+        ensures keeps_up { LtlKeepsUp self.now.mode (tree_of self.now) self.now.function self.now.ltl }
     {
         &self.ltl
+    }
+
+    /// How many bytes its frame has: at most 2,032.
+    pub fn frame(&self) -> u32
+        ensures answer { result ≡ self.now.frame }
+        ensures small { self.now.frame ≤ largest_frame }
+    {
+        self.frame
     }
 
     /// The items of its code, one for each word. Each call is of a function of the unit, and each jump goes to an item of the piece or
@@ -108,9 +134,11 @@ impl Piece {
         ensures answer { arc_value result ≡ self.unit }
     {
         let Piece {
+            mode: _,
             unit,
             function: _,
             ltl,
+            frame: _,
             items,
         } = self;
         drop(ltl);

@@ -1,22 +1,26 @@
 // What the scratch registers hold within a straight piece. An access leaves in `x6` the upper part of an address, and in `x5` the address
 // of an element, less the lower part of its object's address, or less the object's distance from `x3`; later accesses take what they need
 // of it. It is forgotten at a label and a call, and the element's address where its index register is written or `x5` is used. What is
-// reached from `x3`, the global pointer, needs no upper part; a function sets `x3` where its accesses take fewer instructions so, those
-// that set it counted.
+// reached from `x3`, the global pointer, needs no upper part; a function sets `x3` where its accesses take fewer instructions so, those in
+// loops counted eight times, and those that set it counted.
 
-ghost use Rattle.std.specs.Prelude.{◌≡◌, ◌≤◌, ◌<◌, ◌^◌, Bool, length, IfOk};
+ghost use Rattle.std.specs.Prelude.{◌≡◌, ◌≤◌, ◌<◌, ◌^◌, Bool, [], length, if◌then◌else◌, IfOk};
+ghost use Rattle.std.specs.List.{AllByRecursion};
 ghost use Rattle.cc_words.specs.Widths.{same_width};
 ghost use Rattle.cc_select.specs.declared.step.Step.TheVariants.{One};
+ghost use Rattle.cc_select.specs.Selected.{labels};
 ghost use Rattle.cc_emit.specs.Emission.{recipe, word_recipe};
 ghost use Rattle.cc_emit.specs.Branches.{against_zero};
-ghost use Rattle.cc_emit.specs.Scratch.{nothing, is_upper, is_address, is_in_reach, known_of, known_at, remembered, without, without_address, upper_behind, sum_base, step_access_size, accesses_size, gains, behind_move, behind_const, behind_recipe, behind_word_recipe, behind_word_branch, behind_element, behind_at, behind_one, behind_step, addressed};
+ghost use Rattle.cc_emit.specs.Scratch.{nothing, is_upper, is_address, is_in_reach, known_of, known_at, remembered, without, without_address, upper_behind, sum_base, step_access_size, loop_weight, accesses_size, gains, behind_move, behind_recipe, behind_word_recipe, behind_word_branch, behind_element, behind_at, behind_one, behind_step, addressed};
 ghost use Rattle.cc_emit.specs.internal.Bases.{base_in};
+ghost use Rattle.cc_emit.specs.internal.Loops.{AreLast};
 
 use crate::addressed::{Addressed, Remembered};
 use crate::bases::Bases;
 use crate::condition::Condition;
 use crate::frame::pointer_size;
-use crate::instructions::{GLOBAL_POINTER, SERVICE, high, known_place, low};
+use crate::instructions::{GLOBAL_POINTER, SERVICE, high, known_place};
+use crate::loops::{last_leads, reach_past};
 use crate::recipe::{Recipe, WordRecipe};
 use crate::tables::{access_size, known_access_size};
 use cc_linear_language::LinearItem;
@@ -150,6 +154,26 @@ impl Scratch {
                 number,
                 from: _,
             } => self.known_at(sets_pointer, known_place(width, bases.of(object), number)),
+            Step::LoadNear {
+                width,
+                object,
+                to: _,
+                index,
+                word,
+            } => {
+                let base = known_place(width, bases.of(object), word);
+                self.known_of(sets_pointer, width, base, index.number())
+            }
+            Step::StoreNear {
+                width,
+                object,
+                index,
+                word,
+                from: _,
+            } => {
+                let base = known_place(width, bases.of(object), word);
+                self.known_of(sets_pointer, width, base, index.number())
+            }
             _ => Remembered::Nothing,
         }
     }
@@ -179,16 +203,6 @@ impl Scratch {
             Move::Between { to, .. } | Move::Reload { to, .. } => self.write(to.number()),
             Move::Spill { .. } => {}
         }
-    }
-
-    // Goes behind a constant.
-    fn go_behind_constant(&mut self, to: u8, word: u32)
-        ensures { self.new ≡ behind_const to word self.old }
-    {
-        if high(word) != 0 && low(word) != 0 {
-            self.use_scratch();
-        }
-        self.write(to);
     }
 
     // Goes behind an operator on two words.
@@ -269,8 +283,9 @@ impl Scratch {
             | LinearItem::Return => *self = Scratch::nothing(),
             LinearItem::IfNonzero { .. } | LinearItem::IfZero { .. } => {}
             LinearItem::Copy { between } => self.go_behind_move(between),
-            LinearItem::Const { to, word } => self.go_behind_constant(to.number(), word),
-            LinearItem::Unary { to, .. } => self.write(to.number()),
+            LinearItem::Const { to, .. } | LinearItem::Unary { to, .. } => {
+                self.write(to.number());
+            }
             LinearItem::Binary { operator, to, .. } => {
                 self.go_behind_recipe(Recipe::of(operator), to.number());
             }
@@ -324,6 +339,27 @@ impl Scratch {
                 number,
                 ..
             } => self.go_behind_at(known, known_place(width, bases.of(object), number)),
+            Step::LoadNear {
+                width,
+                object,
+                to,
+                index,
+                word,
+            } => {
+                let base = known_place(width, bases.of(object), word);
+                self.go_behind_element(known, width, base, index.number());
+                self.write(to.number());
+            }
+            Step::StoreNear {
+                width,
+                object,
+                index,
+                word,
+                ..
+            } => {
+                let base = known_place(width, bases.of(object), word);
+                self.go_behind_element(known, width, base, index.number());
+            }
             Step::Branch { .. } => {}
             Step::BranchImmediate {
                 operator,
@@ -368,15 +404,27 @@ fn step_access_size(known: Remembered, step: Step) -> usize
     ensures few { result ≤ 4 }
 {
     match step {
-        Step::One(LinearItem::Load { width, .. } | LinearItem::Store { width, .. }) => {
-            access_size(known, width)
-        }
+        Step::One(LinearItem::Load { width, .. } | LinearItem::Store { width, .. })
+        | Step::LoadNear { width, .. }
+        | Step::StoreNear { width, .. } => access_size(known, width),
         Step::LoadAt { .. } | Step::StoreAt { .. } => known_access_size(known),
         _ => 0,
     }
 }
 
-// The steps of a function, each with what is there of its address, and how many instructions their accesses take in all.
+/// How often an access in a loop counts.
+const LOOP_WEIGHT: usize = 8;
+
+// How often an access counts.
+fn weight(in_loop: bool) -> usize
+    ensures answer { result ≡ (if in_loop then loop_weight else 1) }
+    ensures few { result ≤ 8 }
+{
+    if in_loop { LOOP_WEIGHT } else { 1 }
+}
+
+// The steps of a function, each with what is there of its address, and how many instructions their accesses take in all, each as often as
+// it counts.
 #[derive(Drop)]
 struct Walked {
     steps: Vec<Addressed>,
@@ -384,46 +432,57 @@ struct Walked {
 }
 
 // The steps of a function, each with what is there of its address; `bases` has the objects' addresses, `sets_pointer` says whether `x3`
-// is the global pointer. Their accesses take at most 2^61 instructions.
+// is the global pointer, `last` which steps are in loops. Their accesses take at most 2^61 instructions.
 fn walk(
     alloc: Global,
     bases: &Bases,
     sets_pointer: bool,
     code: &[Step],
+    last: &[usize],
 ) -> Result<Walked, AllocError>
-    requires { length code.now ≤ 2 ^ 59 }
+    requires few { length code.now ≤ 2 ^ 56 }
+    requires labels { AllByRecursion (λ label. label < length last.now) (labels code.now) }
+    requires last { AreLast code.now (length last.now) last.now }
     ensures steps { IfOk result (λ w. w.steps.items ≡ addressed (base_in bases.now) sets_pointer nothing code.now) }
-    ensures accesses { IfOk result (λ w. w.accesses ≡ accesses_size (addressed (base_in bases.now) sets_pointer nothing code.now)) }
+    ensures accesses { IfOk result (λ w. w.accesses ≡ accesses_size (base_in bases.now) sets_pointer nothing [] code.now) }
     ensures few { IfOk result (λ w. w.accesses ≤ 2 ^ 61) }
 {
     let mut steps = Vec::with_capacity(alloc, code.len())?;
     let mut accesses = 0;
     let mut scratch = Scratch::nothing();
+    let mut at = 0;
+    let mut reach = 0;
     for step in code {
         let known = scratch.remembered(bases, sets_pointer, *step);
         steps.push_reserved(Addressed { step: *step, known });
-        accesses += step_access_size(known, *step);
+        accesses += weight(at < reach) * step_access_size(known, *step);
         scratch.go_behind(bases, known, *step);
+        reach = reach_past(last, reach, step);
+        at += 1;
     }
     Ok(Walked { steps, accesses })
 }
 
 /// The steps of a function, each with what is there of its address, and whether the function sets `x3` to the global pointer: where its
-/// accesses take fewer instructions with it, the two that set it counted. `bases` has the objects' addresses.
+/// accesses take fewer instructions with it, those in loops counted eight times, and the two that set it counted. `bases` has the objects'
+/// addresses; the labels are below `count`.
 pub(crate) fn addressed(
     alloc: Global,
     bases: &Bases,
     code: &[Step],
+    count: usize,
 ) -> Result<(Vec<Addressed>, bool), AllocError>
-    requires { length code.now ≤ 2 ^ 59 }
+    requires few { length code.now ≤ 2 ^ 56 }
+    requires labels { AllByRecursion (λ label. label < count) (labels code.now) }
     ensures gains { IfOk result (λ r. r.1 ≡ gains (base_in bases.now) code.now) }
     ensures steps { IfOk result (λ r. r.0.items ≡ addressed (base_in bases.now) r.1 nothing code.now) }
 {
-    let without = walk(alloc, bases, false, code)?;
+    let last = last_leads(alloc, code, count)?;
+    let without = walk(alloc, bases, false, code, last.as_slice())?;
     if without.accesses <= pointer_size(true) {
         return Ok((without.steps, false));
     }
-    let with = walk(alloc, bases, true, code)?;
+    let with = walk(alloc, bases, true, code, last.as_slice())?;
     if pointer_size(true) + with.accesses < without.accesses {
         Ok((with.steps, true))
     } else {

@@ -7,7 +7,7 @@ ghost use Rattle.std.specs.List.{AllByRecursion};
 ghost use Rattle.cc_select.specs.declared.step.Step.{Step as Shown};
 ghost use Rattle.cc_select.specs.Selected.{labels};
 ghost use Rattle.cc_emit.specs.Branches.{against_zero};
-ghost use Rattle.cc_emit.specs.Emission.{access_size, known_access_size, word_branch_size, size_of_one, size, long_size, is_close};
+ghost use Rattle.cc_emit.specs.Emission.{access_size, known_access_size, word_branch_size, size_of_one, size, long_size, is_close, label_of_step};
 ghost use Rattle.cc_emit.specs.internal.Behind.{near_behind, behind, branched_to, label_of, IsTable, ArePlaces, place_from};
 
 use crate::addressed::{Addressed, Remembered};
@@ -200,6 +200,9 @@ pub(crate) fn long_size(frame: &Frame, step: &Addressed) -> usize
         Step::One(item) => long_size_of_one(frame, step.known, item),
         Step::Immediate { operator, word, .. } => WordRecipe::of(*operator, *word).size(),
         Step::LoadAt { .. } | Step::StoreAt { .. } => known_access_size(step.known),
+        Step::LoadNear { width, .. } | Step::StoreNear { width, .. } => {
+            access_size(step.known, *width)
+        }
         Step::Branch { .. } => 2,
         Step::BranchImmediate {
             operator,
@@ -235,14 +238,20 @@ fn branched_to(step: &Addressed) -> Option<u32>
     }
 }
 
-// The label that a step is, where it is one.
-fn label_of(step: &Addressed) -> Option<u32>
-    ensures { result ≡ label_of step.now }
+/// The label that a step is, where it is one.
+pub(crate) fn label_of_step(step: &Step) -> Option<u32>
+    ensures { result ≡ label_of_step step.now }
 {
-    match &step.step {
+    match step {
         Step::One(LinearItem::Label { label }) => Some(*label),
         _ => None,
     }
+}
+
+fn label_of(step: &Addressed) -> Option<u32>
+    ensures { result ≡ label_of step.now }
+{
+    label_of_step(&step.step)
 }
 
 // A table of the labels below `count`, and how many items there are in all; `first` tells which branches are near.

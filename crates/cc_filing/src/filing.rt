@@ -70,8 +70,8 @@ pub fn tell_wide_disk<E: Write>(files: &HostRuntime, path: &str, told: &mut E) -
     told.flush()
 }
 
-// Gives a new disk its name, where nothing has it, and syncs that.
-fn name_disk(files: &HostRuntime, making: &str, path: &str) -> io::Result<()> {
+/// Gives a new disk its name, where nothing has it, and syncs that. The name under which it was made goes.
+pub fn name_disk(files: &HostRuntime, making: &str, path: &str) -> io::Result<()> {
     fs::hard_link(files, making, path)?;
     fs::remove_file(files, making)?;
     let folder = match Path::new(path).parent() {

@@ -12,9 +12,9 @@ mod folder;
 mod taking;
 
 pub use device::NoDisk;
-pub use filing::{disk_of, no_disk, tell_wide_disk};
+pub use filing::{disk_of, name_disk, no_disk, tell_wide_disk};
 pub use folder::{
     AnswerCounts, Keeper, NoFolder, Taken, count_all, no_folder, spools_of, take_to_serve,
     tell_generation, tell_kept,
 };
-pub use taking::take_out_of_file;
+pub use taking::{explain_part, take_out_of_file, write_found};

@@ -38,8 +38,8 @@ fn bytes_of<E: Write>(
     }
 }
 
-// Tells a person of a fault; of a name that no unit has it is told already.
-fn explain<E: Write>(fault: PartFault, errors: &mut E) -> io::Result<()> {
+/// Tells a person of a fault; of a name that no unit has it is told already.
+pub fn explain_part<E: Write>(fault: PartFault, errors: &mut E) -> io::Result<()> {
     match fault {
         PartFault::Library(LibraryFault::DiskFault) => errors.write_all(NO_FILE.as_bytes())?,
         PartFault::Library(LibraryFault::NotALibrary) => errors.write_all(NO_LIBRARY.as_bytes())?,
@@ -51,8 +51,8 @@ fn explain<E: Write>(fault: PartFault, errors: &mut E) -> io::Result<()> {
     errors.flush()
 }
 
-// Writes the bytes, or the fault's line; the status. 0 says that the bytes were appended to what the writer held, and nothing else.
-fn write_found<W: Write, E: Write>(
+/// Writes the bytes, or the fault's line; the status. 0 says that the bytes were appended to what the writer held, and nothing else.
+pub fn write_found<W: Write, E: Write>(
     found: Result<Vec<u8>, PartFault>,
     writer: &mut W,
     errors: &mut E,
@@ -63,7 +63,7 @@ fn write_found<W: Write, E: Write>(
         Ok(()) => match found {
             Ok(_) => 0,
             Err(fault) => {
-                let _ = explain(fault, errors);
+                let _ = explain_part(fault, errors);
                 1
             }
         },

@@ -4,8 +4,8 @@ use Rattle.cc_ast.specs.Source.{source}
 use Rattle.cc_unit.specs.declared.unit.StoredUnit.{StoredUnit}
 use Rattle.cc_emit.specs.Piece.{Piece}
 use Rattle.cc_link.specs.Agree.{Agree}
-use Rattle.cc_link.specs.Linked.{same_bytes, linked}
-use Rattle.cc_link.specs.Laws.{LinkedUnitsAgree}
+use Rattle.cc_link.specs.Linked.{same_bytes, linked_in}
+use Rattle.cc_link.specs.Laws.{LinkedUnitsFollow, AgreeInAgree}
 use Rattle.cc_link.specs.Made.{IsCompiled}
 use Rattle.cc_link.specs.declared.fault.LinkFault.{LinkFault}
 use Rattle.cc_link.specs.Fault.{link_fault_number}
@@ -21,11 +21,11 @@ abbrev pub numbered : Result StoredUnit LinkFault → Result StoredUnit ℕ
 numbered (Ok unit) = Ok unit
 numbered (Err fault) = Err (link_fault_number fault)
 
--- the unit that pieces give: what they are linked to for the first one's unit, where that is of the source; else 28, and 26 where
--- there is no piece
+-- the unit that pieces give: what they are linked to for the first one's unit in its mode, where that is of the source; else 28, and 26
+-- where there is no piece
 abbrev pub unit_of : List ℕ → List Piece → Result StoredUnit ℕ
 unit_of text [] = Err 26
-unit_of text (piece ∷ pieces) = if same_bytes (text_of piece) text then numbered (linked (source piece.unit) (piece ∷ pieces)) else Err 28
+unit_of text (piece ∷ pieces) = if same_bytes (text_of piece) text then numbered (linked_in piece.mode (source piece.unit) (piece ∷ pieces)) else Err 28
 
 -- a source has a piece for each function that it defines, by its number in the order of definitions; and they are linked
 abbrev pub compiling : Rules Piece
@@ -38,4 +38,5 @@ is_right unit = Agree unit.source unit.image
 -- what the types of a piece and of its unit keep, and with it what linking promises of such pieces, for the law of the build, which is a term and can call nothing
 pub record Keeps (piece : Piece) : Type 0 where
   pub compiled : IsCompiled piece
-  pub agree : LinkedUnitsAgree
+  pub follow : LinkedUnitsFollow
+  pub agree : AgreeInAgree

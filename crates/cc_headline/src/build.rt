@@ -9,7 +9,7 @@ use crate::refusal::refusal;
 use cc_core::build::Build;
 use cc_core::fault::BuildRefusal;
 use cc_emit::Piece;
-use cc_link::{link_lent, linked_units_agree, typed_unit};
+use cc_link::{link_in, linked_units_follow, typed_unit};
 use cc_unit::StoredUnit;
 use std::alloc::Global;
 use std::sync::Arc;
@@ -17,8 +17,8 @@ use std::sync::Arc;
 /// The build that compiles: a piece is the code of one function, and pieces are linked.
 ///
 /// A source is refused with the number of its fault, 1 to 7 or 11 to 21, as `typed_unit` answers. Pieces are refused as linking
-/// refuses them: with 28 where one is of another source, with 27 where one comes twice, with 26 where one is missing, with 25 where the
-/// image would be too large.
+/// refuses them in the first one's mode: with 28 where one is of another source or mode, with 27 where one comes twice, with 26 where one is
+/// missing, with 25 where the image would be too large.
 #[derive(Drop)]
 pub struct CcBuild {}
 
@@ -43,7 +43,7 @@ impl Build for CcBuild {
 
     fn names(&self, piece: &Piece, source: &[u8], part: u32) -> bool {
         // What the type of a piece and that of its unit keep, and what linking promises, is what a piece keeps.
-        linked_units_agree();
+        linked_units_follow();
         let _kept = piece.items();
         let _kept = piece.unit().externals();
         piece.function() == part as usize && piece.unit().text() == source
@@ -61,7 +61,7 @@ impl Build for CcBuild {
         if first.unit().text() != source {
             return Err(BuildRefusal::Refused(28));
         }
-        match link_lent(alloc, first.unit(), pieces) {
+        match link_in(alloc, first.mode(), first.unit(), pieces) {
             Ok(compiled) => Ok(Arc::try_clone(compiled.stored())?),
             Err(fault) => Err(refusal(fault.number())),
         }

@@ -3,7 +3,7 @@
 ghost use Rattle.cc_headline.specs.Built.{MadeUnitsAreBuilt};
 
 use cc_c_laws::programs_call_main;
-use cc_link::linked_units_agree;
+use cc_link::linked_units_follow;
 use cc_syntax::trees_are_determined;
 use cc_tokens::tokens_are_determined;
 
@@ -15,5 +15,5 @@ pub fn made_units_are_built()
     tokens_are_determined();
     trees_are_determined();
     programs_call_main();
-    linked_units_agree();
+    linked_units_follow();
 }

@@ -14,7 +14,7 @@ use cc_core::fault::CoreFault;
 use cc_core::laws::{crash_law, survival_law};
 use cc_core::state::{State, run_events};
 use cc_emit::Piece;
-use cc_link::linked_units_agree;
+use cc_link::linked_units_follow;
 use std::alloc::Global;
 
 /// For every interleaving of clients, workers and committer, with crashes and failures of the disk anywhere in it, from a fresh disk on or
@@ -32,7 +32,7 @@ pub fn headline<B: Build>()
     // Whatever was found at the opening: each unit that is recovered is one of those, or agrees with its source.
     ensures units { AfterEveryRun IsFoundOrAgrees }
 {
-    linked_units_agree();
+    linked_units_follow();
     survival_law::<B>();
     crash_law::<CcBuild>();
 }

@@ -182,7 +182,7 @@ branches_are_last ltl ends l b e = by b.operation refl
     by (Write n) same = tt
 
 pub pair_of : (p : above.Pair) (end far : ℕ → ℕ) (most : ℕ) (order : List ℕ) → above.IsPair p → AreEnds p.ltl end far most → IsOrder p.ltl end order
-    → IsPair (record { unit = p.unit; function = p.function; ltl = p.ltl; code = linear_code p.ltl end order })
+    → IsPair (record { mode = p.mode; unit = p.unit; function = p.function; ltl = p.ltl; code = linear_code p.ltl end order })
 pair_of p end far most order is ends ordered =
     let code = linear_code p.ltl end order in
     let names : labels code ≡ order = labels_code p.ltl end order in
@@ -204,7 +204,7 @@ pair_of p end far most order is ends ordered =
 -- ---- without the labels that nothing leads to
 
 -- a pair stays one
-pub kept_pair : (p : Pair) → IsPair p → IsPair (record { unit = p.unit; function = p.function; ltl = p.ltl; code = kept (targets p.code) p.code })
+pub kept_pair : (p : Pair) → IsPair p → IsPair (record { mode = p.mode; unit = p.unit; function = p.function; ltl = p.ltl; code = kept (targets p.code) p.code })
 kept_pair p is =
     let led = targets p.code in
     let below = below_itself p.code in

@@ -198,10 +198,10 @@ made_of ltl labels nexts ends graph order code items up same nexts_are (far, mos
     }
 
 -- what is made of the function of a pair is the code of a pair
-pub pair_made : (p : above.Pair) (items : List LinearItem) → above.IsPair p → IsMadeOf p.ltl items → IsPair (record { unit = p.unit; function = p.function; ltl = p.ltl; code = items })
+pub pair_made : (p : above.Pair) (items : List LinearItem) → above.IsPair p → IsMadeOf p.ltl items → IsPair (record { mode = p.mode; unit = p.unit; function = p.function; ltl = p.ltl; code = items })
 pair_made p items is m =
     let first = pair_of p m.end m.far m.most m.order is m.ends m.ordered in
-    subst (λ xs. IsPair (record { unit = p.unit; function = p.function; ltl = p.ltl; code = xs })) (sym m.made) (kept_pair (record { unit = p.unit; function = p.function; ltl = p.ltl; code = linear_code p.ltl m.end m.order }) first)
+    subst (λ xs. IsPair (record { mode = p.mode; unit = p.unit; function = p.function; ltl = p.ltl; code = xs })) (sym m.made) (kept_pair (record { mode = p.mode; unit = p.unit; function = p.function; ltl = p.ltl; code = linear_code p.ltl m.end m.order }) first)
 
 pub made_without : (ltl : Ltl) (items : List LinearItem) → IsMadeOf ltl items → NoneIdle items
 made_without ltl items m = subst NoneIdle (sym m.made) (none_idle (linear_code ltl m.end m.order))

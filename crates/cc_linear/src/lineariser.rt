@@ -41,13 +41,15 @@ fn items_of(alloc: Global, ltl: &Ltl) -> Result<Vec<LinearItem>, AllocError>
 ///
 /// `LinearFault::OutOfMemory` (40) alone, where memory runs out; the pair is given up with it.
 pub fn linearise(alloc: Global, pair: LtlPair) -> Result<LinearPair, LinearFault>
+    ensures mode { IfOk result (λ made. made.mode ≡ pair.mode) }
     ensures unit { IfOk result (λ made. made.unit ≡ pair.unit) }
     ensures function { IfOk result (λ made. made.function ≡ pair.function) }
     ensures ltl { IfOk result (λ made. made.ltl ≡ pair.ltl) }
     ensures labels { IfOk result (λ made. NoneIdle made.code) }
 {
+    let mode = pair.mode();
     let function = pair.function();
     let code = items_of(alloc, pair.code())?;
     let (unit, ltl) = pair.into_parts();
-    Ok(LinearPair::new(unit, function, ltl, code))
+    Ok(LinearPair::new(mode, unit, function, ltl, code))
 }

@@ -15,6 +15,7 @@ use Rattle.cc_ltl.specs.Ltl.{Locations}
 use Rattle.cc_linear_language.specs.declared.item.LinearItem.{LinearItem}
 use Rattle.cc_linear_language.specs.declared.item.LinearItem.TheVariants.{Label, Jump, IfNonzero, IfZero, Copy, Const, Unary, Binary, Load, Store, Call, Read, Write, Return}
 use Rattle.cc_linear_language.specs.Linear.{Configuration, does, linear_move, linear_output, linear_start}
+use Rattle.cc_c_laws.specs.declared.mode.Mode.{Mode}
 use Rattle.cc_linear_language.specs.Pair.{KeepsUp, FollowsFunction}
 
 -- a move that goes on, and one that calls, was made of something
@@ -103,6 +104,6 @@ is_layer arity code = record {
 }
 
 -- what keeps up follows, at whatever rate
-pub follows_of : (unit : List External) (f slots : ℕ) (code : List LinearItem) → KeepsUp unit f slots code → FollowsFunction unit f slots code
-follows_of unit f slots code (rate, keeps_up) meaning is opened below ws h call =
+pub follows_of : (mode : Mode) (unit : List External) (f slots : ℕ) (code : List LinearItem) → KeepsUp mode unit f slots code → FollowsFunction mode unit f slots code
+follows_of mode unit f slots code (rate, keeps_up) meaning is opened below ws h call =
     all_follow meaning (linear_move meaning.arity code) linear_output (is_layer meaning.arity code) f rate (linear_start slots code) (keeps_up meaning is) opened below ws h call

@@ -9,6 +9,7 @@ ghost use Rattle.cc_ltl.specs.Ltl.{IsLtl};
 ghost use Rattle.cc_linear_language.specs.Pair.{Pair, tree_of, most_blocks, LtlKeepsUp, KeepsUp, FollowsFunction, IsPair};
 
 use crate::item::LinearItem;
+use cc_c_laws::Mode;
 use cc_ltl::Ltl;
 use cc_types::TypedUnit;
 use std::marker::Model;
@@ -19,6 +20,7 @@ use std::sync::Arc;
 /// not true.
 #[derive(Drop)]
 pub struct LinearPair {
+    mode: Mode,
     unit: Arc<TypedUnit>,
     function: usize,
     ltl: Ltl,
@@ -29,30 +31,45 @@ impl Model for LinearPair {
     ghost use Rattle.std.specs.Arc.{arc_value};
     ghost use Rattle.std.specs.Coded.{codes};
     ghost use Rattle.cc_ast.specs.contracts.unit.Unit as parsed;
+    ghost use Rattle.cc_c_laws.specs.contracts.mode.Mode as modes;
     ghost use Rattle.cc_linear_language.specs.Pair.{Pair, IsPair};
 
     ghost Value = { Pair };
 
-    ghost coded = { Prim.hlevel (codes, parsed.the_row.coded) };
+    ghost coded = { Prim.hlevel (codes, modes.the_row.coded, parsed.the_row.coded) };
 
-    ghost view = { λ p. record { unit = arc_value p.unit; function = p.function; ltl = p.ltl; code = p.code.items } };
+    ghost view = { λ p. record { mode = p.mode; unit = arc_value p.unit; function = p.function; ltl = p.ltl; code = p.code.items } };
 
-    ghost invariant = { λ p. IsPair (record { unit = arc_value p.unit; function = p.function; ltl = p.ltl; code = p.code.items }) };
+    ghost invariant = { λ p. IsPair (record { mode = p.mode; unit = arc_value p.unit; function = p.function; ltl = p.ltl; code = p.code.items }) };
 }
 
 impl LinearPair {
     /// The pair of a function whose LTL and Linear are proved to keep up with it: what the type keeps is asked for here. It
     /// takes no memory.
-    pub fn new(unit: Arc<TypedUnit>, function: usize, ltl: Ltl, code: Vec<LinearItem>) -> LinearPair
-        requires { IsPair (record { unit = arc_value unit; function = function; ltl = ltl; code = code.items }) }
-        ensures { result ≡ record { unit = arc_value unit; function = function; ltl = ltl; code = code.items } }
+    pub fn new(
+        mode: Mode,
+        unit: Arc<TypedUnit>,
+        function: usize,
+        ltl: Ltl,
+        code: Vec<LinearItem>,
+    ) -> LinearPair
+        requires { IsPair (record { mode = mode; unit = arc_value unit; function = function; ltl = ltl; code = code.items }) }
+        ensures { result ≡ record { mode = mode; unit = arc_value unit; function = function; ltl = ltl; code = code.items } }
     {
         LinearPair {
+            mode,
             unit,
             function,
             ltl,
             code,
         }
+    }
+
+    /// What the code owes if the function goes wrong.
+    pub fn mode(&self) -> Mode
+        ensures answer { result ≡ self.now.mode }
+    {
+        self.mode
     }
 
     /// The unit.
@@ -82,7 +99,7 @@ impl LinearPair {
         ensures ltl { result.now ≡ self.now.ltl }
         ensures is_ltl { IsLtl self.now.ltl }
         ensures few { length self.now.ltl.blocks ≤ most_blocks }
-        ensures keeps_up { LtlKeepsUp (tree_of self.now) self.now.function self.now.ltl }
+        ensures keeps_up { LtlKeepsUp self.now.mode (tree_of self.now) self.now.function self.now.ltl }
     {
         &self.ltl
     }
@@ -93,8 +110,8 @@ impl LinearPair {
         ensures code { result.now ≡ self.now.code }
         ensures typed { IsTyped (tree_of self.now) }
         ensures linear { IsLinear self.now.ltl.slots (length (functions (tree_of self.now))) self.now.code }
-        ensures keeps_up { KeepsUp (tree_of self.now) self.now.function self.now.ltl.slots self.now.code }
-        ensures follows { FollowsFunction (tree_of self.now) self.now.function self.now.ltl.slots self.now.code }
+        ensures keeps_up { KeepsUp self.now.mode (tree_of self.now) self.now.function self.now.ltl.slots self.now.code }
+        ensures follows { FollowsFunction self.now.mode (tree_of self.now) self.now.function self.now.ltl.slots self.now.code }
     {
         self.code.as_slice()
     }
@@ -105,6 +122,7 @@ impl LinearPair {
         ensures ltl { result.1 ≡ self.ltl }
     {
         let LinearPair {
+            mode: _,
             unit,
             function: _,
             ltl,

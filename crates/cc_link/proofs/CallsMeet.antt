@@ -5,7 +5,7 @@ use Rattle.cc_rv32.specs.Machine.{State}
 use Rattle.cc_simulation.specs.World.{Size, World, Effect, Gives, Unfinished, Failed}
 use Rattle.cc_simulation.specs.Meaning.{Meaning}
 use Rattle.cc_emit.specs.declared.item.PieceItem.{PieceItem}
-use Rattle.cc_emit.specs.Contract.{Code, ObjectLayout, Placed, Meets, CallsMeet, IsPlace, PieceMeets}
+use Rattle.cc_emit.specs.Contract.{Code, ObjectLayout, Placed, Meets, CallsMeet, IsEnough, IsPlace, PieceMeets}
 
 -- the rate of a call, where this many more may be open
 unfoldable pub power : ℕ → ℕ → ℕ
@@ -15,7 +15,9 @@ power rate (suc k) = suc rate * power rate k
 -- every function's piece, at its place
 pub record Pieces (meaning : Meaning) (layout : ObjectLayout meaning.objects) (rate : ℕ) (code : Code) (places : ℕ → ℕ) : Type 0 where
   pub items : ℕ → List PieceItem
-  pub meets : (f : ℕ) → f < meaning.functions → PieceMeets meaning layout f rate (items f)
+  pub frames : ℕ → ℕ
+  pub meets : (f : ℕ) → f < meaning.functions → PieceMeets meaning layout f (frames f) rate (items f)
+  pub enough : (f : ℕ) → f < meaning.functions → IsEnough code.need f (frames f) (items f)
   pub placed : (f : ℕ) → f < meaning.functions → Placed code places (places f) (places f) (items f)
   pub from : (f : ℕ) → f < meaning.functions → IsPlace (places f)
   pub to : (f : ℕ) → f < meaning.functions → IsPlace (places f + 4 * length (items f))
@@ -37,9 +39,9 @@ slower o y code c e n s (Gives a left) h (m, t, p, r, b) = (m, t, p, r, let i : 
 slower o y code c e n s (Unfinished p) h (m, t, q, r, b) = (m, t, q, r, let i : c * m ≤ e * m = mul-le-mul_right m h in omega arith)
 slower o y code c e n s (Failed p) h x = tt
 
-pub slower_piece : (meaning : Meaning) (layout : ObjectLayout meaning.objects) (f rate other : ℕ) (items : List PieceItem) → rate ≤ other → PieceMeets meaning layout f rate items → PieceMeets meaning layout f other items
-slower_piece meaning layout f rate other items le piece code places place a b p at d c below one calls ws h s n enters =
-    slower meaning.objects layout code (rate * c) (other * c) n s _ (mul-le-mul_right c le) (piece code places place a b p at d c below one calls ws h s n enters)
+pub slower_piece : (meaning : Meaning) (layout : ObjectLayout meaning.objects) (f frame rate other : ℕ) (items : List PieceItem) → rate ≤ other → PieceMeets meaning layout f frame rate items → PieceMeets meaning layout f frame other items
+slower_piece meaning layout f frame rate other items le piece code places place a b p enough at d c below one calls ws h s n enters =
+    slower meaning.objects layout code (rate * c) (other * c) n s _ (mul-le-mul_right c le) (piece code places place a b p enough at d c below one calls ws h s n enters)
 
 module _ (meaning : Meaning) (layout : ObjectLayout meaning.objects) (rate : ℕ) (code : Code) (places : ℕ → ℕ) (pieces : Pieces meaning layout rate code places) where
   -- no step is left, or no call is allowed: nothing is owed
@@ -59,5 +61,5 @@ module _ (meaning : Meaning) (layout : ObjectLayout meaning.objects) (rate : ℕ
   calls_meet (suc k) d e g ws h s (suc n) lt enters =
       let below : d < 1024 = omega arith in
       let next : suc d + k ≡ 1024 = omega arith in
-      let p : Meets layout code (rate * power rate k) (rate * power rate k) n s (meaning.body n d g ws h) = pieces.meets g lt code places (places g) (pieces.from g lt) (pieces.to g lt) (pieces.placed g lt) pieces.from d (power rate k) below (one_le_power rate k) (calls_meet k (suc d) next) ws h s n enters in
+      let p : Meets layout code (rate * power rate k) (rate * power rate k) n s (meaning.body n d g ws h) = pieces.meets g lt code places (places g) (pieces.from g lt) (pieces.to g lt) (pieces.placed g lt) (pieces.enough g lt) pieces.from d (power rate k) below (one_le_power rate k) (calls_meet k (suc d) next) ws h s n enters in
       subst (Meets layout code (power rate (suc k)) (power rate (suc k)) (suc n) s) (sym (meaning.spends n d g ws h lt below)) (paid meaning.objects layout code rate (power rate k) n s _ (one_le_power rate k) p)

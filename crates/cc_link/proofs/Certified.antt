@@ -12,14 +12,16 @@ use Rattle.cc_tokens.specs.Tokens.{TokensAreOne}
 use Rattle.cc_ast.specs.Tree.{External}
 use Rattle.cc_ast.specs.Limits.{TreesAreOne}
 use Rattle.cc_ast.specs.Parse.{SpellsText}
+use Rattle.cc_c_laws.specs.declared.mode.Mode.{Mode}
+use Rattle.cc_c_laws.specs.declared.mode.Mode.TheVariants.{Plain}
 use Rattle.cc_c_laws.specs.Meaning.{functions}
 use Rattle.cc_unit.specs.declared.unit.StoredUnit.{StoredUnit}
 use Rattle.cc_ltl.specs.Bytes.{word_bytes, ltl_bytes}
 use Rattle.cc_ltl.specs.Ltl.{Ltl, IsLtl}
 use Rattle.cc_linear_language.specs.Pair.{most_blocks, LtlKeepsUp}
 use Rattle.cc_emit.specs.Piece.{Piece, tree_of}
-use Rattle.cc_link.specs.Certificate.{IsToldLtl, EachKeepsUp, ltl_field}
-use Rattle.cc_link.specs.Laws.{MadeUnitsAreCertified}
+use Rattle.cc_link.specs.Certificate.{IsToldLtl, EachKeepsUpIn, ltl_field}
+use Rattle.cc_link.specs.Laws.{MadeUnitsAreCertified, UnitsAreCertifiedIn}
 use Rattle.cc_link.specs.Linked.{stranger, doubled, missing, in_order, ordered, all_ltl, certified, link_refusal, lent_pieces, unit_of}
 use Rattle.cc_link.specs.Made.{IsCompiled}
 use Rattle.cc_link.proofs.Deciding.{defined_long}
@@ -39,37 +41,37 @@ all_told : (from : ℕ) (ps : List Piece) → EachFrom HasLtl from ps → AllByR
 all_told from [] h = tt
 all_told from (p ∷ ps) h = ((h.1.0, ltl_short p.ltl h.1.0 h.1.1), all_told (suc from) ps h.2)
 
--- what a piece of a unit with this tree keeps of its LTL's run
-abbrev Keeps : List External → Piece → Type 0
-Keeps tree p = (tree_of p ≡ tree) × LtlKeepsUp (tree_of p) p.function p.ltl
+-- what a piece in this mode of a unit with this tree keeps of its LTL's run
+abbrev Keeps : Mode → List External → Piece → Type 0
+Keeps mode tree p = ((p.mode ≡ mode) × (tree_of p ≡ tree)) × LtlKeepsUp p.mode (tree_of p) p.function p.ltl
 
-each_keeps : (tree : List External) (ps : List Piece) → AreOfTree tree ps → All IsCompiled ps → AllByRecursion (Keeps tree) ps
-each_keeps tree [] t k = tt
-each_keeps tree (p ∷ ps) t k = ((t.0, (All-head IsCompiled p ps k).of_unit.ltl_keeps_up), each_keeps tree ps t.1 (All-tail IsCompiled p ps k))
+each_keeps : (mode : Mode) (tree : List External) (ps : List Piece) → AreOfTree mode tree ps → All IsCompiled ps → AllByRecursion (Keeps mode tree) ps
+each_keeps mode tree [] t k = tt
+each_keeps mode tree (p ∷ ps) t k = ((t.0, (All-head IsCompiled p ps k).of_unit.ltl_keeps_up), each_keeps mode tree ps t.1 (All-tail IsCompiled p ps k))
 
-keeps_at : (tree : List External) (from : ℕ) (ps : List Piece) → EachFrom (Keeps tree) from ps → (f : ℕ) (l : Ltl) → slice_get (all_ltl ps) f ≡ Some l → LtlKeepsUp tree (from + f) l
-keeps_at tree from [] h f l e = absurd (let d : ◌≡◌ {A = Option Ltl} None (Some l) = e in cc)
-keeps_at tree from (p ∷ ps) h zero l e =
+keeps_at : (mode : Mode) (tree : List External) (from : ℕ) (ps : List Piece) → EachFrom (Keeps mode tree) from ps → (f : ℕ) (l : Ltl) → slice_get (all_ltl ps) f ≡ Some l → LtlKeepsUp mode tree (from + f) l
+keeps_at mode tree from [] h f l e = absurd (let d : ◌≡◌ {A = Option Ltl} None (Some l) = e in cc)
+keeps_at mode tree from (p ∷ ps) h zero l e =
     let same : p.ltl ≡ l = let d : ◌≡◌ {A = Option Ltl} (Some p.ltl) (Some l) = e in cc in
     let here : p.function ≡ from + 0 = h.0 ∙ omega arith in
-    subst (λ (m : Ltl). LtlKeepsUp tree (from + 0) m) same (subst (λ g. LtlKeepsUp tree g p.ltl) here (subst (λ (u : List External). LtlKeepsUp u p.function p.ltl) h.1.0 h.1.1))
-keeps_at tree from (p ∷ ps) h (suc f) l e =
+    subst (λ (m : Ltl). LtlKeepsUp mode tree (from + 0) m) same (subst (λ g. LtlKeepsUp mode tree g p.ltl) here (subst (λ (u : List External). LtlKeepsUp mode u p.function p.ltl) h.1.0.1 (subst (λ (m : Mode). LtlKeepsUp m (tree_of p) p.function p.ltl) h.1.0.0 h.1.1)))
+keeps_at mode tree from (p ∷ ps) h (suc f) l e =
     let here : suc from + f ≡ from + suc f = omega arith in
-    subst (λ g. LtlKeepsUp tree g l) here (keeps_at tree (suc from) ps h.2 f l e)
+    subst (λ g. LtlKeepsUp mode tree g l) here (keeps_at mode tree (suc from) ps h.2 f l e)
 
 -- those of the first pieces of all functions
-all_keep : (tree : List External) (ps : List Piece) → AreOfTree tree ps → All IsCompiled ps → (n : ℕ) → missing ps 0 n ≡ None → EachKeepsUp tree (all_ltl (in_order ps 0 n))
-all_keep tree ps t k n e f l at =
+all_keep : (mode : Mode) (tree : List External) (ps : List Piece) → AreOfTree mode tree ps → All IsCompiled ps → (n : ℕ) → missing ps 0 n ≡ None → EachKeepsUpIn mode tree (all_ltl (in_order ps 0 n))
+all_keep mode tree ps t k n e f l at =
     let here : 0 + f ≡ f = omega arith in
-    subst (λ g. LtlKeepsUp tree g l) here (keeps_at tree 0 (in_order ps 0 n) (ordered_each (Keeps tree) ps (each_keeps tree ps t k) 0 n e) f l at)
+    subst (λ g. LtlKeepsUp mode tree g l) here (keeps_at mode tree 0 (in_order ps 0 n) (ordered_each (Keeps mode tree) ps (each_keeps mode tree ps t k) 0 n e) f l at)
 
-pub made_certified : TokensAreOne → TreesAreOne → MadeUnitsAreCertified
-made_certified tokens trees u m =
+pub made_certified_in : TokensAreOne → TreesAreOne → UnitsAreCertifiedIn
+made_certified_in tokens trees mode u m =
     let s = m.of in
     let ps = m.pieces in
     let n = length (functions s.externals) in
-    let done = not_refused (link_refusal s ps) (unit_of s ps) u m.linked_is in
-    let a = none_or (stranger s.text 0 ps) _ done.0 in
+    let done = not_refused (link_refusal mode s ps) (unit_of s ps) u m.linked_is in
+    let a = none_or (stranger mode s.text 0 ps) _ done.0 in
     let b = none_or (doubled [] 0 ps) _ a.1 in
     let c = none_or (missing ps 0 n) _ b.1 in
     let few = few_functions s m.checked.limits in
@@ -86,8 +88,11 @@ made_certified tokens trees u m =
         spelled = refl;
       };
       keep_up = ∥∥₁_elim m.spelled ∥∥₁_prop (λ (h : SpellsText s.text s.externals).
-          ∥∥₁_map (one_tree tokens trees s.text s.externals h ps (one_text s.text 0 ps a.0)) (λ (t : AreOfTree s.externals ps). all_keep s.externals ps t m.compiled n c.0));
+          ∥∥₁_map (one_tree tokens trees mode s.text s.externals h ps (one_text mode s.text 0 ps a.0)) (λ (t : AreOfTree mode s.externals ps). all_keep mode s.externals ps t m.compiled n c.0));
     }
+
+pub made_certified : TokensAreOne → TreesAreOne → MadeUnitsAreCertified
+made_certified tokens trees u m = made_certified_in tokens trees Plain u m
 
 -- ---- the code
 

@@ -13,6 +13,7 @@ use Rattle.cc_ast.specs.Parse.{SpellsText}
 use Rattle.cc_types.specs.Scope.{FileScope, first_file_scope, file_scope_behind}
 use Rattle.cc_types.specs.Limits.{function_names}
 use Rattle.cc_types.specs.Typed.{IsTyped, IsWithinLimits, defined_names}
+use Rattle.cc_c_laws.specs.declared.mode.Mode.{Mode}
 use Rattle.cc_c_laws.specs.Meaning.{functions, functions_from}
 use Rattle.cc_c_laws.specs.Calls.{ObjectsAreSized}
 use Rattle.cc_c_laws.specs.Numbered.{TypedUnitsHaveMeanings}
@@ -25,7 +26,7 @@ use Rattle.cc_link.specs.declared.fault.LinkFault.{LinkFault}
 use Rattle.cc_link.specs.declared.fault.LinkFault.TheVariants.{ImageTooLarge}
 use Rattle.cc_rv32.specs.Table.{encoding_of}
 use Rattle.cc_link.specs.Link.{fill, fill_all, size_of, head, place_of, linked_code, encoded, code_words, most_code}
-use Rattle.cc_link.specs.Linked.{stranger, doubled, missing, bodies, unit_of, unless_refused, linked}
+use Rattle.cc_link.specs.Linked.{stranger, doubled, missing, bodies, unit_of, unless_refused, linked_in}
 use Rattle.cc_link.specs.internal.Filling.{StaysIn, StayIn, AllStayIn}
 use Rattle.cc_link.proofs.Laying.{total, laid_out, laid_in_order}
 use Rattle.cc_link.proofs.Placing.{length_fill}
@@ -69,19 +70,19 @@ all_stay functions [] h = tt
 all_stay functions (f ∷ fs) h = (h 0 (omega arith), all_stay functions fs (λ g lt. h (suc g) (omega arith)))
 
 module _ (tokens : TokensAreOne) (trees : TreesAreOne) (meanings : TypedUnitsHaveMeanings) (sized : ObjectsAreSized) where
-  stay_by : (tree : List External) (ps : List Piece) → IsTyped tree → IsWithinLimits tree → AreOfTree tree ps → All IsPieceOfUnit ps → missing ps 0 (length (functions tree)) ≡ None → AllStayIn (length (functions tree)) (bodies tree ps)
-  stay_by tree ps typed limits t k e =
-      let made = meanings tree typed in
+  stay_by : (mode : Mode) (tree : List External) (ps : List Piece) → IsTyped tree → IsWithinLimits tree → AreOfTree mode tree ps → All IsPieceOfUnit ps → missing ps 0 (length (functions tree)) ≡ None → AllStayIn (length (functions tree)) (bodies tree ps)
+  stay_by mode tree ps typed limits t k e =
+      let made = meanings mode tree typed in
       let few : total made.0.objects ≤ 65536 = subst (λ (os : List Size). total os ≤ 65536) (sym made.1.objects) (few_words sized tree typed limits) in
       all_stay (length (functions tree)) (bodies tree ps) (λ f lt.
-      let piece = bodies_are tree ps t k e f (subst (λ n. f < n) (bodies_long tree ps e) lt) made.0 made.1 (laid_out made.0.objects few) (laid_in_order made.0.objects few) in
+      let piece = bodies_are mode tree ps t k e f (subst (λ n. f < n) (bodies_long tree ps e) lt) made.0 made.1 (laid_out made.0.objects few) (laid_in_order made.0.objects few) in
       stay_of (length (functions tree)) (length (get_or (bodies tree ps) f [])) (get_or (bodies tree ps) f []) (subst (λ n. AreFit n (length (get_or (bodies tree ps) f [])) (get_or (bodies tree ps) f [])) made.1.functions piece.fit))
 
-  pub bodies_stay : (s : Source) (ps : List Piece) → ∥ SpellsText s.text s.externals ∥₁ → IsTyped s.externals → IsWithinLimits s.externals → stranger s.text 0 ps ≡ None → All IsPieceOfUnit ps → missing ps 0 (length (functions s.externals)) ≡ None
+  pub bodies_stay : (mode : Mode) (s : Source) (ps : List Piece) → ∥ SpellsText s.text s.externals ∥₁ → IsTyped s.externals → IsWithinLimits s.externals → stranger mode s.text 0 ps ≡ None → All IsPieceOfUnit ps → missing ps 0 (length (functions s.externals)) ≡ None
       → AllStayIn (length (functions s.externals)) (bodies s.externals ps)
-  bodies_stay s ps spelled typed limits a k e =
+  bodies_stay mode s ps spelled typed limits a k e =
       ∥∥₁_elim spelled (all_stay_prop _ _) (λ (h : SpellsText s.text s.externals).
-      ∥∥₁_elim (one_tree tokens trees s.text s.externals h ps (one_text s.text 0 ps a)) (all_stay_prop _ _) (λ (t : AreOfTree s.externals ps). stay_by s.externals ps typed limits t k e))
+      ∥∥₁_elim (one_tree tokens trees mode s.text s.externals h ps (one_text mode s.text 0 ps a)) (all_stay_prop _ _) (λ (t : AreOfTree mode s.externals ps). stay_by mode s.externals ps typed limits t k e))
 
 -- ---- linking's answer
 
@@ -91,23 +92,23 @@ or_none a b e = ap (λ o. option_or o b) e
 or_some : (a b : Option LinkFault) (f : LinkFault) → a ≡ Some f → option_or a b ≡ Some f
 or_some a b f e = ap (λ o. option_or o b) e
 
-pub stranger_refused : (s : Source) (ps : List Piece) (f : LinkFault) → stranger s.text 0 ps ≡ Some f → linked s ps ≡ Err f
-stranger_refused s ps f e = ap (λ o. unless_refused o (unit_of s ps)) (or_some (stranger s.text 0 ps) _ f e)
+pub stranger_refused : (mode : Mode) (s : Source) (ps : List Piece) (f : LinkFault) → stranger mode s.text 0 ps ≡ Some f → linked_in mode s ps ≡ Err f
+stranger_refused mode s ps f e = ap (λ o. unless_refused o (unit_of s ps)) (or_some (stranger mode s.text 0 ps) _ f e)
 
-pub doubled_refused : (s : Source) (ps : List Piece) (f : LinkFault) → stranger s.text 0 ps ≡ None → doubled [] 0 ps ≡ Some f → linked s ps ≡ Err f
-doubled_refused s ps f a e = ap (λ o. unless_refused o (unit_of s ps)) (or_none (stranger s.text 0 ps) _ a ∙ or_some (doubled [] 0 ps) _ f e)
+pub doubled_refused : (mode : Mode) (s : Source) (ps : List Piece) (f : LinkFault) → stranger mode s.text 0 ps ≡ None → doubled [] 0 ps ≡ Some f → linked_in mode s ps ≡ Err f
+doubled_refused mode s ps f a e = ap (λ o. unless_refused o (unit_of s ps)) (or_none (stranger mode s.text 0 ps) _ a ∙ or_some (doubled [] 0 ps) _ f e)
 
-pub missing_refused : (s : Source) (ps : List Piece) (f : LinkFault) → stranger s.text 0 ps ≡ None → doubled [] 0 ps ≡ None → missing ps 0 (length (functions s.externals)) ≡ Some f → linked s ps ≡ Err f
-missing_refused s ps f a b e = ap (λ o. unless_refused o (unit_of s ps)) (or_none (stranger s.text 0 ps) _ a ∙ or_none (doubled [] 0 ps) _ b ∙ or_some (missing ps 0 (length (functions s.externals))) _ f e)
+pub missing_refused : (mode : Mode) (s : Source) (ps : List Piece) (f : LinkFault) → stranger mode s.text 0 ps ≡ None → doubled [] 0 ps ≡ None → missing ps 0 (length (functions s.externals)) ≡ Some f → linked_in mode s ps ≡ Err f
+missing_refused mode s ps f a b e = ap (λ o. unless_refused o (unit_of s ps)) (or_none (stranger mode s.text 0 ps) _ a ∙ or_none (doubled [] 0 ps) _ b ∙ or_some (missing ps 0 (length (functions s.externals))) _ f e)
 
-pub large_refused : (s : Source) (ps : List Piece) → stranger s.text 0 ps ≡ None → doubled [] 0 ps ≡ None → missing ps 0 (length (functions s.externals)) ≡ None → most_code < code_words (bodies s.externals ps) → linked s ps ≡ Err ImageTooLarge
-large_refused s ps a b c large =
-    ap (λ o. unless_refused o (unit_of s ps)) (or_none (stranger s.text 0 ps) _ a ∙ or_none (doubled [] 0 ps) _ b ∙ or_none (missing ps 0 (length (functions s.externals))) _ c
+pub large_refused : (mode : Mode) (s : Source) (ps : List Piece) → stranger mode s.text 0 ps ≡ None → doubled [] 0 ps ≡ None → missing ps 0 (length (functions s.externals)) ≡ None → most_code < code_words (bodies s.externals ps) → linked_in mode s ps ≡ Err ImageTooLarge
+large_refused mode s ps a b c large =
+    ap (λ o. unless_refused o (unit_of s ps)) (or_none (stranger mode s.text 0 ps) _ a ∙ or_none (doubled [] 0 ps) _ b ∙ or_none (missing ps 0 (length (functions s.externals))) _ c
     ∙ ap (λ t. if t then Some ImageTooLarge else None) (lt-ltb most_code (code_words (bodies s.externals ps)) large))
 
-pub linked_ok : (s : Source) (ps : List Piece) → stranger s.text 0 ps ≡ None → doubled [] 0 ps ≡ None → missing ps 0 (length (functions s.externals)) ≡ None → code_words (bodies s.externals ps) ≤ most_code → linked s ps ≡ Ok (unit_of s ps)
-linked_ok s ps a b c small =
-    ap (λ o. unless_refused o (unit_of s ps)) (or_none (stranger s.text 0 ps) _ a ∙ or_none (doubled [] 0 ps) _ b ∙ or_none (missing ps 0 (length (functions s.externals))) _ c
+pub linked_ok : (mode : Mode) (s : Source) (ps : List Piece) → stranger mode s.text 0 ps ≡ None → doubled [] 0 ps ≡ None → missing ps 0 (length (functions s.externals)) ≡ None → code_words (bodies s.externals ps) ≤ most_code → linked_in mode s ps ≡ Ok (unit_of s ps)
+linked_ok mode s ps a b c small =
+    ap (λ o. unless_refused o (unit_of s ps)) (or_none (stranger mode s.text 0 ps) _ a ∙ or_none (doubled [] 0 ps) _ b ∙ or_none (missing ps 0 (length (functions s.externals))) _ c
     ∙ ap (λ t. if t then Some ImageTooLarge else None) (le-ltb most_code (code_words (bodies s.externals ps)) small))
 
 -- ---- how long the code is

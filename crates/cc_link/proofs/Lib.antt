@@ -6,6 +6,7 @@ pub mod Laying
 pub mod CallsMeet
 pub mod Placing
 pub mod Image
+pub mod Enough
 pub mod Sizes
 pub mod Agreeing
 pub mod Linked

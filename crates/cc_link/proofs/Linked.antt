@@ -1,5 +1,5 @@
 -- What linking's answer tells of pieces, and that the unit which it makes agrees.
-use Rattle.std.proofs.Common.{◌≡◌, ℕ, zero, suc, ◌+◌, ◌<◌, ◌≤◌, ◌==◌, Bool, true, false, if◌then◌else◌, nat_lt, List, [], ◌∷◌, length, get_or, Option, Some, None, is_some, Result, Ok, Err, refl, sym, ap, ◌∙◌, subst, arith}
+use Rattle.std.proofs.Common.{◌≡◌, ℕ, zero, suc, ◌+◌, ◌<◌, ◌≤◌, ◌==◌, Bool, true, false, if◌then◌else◌, nat_lt, List, [], ◌∷◌, length, get_or, map, Option, Some, None, is_some, Result, Ok, Err, refl, sym, ap, ◌∙◌, subst, arith}
 use Rattle.std.proofs.Math.Logic.{∥∥₁_elim, ∥∥₁_map, ∥∥₁_map₂, ∥∥₁_prop}
 use Rattle.std.proofs.lemmas.Bool.{ltb-false, eqb-true}
 use Rattle.std.proofs.lemmas.List.{length-map}
@@ -15,19 +15,24 @@ use Rattle.cc_ast.specs.Limits.{TreesAreOne}
 use Rattle.cc_ast.specs.Parse.{SpellsText}
 use Rattle.cc_types.specs.Limits.{objects}
 use Rattle.cc_link.proofs.Sizes.{AllKept}
+use Rattle.cc_c_laws.specs.declared.mode.Mode.{Mode}
+use Rattle.cc_c_laws.specs.declared.mode.Mode.TheVariants.{Plain, Checked}
 use Rattle.cc_c_laws.specs.Meaning.{functions}
 use Rattle.cc_c_laws.specs.Calls.{TypedUnitsHaveMain, ObjectsAreSized}
-use Rattle.cc_c_laws.specs.Numbered.{TypedUnitsHaveMeanings, ProgramsAreNumbered}
+use Rattle.cc_c_laws.specs.Numbered.{TypedUnitsHaveMeanings, ProgramsAreNumbered, CheckedFollows}
 use Rattle.cc_unit.specs.declared.unit.StoredUnit.{StoredUnit}
 use Rattle.cc_emit.specs.declared.item.PieceItem.{PieceItem}
 use Rattle.cc_emit.specs.Piece.{Piece, tree_of, AreOf, IsPieceOfUnit}
 use Rattle.cc_link.specs.declared.fault.LinkFault.{LinkFault}
 use Rattle.cc_link.specs.declared.fault.LinkFault.TheVariants.{ImageTooLarge, Missing, Stranger}
-use Rattle.cc_link.specs.Agree.{Agree}
+use Rattle.cc_link.specs.Agree.{AgreeIn, AgreementIn, Agreement, image_behavior}
+use Rattle.cc_rv32.specs.declared.image.Image.{Image}
+use Rattle.cc_types.specs.Verdict.{source_with}
 use Rattle.cc_link.specs.Link.{code_words, most_code}
-use Rattle.cc_link.specs.Linked.{same_bytes, stranger, doubled, piece_of, missing, put_first, in_order, ordered, all_items, bodies, too_large, link_refusal, unit_of, unless_refused}
-use Rattle.cc_link.specs.Laws.{LinkedUnitsAgree}
-use Rattle.cc_link.proofs.Agreeing.{unit_agrees}
+use Rattle.cc_link.specs.Linked.{same_bytes, same_mode, stranger, doubled, piece_of, missing, put_first, in_order, ordered, all_items, bodies, too_large, link_refusal, unit_of, unless_refused}
+use Rattle.cc_link.specs.Laws.{LinkedUnitsAgree, LinkedUnitsFollow, AgreeInAgree}
+use Rattle.cc_link.specs.Stack.{frames, BackedAgreement, LinkedUnitsAreBacked}
+use Rattle.cc_link.proofs.Agreeing.{unit_follows, unit_backed}
 
 -- ---- refusals
 
@@ -45,30 +50,38 @@ not_refused (Some f) made u e = absurd (let h : ◌≡◌ {A = Result StoredUnit
 
 -- ---- one text, so one tree
 
-abbrev pub AreOfText : List ℕ → List Piece → Type 0
-AreOfText text [] = Unit {0}
-AreOfText text (p ∷ ps) = ((source p.unit).text ≡ text) × AreOfText text ps
+abbrev pub AreOfText : Mode → List ℕ → List Piece → Type 0
+AreOfText mode text [] = Unit {0}
+AreOfText mode text (p ∷ ps) = ((p.mode ≡ mode) × ((source p.unit).text ≡ text)) × AreOfText mode text ps
 
-abbrev pub AreOfTree : List External → List Piece → Type 0
-AreOfTree tree [] = Unit {0}
-AreOfTree tree (p ∷ ps) = (tree_of p ≡ tree) × AreOfTree tree ps
+abbrev pub AreOfTree : Mode → List External → List Piece → Type 0
+AreOfTree mode tree [] = Unit {0}
+AreOfTree mode tree (p ∷ ps) = ((p.mode ≡ mode) × (tree_of p ≡ tree)) × AreOfTree mode tree ps
 
-pub one_text : (text : List ℕ) (at : ℕ) (ps : List Piece) → stranger text at ps ≡ None → AreOfText text ps
-one_text text at [] e = tt
-one_text text at (p ∷ ps) e = by (same_bytes (source p.unit).text text) (λ f. one_text text (suc at) ps f) refl e
+same_modes : (a b : Mode) → same_mode a b ≡ true → a ≡ b
+same_modes Plain Plain e = refl
+same_modes Checked Checked e = refl
+same_modes Plain Checked e = absurd (let h : false ≡ true = e in cc)
+same_modes Checked Plain e = absurd (let h : false ≡ true = e in cc)
+
+pub one_text : (mode : Mode) (text : List ℕ) (at : ℕ) (ps : List Piece) → stranger mode text at ps ≡ None → AreOfText mode text ps
+one_text mode text at [] e = tt
+one_text mode text at (p ∷ ps) e = by (same_mode p.mode mode) (same_bytes (source p.unit).text text) (λ f. one_text mode text (suc at) ps f) refl refl e
   where
-    by : (b : Bool) → (stranger text (suc at) ps ≡ None → AreOfText text ps) → same_bytes (source p.unit).text text ≡ b → (if b then stranger text (suc at) ps else Some (Stranger p.function at)) ≡ None → AreOfText text (p ∷ ps)
-    by true again is e = (same_text (source p.unit).text text (sym is), again e)
-    by false again is e = absurd (subst IsNone (sym e) tt)
+    by : (m b : Bool) → (stranger mode text (suc at) ps ≡ None → AreOfText mode text ps) → same_mode p.mode mode ≡ m → same_bytes (source p.unit).text text ≡ b
+        → (if (if m then b else false) then stranger mode text (suc at) ps else Some (Stranger p.function at)) ≡ None → AreOfText mode text (p ∷ ps)
+    by true true again one is e = ((same_modes p.mode mode one, same_text (source p.unit).text text (sym is)), again e)
+    by true false again one is e = absurd (subst IsNone (sym e) tt)
+    by false b again one is e = absurd (subst IsNone (sym e) tt)
 
 module _ (tokens : TokensAreOne) (trees : TreesAreOne) where
   spelled_alike : (text : List ℕ) (a b : List External) → SpellsText text a → SpellsText text b → a ≡ b
   spelled_alike text a b h k = trees h.tokens a b (h.spelled.0, h.spelled.1, h.spelled.3) (k.spelled.0, k.spelled.1, k.spelled.3 ∙ tokens text k.tokens h.tokens k.are h.are)
 
-  pub one_tree : (text : List ℕ) (tree : List External) → SpellsText text tree → (ps : List Piece) → AreOfText text ps → ∥ AreOfTree tree ps ∥₁
-  one_tree text tree spelled [] h = ∣ tt ∣₁
-  one_tree text tree spelled (p ∷ ps) h =
-      ∥∥₁_map₂ p.unit.spelled (one_tree text tree spelled ps h.1) (λ s rest. (spelled_alike text (tree_of p) tree (subst (λ t. SpellsText t (tree_of p)) h.0 s) spelled, rest))
+  pub one_tree : (mode : Mode) (text : List ℕ) (tree : List External) → SpellsText text tree → (ps : List Piece) → AreOfText mode text ps → ∥ AreOfTree mode tree ps ∥₁
+  one_tree mode text tree spelled [] h = ∣ tt ∣₁
+  one_tree mode text tree spelled (p ∷ ps) h =
+      ∥∥₁_map₂ p.unit.spelled (one_tree mode text tree spelled ps h.1) (λ s rest. ((h.0.0, spelled_alike text (tree_of p) tree (subst (λ t. SpellsText t (tree_of p)) h.0.1 s) spelled), rest))
 
 -- ---- each function has its piece
 
@@ -109,28 +122,33 @@ order_long ps from (suc count) e = by (piece_of ps from) (λ d. order_long ps (s
 pub bodies_long : (tree : List External) (ps : List Piece) → missing ps 0 (length (functions tree)) ≡ None → length (bodies tree ps) ≡ length (functions tree)
 bodies_long tree ps e = length-map (ordered tree ps) (λ (p : Piece). p.items) ∙ order_long ps 0 (length (functions tree)) e
 
--- a piece of a unit with this tree
-abbrev IsOfTree : List External → Piece → Type 0
-IsOfTree tree p = (tree_of p ≡ tree) × IsPieceOfUnit p
+-- a piece in this mode of a unit with this tree
+abbrev IsOfTree : Mode → List External → Piece → Type 0
+IsOfTree mode tree p = ((p.mode ≡ mode) × (tree_of p ≡ tree)) × IsPieceOfUnit p
 
-each_of : (tree : List External) (ps : List Piece) → AreOfTree tree ps → All IsPieceOfUnit ps → AllByRecursion (IsOfTree tree) ps
-each_of tree [] t k = tt
-each_of tree (p ∷ ps) t k = ((t.0, All-head IsPieceOfUnit p ps k), each_of tree ps t.1 (All-tail IsPieceOfUnit p ps k))
+each_of : (mode : Mode) (tree : List External) (ps : List Piece) → AreOfTree mode tree ps → All IsPieceOfUnit ps → AllByRecursion (IsOfTree mode tree) ps
+each_of mode tree [] t k = tt
+each_of mode tree (p ∷ ps) t k = ((t.0, All-head IsPieceOfUnit p ps k), each_of mode tree ps t.1 (All-tail IsPieceOfUnit p ps k))
 
-does_at : (tree : List External) (from f : ℕ) (ps : List Piece) → EachFrom (IsOfTree tree) from ps → f < length ps → AreOf tree (from + f) (get_or (all_items ps) f [])
-does_at tree from f [] h lt = absurd (omega arith)
-does_at tree from zero (p ∷ ps) h lt =
+abbrev all_frames : List Piece → List ℕ
+all_frames ps = map (λ (p : Piece). p.frame) ps
+
+does_at : (mode : Mode) (tree : List External) (from f : ℕ) (ps : List Piece) → EachFrom (IsOfTree mode tree) from ps → f < length ps → AreOf mode tree (from + f) (get_or (all_frames ps) f 0) (get_or (all_items ps) f [])
+does_at mode tree from f [] h lt = absurd (omega arith)
+does_at mode tree from zero (p ∷ ps) h lt =
     let here : p.function ≡ from + 0 = h.0 ∙ omega arith in
-    subst (λ g. AreOf tree g p.items) here (subst (λ (u : List External). AreOf u p.function p.items) h.1.0 h.1.1.items)
-does_at tree from (suc f) (p ∷ ps) h lt =
+    let own : AreOf mode (tree_of p) p.function p.frame p.items = subst (λ (m : Mode). AreOf m (tree_of p) p.function p.frame p.items) h.1.0.0 h.1.1.items in
+    subst (λ g. AreOf mode tree g p.frame p.items) here (subst (λ (u : List External). AreOf mode u p.function p.frame p.items) h.1.0.1 own)
+does_at mode tree from (suc f) (p ∷ ps) h lt =
     let here : suc from + f ≡ from + suc f = omega arith in
-    subst (λ g. AreOf tree g (get_or (all_items ps) f [])) here (does_at tree (suc from) f ps h.2 (omega arith))
+    subst (λ g. AreOf mode tree g (get_or (all_frames ps) f 0) (get_or (all_items ps) f [])) here (does_at mode tree (suc from) f ps h.2 (omega arith))
 
-pub bodies_are : (tree : List External) (ps : List Piece) → AreOfTree tree ps → All IsPieceOfUnit ps → missing ps 0 (length (functions tree)) ≡ None → (f : ℕ) → f < length (functions tree) → AreOf tree f (get_or (bodies tree ps) f [])
-bodies_are tree ps t k e f lt =
+pub bodies_are : (mode : Mode) (tree : List External) (ps : List Piece) → AreOfTree mode tree ps → All IsPieceOfUnit ps → missing ps 0 (length (functions tree)) ≡ None → (f : ℕ) → f < length (functions tree)
+    → AreOf mode tree f (get_or (frames tree ps) f 0) (get_or (bodies tree ps) f [])
+bodies_are mode tree ps t k e f lt =
     let here : 0 + f ≡ f = omega arith in
     let long = order_long ps 0 (length (functions tree)) e in
-    subst (λ g. AreOf tree g (get_or (bodies tree ps) f [])) here (does_at tree 0 f (ordered tree ps) (ordered_each (IsOfTree tree) ps (each_of tree ps t k) 0 (length (functions tree)) e) (omega (arith, long, lt)))
+    subst (λ g. AreOf mode tree g (get_or (frames tree ps) f 0) (get_or (bodies tree ps) f [])) here (does_at mode tree 0 f (ordered tree ps) (ordered_each (IsOfTree mode tree) ps (each_of mode tree ps t k) 0 (length (functions tree)) e) (omega (arith, long, lt)))
 
 pub small : (fs : List (List PieceItem)) → too_large fs ≡ None → code_words fs ≤ most_code
 small fs e = by (nat_lt most_code (code_words fs)) refl e
@@ -141,21 +159,53 @@ small fs e = by (nat_lt most_code (code_words fs)) refl e
 
 -- ---- the law
 
+-- an image that agrees in a mode agrees
+agreement_of : CheckedFollows → (mode : Mode) (text : List ℕ) (image : Image) → AgreementIn mode text image → Agreement text image
+agreement_of law Plain text image a = record { tree = a.tree; spelled = a.spelled; typed = a.typed; follows = λ input are. a.follows input are }
+agreement_of law Checked text image a = record {
+  tree = a.tree;
+  spelled = a.spelled;
+  typed = a.typed;
+  follows = λ input are. law (source_with text a.tree) input (image_behavior image input) (a.follows input are);
+}
+
+pub agree_in_agree : CheckedFollows → AgreeInAgree
+agree_in_agree law mode text image a = ∥∥₁_map a (agreement_of law mode text image)
+
 module _ (tokens : TokensAreOne) (trees : TreesAreOne) (meanings : TypedUnitsHaveMeanings) (mains : TypedUnitsHaveMain) (programs : ProgramsAreNumbered) (sized : ObjectsAreSized)
     (constants : (text : List ℕ) (tree : List External) → SpellsText text tree → AllKept (objects tree)) where
-  pub units_agree : LinkedUnitsAgree
-  units_agree s pieces u spelled checked all e =
-      let n = not_refused (link_refusal s pieces) (unit_of s pieces) u e in
-      let a = none_or (stranger s.text 0 pieces) _ n.0 in
+  pub units_follow : LinkedUnitsFollow
+  units_follow mode s pieces u spelled checked all e =
+      let n = not_refused (link_refusal mode s pieces) (unit_of s pieces) u e in
+      let a = none_or (stranger mode s.text 0 pieces) _ n.0 in
       let b = none_or (doubled [] 0 pieces) _ a.1 in
       let c = none_or (missing pieces 0 (length (functions s.externals))) _ b.1 in (
         ap (λ (v : StoredUnit). v.source) (sym n.1),
-        subst (λ (v : StoredUnit). Agree s.text v.image) n.1
-            (∥∥₁_elim spelled ∥∥₁_prop (λ (h : SpellsText s.text s.externals). ∥∥₁_map (one_tree tokens trees s.text s.externals h pieces (one_text s.text 0 pieces a.0)) (λ (t : AreOfTree s.externals pieces). record {
+        subst (λ (v : StoredUnit). AgreeIn mode s.text v.image) n.1
+            (∥∥₁_elim spelled ∥∥₁_prop (λ (h : SpellsText s.text s.externals). ∥∥₁_map (one_tree tokens trees mode s.text s.externals h pieces (one_text mode s.text 0 pieces a.0)) (λ (t : AreOfTree mode s.externals pieces). record {
               tree = s.externals;
               spelled = h;
               typed = checked.typed;
-              follows = unit_agrees meanings mains programs sized s.text s.externals checked.typed checked.limits (constants s.text s.externals h) (bodies s.externals pieces) (bodies_long s.externals pieces c.0)
-                  (small (bodies s.externals pieces) c.1) (bodies_are s.externals pieces t all c.0);
+              follows = unit_follows meanings mains programs sized mode s.text s.externals checked.typed checked.limits (constants s.text s.externals h) (frames s.externals pieces) (bodies s.externals pieces) (bodies_long s.externals pieces c.0)
+                  (small (bodies s.externals pieces) c.1) (bodies_are mode s.externals pieces t all c.0);
             }))),
       )
+
+  pub units_agree : CheckedFollows → LinkedUnitsAgree
+  units_agree law s pieces u spelled checked all e = let h = units_follow Plain s pieces u spelled checked all e in (h.0, agree_in_agree law Plain s.text u.image h.1)
+
+  -- on a board with the stack that it takes
+  pub units_are_backed : LinkedUnitsAreBacked
+  units_are_backed mode s pieces u spelled checked all e bytes enough few =
+      let n = not_refused (link_refusal mode s pieces) (unit_of s pieces) u e in
+      let a = none_or (stranger mode s.text 0 pieces) _ n.0 in
+      let b = none_or (doubled [] 0 pieces) _ a.1 in
+      let c = none_or (missing pieces 0 (length (functions s.externals))) _ b.1 in
+      subst (λ (v : StoredUnit). ∥ BackedAgreement mode s.text bytes v.image ∥₁) n.1
+      (∥∥₁_elim spelled ∥∥₁_prop (λ (h : SpellsText s.text s.externals). ∥∥₁_map (one_tree tokens trees mode s.text s.externals h pieces (one_text mode s.text 0 pieces a.0)) (λ (t : AreOfTree mode s.externals pieces). record {
+        tree = s.externals;
+        spelled = h;
+        typed = checked.typed;
+        follows = λ input are. unit_backed meanings mains programs sized mode s.text s.externals checked.typed checked.limits (constants s.text s.externals h) (frames s.externals pieces) (bodies s.externals pieces) (bodies_long s.externals pieces c.0)
+            (small (bodies s.externals pieces) c.1) (bodies_are mode s.externals pieces t all c.0) bytes enough few input are;
+      })))

@@ -1,31 +1,28 @@
 -- One piece more that is gone over.
-use Rattle.std.proofs.Common.{◌≡◌, ℕ, zero, suc, ◌+◌, ◌<◌, ◌≤◌, ◌⊎◌, inl, inr, Bool, true, false, not, if◌then◌else◌, List, [], ◌∷◌, length, get_or, drop, Some, refl, sym, ap, ◌∙◌, subst, arith}
+use Rattle.std.proofs.Common.{◌≡◌, ℕ, zero, suc, ◌+◌, ◌<◌, ◌≤◌, ◌⊎◌, inl, inr, true, if◌then◌else◌, List, [], ◌∷◌, length, get_or, drop, Some, refl, sym, ap, ◌∙◌, subst, arith}
 use Rattle.std.proofs.lemmas.Bool.{cases_lt}
 use Rattle.std.proofs.lemmas.List.{drop_more}
 use Rattle.std.specs.Borrow.{Bor}
 use Rattle.cc_ast.specs.Source.{source}
 use Rattle.cc_ast.specs.declared.unit.Unit as parsed
+use Rattle.cc_c_laws.specs.declared.mode.Mode.{Mode}
 use Rattle.cc_ast.specs.Parse.{SpellsText}
 use Rattle.cc_types.specs.Checked.{IsChecked}
 use Rattle.cc_emit.specs.Piece.{Piece, IsPieceOfUnit}
 use Rattle.cc_link.specs.Made.{IsCompiled}
 use Rattle.cc_link.specs.declared.fault.LinkFault.TheVariants.{Stranger}
-use Rattle.cc_link.specs.Linked.{same_bytes, stranger, lent_pieces}
+use Rattle.cc_link.specs.Linked.{is_own, stranger, lent_pieces}
 
-not_false : (b : Bool) → false ≡ not b → b ≡ true
-not_false true e = refl
-not_false false e = e
-
--- a piece of the text is no stranger
-pub stranger_next : (text x : List ℕ) (at : ℕ) (pieces : List (Bor Piece)) (d : Bor Piece) → at < length pieces → d ≡ get_or pieces at d → x ≡ (source d.now.unit).text → false ≡ not (same_bytes x text)
-    → stranger text at (lent_pieces (drop at pieces)) ≡ stranger text (at + 1) (lent_pieces (drop (at + 1) pieces))
-stranger_next text x at pieces d lt is same e =
+-- a piece of the text and in the mode is no stranger
+pub stranger_next : (mode : Mode) (text : List ℕ) (at : ℕ) (pieces : List (Bor Piece)) (d : Bor Piece) → at < length pieces → d ≡ get_or pieces at d → is_own mode text d.now ≡ true
+    → stranger mode text at (lent_pieces (drop at pieces)) ≡ stranger mode text (at + 1) (lent_pieces (drop (at + 1) pieces))
+stranger_next mode text at pieces d lt is e =
     let rest : List Piece = lent_pieces (drop (at + 1) pieces) in
     let split : drop at pieces ≡ d ∷ drop (at + 1) pieces = drop_more pieces at d lt ∙ ap (λ (b : Bor Piece). b ∷ drop (at + 1) pieces) (sym is) in
     let one : suc at ≡ at + 1 = omega arith in
-    ap (λ (ps : List (Bor Piece)). stranger text at (lent_pieces ps)) split
-    ∙ ap (λ b. if b then stranger text (suc at) rest else Some (Stranger d.now.function at)) (ap (λ t. same_bytes t text) (sym same) ∙ not_false (same_bytes x text) e)
-    ∙ ap (λ n. stranger text n rest) one
+    ap (λ (ps : List (Bor Piece)). stranger mode text at (lent_pieces ps)) split
+    ∙ ap (λ b. if b then stranger mode text (suc at) rest else Some (Stranger d.now.function at)) e
+    ∙ ap (λ n. stranger mode text n rest) one
 
 lent_at : (pieces : List (Bor Piece)) (i : ℕ) (x : Bor Piece) (d : Piece) → i < length pieces → get_or (lent_pieces pieces) i d ≡ (get_or pieces i x).now
 lent_at [] i x d lt = absurd (omega arith)

@@ -6,13 +6,15 @@ use Rattle.std.specs.Cmp.Lexicographic.{other_text}
 use Rattle.cc_ast.specs.Tree.{Source}
 use Rattle.cc_ast.specs.Source.{source}
 use Rattle.cc_c_laws.specs.Meaning.{functions}
+use Rattle.cc_c_laws.specs.declared.mode.Mode.{Mode}
+use Rattle.cc_c_laws.specs.declared.mode.Mode.TheVariants.{Plain, Checked}
 use Rattle.cc_unit.specs.declared.unit.StoredUnit.{StoredUnit}
 use Rattle.cc_emit.specs.Piece.{Piece}
 use Rattle.cc_link.specs.declared.fault.LinkFault.{LinkFault}
 use Rattle.cc_link.specs.declared.fault.LinkFault.TheVariants.{ImageTooLarge, Missing, Doubled, Stranger}
 use Rattle.cc_link.specs.Link.{code_words, most_code}
-use Rattle.cc_link.specs.Linked.{same_bytes, stranger, is_among, doubled, piece_of, missing, bodies, too_large, link_refusal, unit_of, unless_refused, linked}
-use Rattle.cc_link.specs.Pieces.{AreFrom}
+use Rattle.cc_link.specs.Linked.{same_bytes, same_mode, stranger, is_among, doubled, piece_of, missing, bodies, too_large, link_refusal, unit_of, unless_refused, linked_in}
+use Rattle.cc_link.specs.Pieces.{AreFromIn}
 
 pub same_itself : (x : List ℕ) → same_bytes x x ≡ true
 same_itself x = by (same_bytes x x) refl
@@ -21,10 +23,16 @@ same_itself x = by (same_bytes x x) refl
     by true e = refl
     by false e = absurd (other_text x x (sym e) refl)
 
-pub no_stranger : (text : List ℕ) (at from : ℕ) (ps : List Piece) → AreFrom text from ps → stranger text at ps ≡ None
-no_stranger text at from [] h = refl
-no_stranger text at from (p ∷ ps) h =
-    ap (λ b. if b then stranger text (suc at) ps else Some (Stranger p.function at)) (ap (λ t. same_bytes t text) h.0 ∙ same_itself text) ∙ no_stranger text (suc at) (suc from) ps h.2
+mode_itself : (m : Mode) → same_mode m m ≡ true
+mode_itself Plain = refl
+mode_itself Checked = refl
+
+pub no_stranger : (mode : Mode) (text : List ℕ) (at from : ℕ) (ps : List Piece) → AreFromIn mode text from ps → stranger mode text at ps ≡ None
+no_stranger mode text at from [] h = refl
+no_stranger mode text at from (p ∷ ps) h =
+    ap (λ b. if b then stranger mode text (suc at) ps else Some (Stranger p.function at))
+    (ap (λ m. if same_mode m mode then same_bytes (source p.unit).text text else false) h.0.0 ∙ ap (λ b. if b then same_bytes (source p.unit).text text else false) (mode_itself mode) ∙ ap (λ t. same_bytes t text) h.0.1 ∙ same_itself text)
+    ∙ no_stranger mode text (suc at) (suc from) ps h.2
 
 among_more : (gs : List ℕ) (x g : ℕ) → is_among (gs ++ x ∷ []) g ≡ true → (is_among gs g ≡ true) ⊎ (x ≡ g)
 among_more [] x g e = by (x == g) refl e
@@ -38,9 +46,9 @@ among_more (h ∷ gs) x g e = by (h == g) (among_more gs x g) e
     by true again e = inl refl
     by false again e = again e
 
-pub none_doubled : (text before : List ℕ) (at from : ℕ) (ps : List Piece) → ((g : ℕ) → is_among before g ≡ true → g < from) → AreFrom text from ps → doubled before at ps ≡ None
-none_doubled text before at from [] below h = refl
-none_doubled text before at from (p ∷ ps) below h = by (is_among before p.function) refl (λ lower. none_doubled text (before ++ p.function ∷ []) (suc at) (suc from) ps lower h.2)
+pub none_doubled : (mode : Mode) (text before : List ℕ) (at from : ℕ) (ps : List Piece) → ((g : ℕ) → is_among before g ≡ true → g < from) → AreFromIn mode text from ps → doubled before at ps ≡ None
+none_doubled mode text before at from [] below h = refl
+none_doubled mode text before at from (p ∷ ps) below h = by (is_among before p.function) refl (λ lower. none_doubled mode text (before ++ p.function ∷ []) (suc at) (suc from) ps lower h.2)
   where
     one_of : (g : ℕ) → (is_among before g ≡ true) ⊎ (p.function ≡ g) → g < suc from
     one_of g (inl e) = let lt = below g e in omega arith
@@ -51,9 +59,9 @@ none_doubled text before at from (p ∷ ps) below h = by (is_among before p.func
     by true e again = absurd (let lt = below p.function e in let f : p.function ≡ from = h.1 in omega arith)
     by false e again = again (λ g f. one_of g (among_more before p.function g f))
 
-there : (text : List ℕ) (from f : ℕ) (ps : List Piece) → AreFrom text from ps → from ≤ f → f < from + length ps → is_some (piece_of ps f) ≡ true
-there text from f [] h low high = absurd (omega arith)
-there text from f (p ∷ ps) h low high = by (p.function == f) refl (cases_lt from f) (λ lt. there text (suc from) f ps h.2 lt (omega arith))
+there : (mode : Mode) (text : List ℕ) (from f : ℕ) (ps : List Piece) → AreFromIn mode text from ps → from ≤ f → f < from + length ps → is_some (piece_of ps f) ≡ true
+there mode text from f [] h low high = absurd (omega arith)
+there mode text from f (p ∷ ps) h low high = by (p.function == f) refl (cases_lt from f) (λ lt. there mode text (suc from) f ps h.2 lt (omega arith))
   where
     by : (b : Bool) → (p.function == f) ≡ b → (from < f) ⊎ (f ≤ from) → (from < f → is_some (piece_of ps f) ≡ true) → is_some (if b then Some p else piece_of ps f) ≡ true
     by true e order again = refl
@@ -70,18 +78,18 @@ only_fault s ps f true e = let h : ◌≡◌ {A = Result StoredUnit LinkFault} (
 only_fault s ps f false e = absurd (let h : ◌≡◌ {A = Result StoredUnit LinkFault} (Ok (unit_of s ps)) (Err f) = e in cc)
 
 -- of the refusals of linking only 25 is left
-pub only_large : (s : Source) (ps : List Piece) (f : LinkFault) → AreFrom s.text 0 ps → length ps ≡ length (functions s.externals) → linked s ps ≡ Err f → f ≡ ImageTooLarge
-only_large s ps f h count e =
+pub only_large : (mode : Mode) (s : Source) (ps : List Piece) (f : LinkFault) → AreFromIn mode s.text 0 ps → length ps ≡ length (functions s.externals) → linked_in mode s ps ≡ Err f → f ≡ ImageTooLarge
+only_large mode s ps f h count e =
     let n = length (functions s.externals) in
-    let a = no_stranger s.text 0 0 ps h in
-    let b = none_doubled s.text [] 0 0 ps (λ g i. absurd (let d : false ≡ true = i in cc)) h in
-    let c = none_left ps 0 n (λ g low high. there s.text 0 g ps h low (omega arith)) in
-    let is : link_refusal s ps ≡ too_large (bodies s.externals ps) =
+    let a = no_stranger mode s.text 0 0 ps h in
+    let b = none_doubled mode s.text [] 0 0 ps (λ g i. absurd (let d : false ≡ true = i in cc)) h in
+    let c = none_left ps 0 n (λ g low high. there mode s.text 0 g ps h low (omega arith)) in
+    let is : link_refusal mode s ps ≡ too_large (bodies s.externals ps) =
     ap (λ o. option_or o (option_or (doubled [] 0 ps) (option_or (missing ps 0 n) (too_large (bodies s.externals ps))))) a
     ∙ ap (λ o. option_or o (option_or (missing ps 0 n) (too_large (bodies s.externals ps)))) b ∙ ap (λ o. option_or o (too_large (bodies s.externals ps))) c in
     only_fault s ps f (nat_lt most_code (code_words (bodies s.externals ps))) (sym (ap (λ o. unless_refused o (unit_of s ps)) is) ∙ e)
 
 -- one piece more
-pub one_from : (text : List ℕ) (from : ℕ) (ps : List Piece) (p : Piece) → AreFrom text from ps → (source p.unit).text ≡ text → p.function ≡ from + length ps → AreFrom text from (ps ++ p ∷ [])
-one_from text from [] p h e f = (e, omega arith, tt)
-one_from text from (q ∷ ps) p h e f = (h.0, h.1, one_from text (suc from) ps p h.2 e (omega arith))
+pub one_from : (mode : Mode) (text : List ℕ) (from : ℕ) (ps : List Piece) (p : Piece) → AreFromIn mode text from ps → p.mode ≡ mode → (source p.unit).text ≡ text → p.function ≡ from + length ps → AreFromIn mode text from (ps ++ p ∷ [])
+one_from mode text from [] p h m e f = ((m, e), omega arith, tt)
+one_from mode text from (q ∷ ps) p h m e f = (h.0, h.1, one_from mode text (suc from) ps p h.2 m e (omega arith))

@@ -13,8 +13,9 @@ use Rattle.cc_simulation.specs.World.{World}
 use Rattle.cc_simulation.specs.Meaning.{Meaning}
 use Rattle.cc_emit.specs.declared.item.PieceItem.{PieceItem}
 use Rattle.cc_emit.specs.declared.item.PieceItem.TheVariants.{Plain, Call, Go}
-use Rattle.cc_emit.specs.Contract.{ObjectLayout, filled, Placed, IsPlace, PieceMeets, Enters, Meets, IsFit, AreFit, IsPiece}
+use Rattle.cc_emit.specs.Contract.{ObjectLayout, filled, Placed, IsEnough, IsPlace, PieceMeets, Enters, Meets, IsFit, AreFit, IsPiece}
 use Rattle.cc_link.specs.Link.{fill, fill_all, size_of, head, place_of, linked_code, encoded}
+use Rattle.cc_link.proofs.Machine.{Stack, on_stack}
 use Rattle.cc_link.proofs.CallsMeet.{Pieces, slower_piece, power, calls_meet}
 
 fetch_at : (code : List ℕ) (k : ℕ) → instruction_at code (0x10000 + 4 * k) ≡ option_and_then instruction_of (slice_get code k)
@@ -60,15 +61,15 @@ pub length_fill : (places : ℕ → ℕ) (place a : ℕ) (xs : List PieceItem) �
 length_fill places place a [] = refl
 length_fill places place a (x ∷ xs) = ap suc (length_fill places place (a + 4) xs)
 
-pub placed_behind : (code : List Instr) (places : ℕ → ℕ) (place : ℕ) (prefix : List Instr) (items : List PieceItem) (back : List Instr) (a : ℕ) → code ≡ prefix ++ (fill places place a items ++ back) → a ≡ 0x10000 + 4 * length prefix → AreEncodable places place a items → Placed (instruction_at (encoded code)) places place a items
-placed_behind code places place prefix [] back a e at fit = tt
-placed_behind code places place prefix (x ∷ items) back a e at fit =
+pub placed_behind : (stack : Stack) (code : List Instr) (places : ℕ → ℕ) (place : ℕ) (prefix : List Instr) (items : List PieceItem) (back : List Instr) (a : ℕ) → code ≡ prefix ++ (fill places place a items ++ back) → a ≡ 0x10000 + 4 * length prefix → AreEncodable places place a items → Placed (on_stack stack (instruction_at (encoded code))) places place a items
+placed_behind stack code places place prefix [] back a e at fit = tt
+placed_behind stack code places place prefix (x ∷ items) back a e at fit =
     let y = filled places place a x in
     let more = prefix ++ (y ∷ []) in
     let g : prefix ++ (y ∷ (fill places place (a + 4) items ++ back)) ≡ more ++ (fill places place (a + 4) items ++ back) = sym (append_assoc prefix (y ∷ []) (fill places place (a + 4) items ++ back)) in
     let n : length more ≡ length prefix + 1 = length-append prefix (y ∷ []) in (
       ap (instruction_at (encoded code)) at ∙ fetch_at (encoded code) (length prefix) ∙ ap (λ c. option_and_then instruction_of (slice_get (encoded c) (length prefix))) e ∙ worded prefix y (fill places place (a + 4) items ++ back) fit.0,
-      placed_behind code places place more items back (a + 4) (e ∙ g) (omega arith) fit.1,
+      placed_behind stack code places place more items back (a + 4) (e ∙ g) (omega arith) fit.1,
     )
 
 -- one piece within all
@@ -102,7 +103,8 @@ room_of [] f lt = absurd (omega arith)
 room_of (p ∷ ps) zero lt = omega arith
 room_of (p ∷ ps) (suc f) lt = let r = room_of ps f (omega arith) in omega arith
 
-module _ (meaning : Meaning) (layout : ObjectLayout meaning.objects) (main : ℕ) (pieces : List (List PieceItem)) (is_function : main < meaning.functions) (count : length pieces ≡ meaning.functions) (fits : 3 + size_of pieces ≤ 131072) (all : (f : ℕ) → f < meaning.functions → IsPiece meaning layout f (get_or pieces f [])) where
+module _ (meaning : Meaning) (layout : ObjectLayout meaning.objects) (main : ℕ) (pieces : List (List PieceItem)) (is_function : main < meaning.functions) (count : length pieces ≡ meaning.functions) (fits : 3 + size_of pieces ≤ 131072)
+    (stack : Stack) (frames : ℕ → ℕ) (all : (f : ℕ) → f < meaning.functions → IsPiece meaning layout f (frames f) (get_or pieces f [])) (enough : (f : ℕ) → f < meaning.functions → IsEnough stack.need f (frames f) (get_or pieces f [])) where
   abbrev code : List Instr
   code = linked_code main pieces
 
@@ -117,7 +119,7 @@ module _ (meaning : Meaning) (layout : ObjectLayout meaning.objects) (main : ℕ
   piece_encodable : (f : ℕ) → f < meaning.functions → AreEncodable (place_of pieces) (place_of pieces f) (place_of pieces f) (get_or pieces f [])
   piece_encodable f lt = items_encodable meaning.functions (length (get_or pieces f [])) (place_of pieces f) (place_of pieces) from (from f lt) (to f lt) (get_or pieces f []) 0 (place_of pieces f) (omega arith) (omega arith) (all f lt).fit
 
-  placed : (f : ℕ) → f < meaning.functions → Placed (instruction_at (encoded code)) (place_of pieces) (place_of pieces f) (place_of pieces f) (get_or pieces f [])
+  placed : (f : ℕ) → f < meaning.functions → Placed (on_stack stack (instruction_at (encoded code))) (place_of pieces) (place_of pieces f) (place_of pieces f) (get_or pieces f [])
   unfolding place_of
   placed f lt =
       let places = place_of pieces in
@@ -126,7 +128,7 @@ module _ (meaning : Meaning) (layout : ObjectLayout meaning.objects) (main : ℕ
       let first = fill places 0x10000 0x10000 (head main) in
       let n = length-append first s.prefix in
       let k = length_fill places 0x10000 0x10000 (head main) in
-      placed_behind code places _ (first ++ s.prefix) (get_or pieces f []) s.back _ (ap (λ l. first ++ l) s.is ∙ sym (append_assoc first s.prefix _)) (omega arith) (piece_encodable f lt)
+      placed_behind stack code places _ (first ++ s.prefix) (get_or pieces f []) s.back _ (ap (λ l. first ++ l) s.is ∙ sym (append_assoc first s.prefix _)) (omega arith) (piece_encodable f lt)
 
   head_place : (k : ℕ) → k < 4 → IsPlace (0x10000 + 4 * k)
   head_place k lt = record { aligned = omega arith; from = omega arith; to = omega arith }
@@ -134,17 +136,17 @@ module _ (meaning : Meaning) (layout : ObjectLayout meaning.objects) (main : ℕ
   head_encodable : AreEncodable (place_of pieces) 0x10000 0x10000 (head main)
   head_encodable = items_encodable meaning.functions 3 0x10000 (place_of pieces) from (head_place 0 (omega arith)) (head_place 3 (omega arith)) (head main) 0 0x10000 refl refl (is_function, ((omega arith, omega arith, (omega arith, omega arith)), (tt, tt)))
 
-  pub begins : Placed (instruction_at (encoded code)) (place_of pieces) 0x10000 0x10000 (head main)
-  begins = placed_behind code (place_of pieces) 0x10000 [] (head main) (fill_all (place_of pieces) 0x1000c pieces) 0x10000 refl (omega arith) head_encodable
+  pub begins : Placed (on_stack stack (instruction_at (encoded code))) (place_of pieces) 0x10000 0x10000 (head main)
+  begins = placed_behind stack code (place_of pieces) 0x10000 [] (head main) (fill_all (place_of pieces) 0x1000c pieces) 0x10000 refl (omega arith) head_encodable
 
-  common_at : (k a b f : ℕ) → (f < k) ⊎ (k ≤ f) → f < suc k → ((f : ℕ) → f < k → PieceMeets meaning layout f a (get_or pieces f [])) → PieceMeets meaning layout k b (get_or pieces k []) → PieceMeets meaning layout f (a + b) (get_or pieces f [])
-  common_at k a b f (inl less) lt g h = slower_piece meaning layout f a (a + b) (get_or pieces f []) (omega arith) (g f less)
+  common_at : (k a b f : ℕ) → (f < k) ⊎ (k ≤ f) → f < suc k → ((f : ℕ) → f < k → PieceMeets meaning layout f (frames f) a (get_or pieces f [])) → PieceMeets meaning layout k (frames k) b (get_or pieces k []) → PieceMeets meaning layout f (frames f) (a + b) (get_or pieces f [])
+  common_at k a b f (inl less) lt g h = slower_piece meaning layout f (frames f) a (a + b) (get_or pieces f []) (omega arith) (g f less)
   common_at k a b f (inr le) lt g h =
       let e : k ≡ f = omega arith in
-      subst (λ x. PieceMeets meaning layout x (a + b) (get_or pieces x [])) e (slower_piece meaning layout k b (a + b) (get_or pieces k []) (omega arith) h)
+      subst (λ x. PieceMeets meaning layout x (frames x) (a + b) (get_or pieces x [])) e (slower_piece meaning layout k (frames k) b (a + b) (get_or pieces k []) (omega arith) h)
 
   -- one rate for all
-  common : (k : ℕ) → ((f : ℕ) → f < k → IsPiece meaning layout f (get_or pieces f [])) → (rate : ℕ) × ((f : ℕ) → f < k → PieceMeets meaning layout f rate (get_or pieces f []))
+  common : (k : ℕ) → ((f : ℕ) → f < k → IsPiece meaning layout f (frames f) (get_or pieces f [])) → (rate : ℕ) × ((f : ℕ) → f < k → PieceMeets meaning layout f (frames f) rate (get_or pieces f []))
   common zero h = (0, λ f lt. absurd (omega arith))
   common (suc k) h =
       let less = common k (λ f lt. h f (omega arith)) in
@@ -152,8 +154,8 @@ module _ (meaning : Meaning) (layout : ObjectLayout meaning.objects) (main : ℕ
       (less.0 + last.rate, λ f lt. common_at k less.0 last.rate f (cases_lt f k) lt less.1 last.meets)
 
   -- wherever main is entered with no other call open, the machine does what the source's call of main does
-  pub linked_meets : (rate : ℕ) × ((h : World) (s : State) (n : ℕ) → Enters meaning layout main 0 (place_of pieces main) [] h s → Meets layout (instruction_at (encoded (linked_code main pieces))) (power rate 1024) (power rate 1024) n s (meaning.call n 0 main [] h))
+  pub linked_meets : (rate : ℕ) × ((h : World) (s : State) (n : ℕ) → Enters meaning layout (on_stack stack (instruction_at (encoded (linked_code main pieces)))) main 0 (place_of pieces main) [] h s → Meets layout (on_stack stack (instruction_at (encoded (linked_code main pieces)))) (power rate 1024) (power rate 1024) n s (meaning.call n 0 main [] h))
   linked_meets =
       let rate = common meaning.functions all in
-      let made : Pieces meaning layout rate.0 (instruction_at (encoded code)) (place_of pieces) = record { items = λ f. get_or pieces f []; meets = rate.1; placed = placed; from = from; to = to } in
-      (rate.0, λ h s n enters. calls_meet meaning layout rate.0 (instruction_at (encoded code)) (place_of pieces) made 1024 0 (omega arith) main [] h s n is_function enters)
+      let made : Pieces meaning layout rate.0 (on_stack stack (instruction_at (encoded code))) (place_of pieces) = record { items = λ f. get_or pieces f []; frames = frames; enough = enough; meets = rate.1; placed = placed; from = from; to = to } in
+      (rate.0, λ h s n enters. calls_meet meaning layout rate.0 (on_stack stack (instruction_at (encoded code))) (place_of pieces) made 1024 0 (omega arith) main [] h s n is_function enters)

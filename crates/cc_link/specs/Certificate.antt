@@ -6,6 +6,7 @@ use Rattle.cc_ltl.specs.Ltl.{Ltl, IsLtl}
 use Rattle.cc_ltl.specs.Bytes.{word_bytes, ltl_bytes}
 use Rattle.cc_ast.specs.Tree.{External}
 use Rattle.cc_linear_language.specs.Pair.{LtlKeepsUp}
+use Rattle.cc_c_laws.specs.declared.mode.Mode.{Mode}
 
 -- how many bytes the LTL of a function takes, and these
 abbrev pub ltl_field : Ltl → List ℕ
@@ -28,5 +29,5 @@ pub record SpellsAll (bytes : List ℕ) (functions : ℕ) : Type 0 where
   pub spelled : bytes ≡ certificate_of ltls
 
 -- the run of each of these functions of LTL keeps up with the function of the unit that has its number
-abbrev pub EachKeepsUp : List External → List Ltl → Type 0
-EachKeepsUp unit ltls = (f : ℕ) (ltl : Ltl) → slice_get ltls f ≡ Some ltl → LtlKeepsUp unit f ltl
+abbrev pub EachKeepsUpIn : Mode → List External → List Ltl → Type 0
+EachKeepsUpIn mode unit ltls = (f : ℕ) (ltl : Ltl) → slice_get ltls f ≡ Some ltl → LtlKeepsUp mode unit f ltl

@@ -3,16 +3,17 @@ use Rattle.std.specs.Prelude.{◌≡◌, ℕ, ◌<◌, ◌⊎◌, List, length, 
 use Rattle.cc_tokens.specs.declared.place.Place.{Place}
 use Rattle.cc_ast.specs.Tree.{Name, External}
 use Rattle.cc_ast.specs.Source.{source}
-use Rattle.cc_ast.specs.Grammar.{Measured, SpellsExternal}
 use Rattle.cc_types.specs.Limits.{function_names}
-use Rattle.cc_types.specs.Typed.{definitions}
 use Rattle.cc_types.specs.Verdict.{source_with}
 use Rattle.cc_c_laws.specs.Meaning.{functions}
+use Rattle.cc_c_laws.specs.declared.mode.Mode.{Mode}
+use Rattle.cc_c_laws.specs.declared.mode.Mode.TheVariants.{Plain}
+use Rattle.cc_mode.specs.Long.{IsLongIn}
 use Rattle.cc_emit.specs.Piece as emit
 use Rattle.cc_link.specs.Fault.{link_fault_number}
-use Rattle.cc_link.specs.Linked.{linked}
+use Rattle.cc_link.specs.Linked.{linked_in}
 use Rattle.cc_link.specs.Made.{IsCompiled}
-use Rattle.cc_link.specs.Pieces.{AreFrom}
+use Rattle.cc_link.specs.Pieces.{AreFromIn}
 use Rattle.cc_link.specs.Text.{IsProgramText, IsTextRefusal, text_fault_number, text_fault_place}
 use Rattle.cc_link.specs.declared.fault.LinkFault.TheVariants as link
 use Rattle.cc_link.specs.declared.piece_fault.PieceFault.{PieceFault}
@@ -43,51 +44,55 @@ build_fault_place (Link f) = None
 abbrev pub IsNameAt : List External → (function at count : ℕ) → Type 0
 IsNameAt unit f at count = (name : Name) × (slice_get (function_names unit) f ≡ Some name) × (at ≡ name.at) × (count ≡ length name.text)
 
--- its definition has more than 256 tokens
-abbrev pub IsLong : List External → (function : ℕ) → Type 0
-IsLong unit f = (definition : External) → slice_get (definitions unit) f ≡ Some definition → (tokens : List Measured) → SpellsExternal tokens definition → 256 < length tokens
+abbrev pub IsPieceRefusalIn : Mode → List External → (function : ℕ) → PieceFault → Type 0
+IsPieceRefusalIn mode unit f (piece.FunctionTooLarge at count) = IsNameAt unit f at count × IsLongIn mode unit f
+IsPieceRefusalIn mode unit f (piece.Unvalidated at count label) = IsNameAt unit f at count
+IsPieceRefusalIn mode unit f piece.OutOfMemory = Unit {0}
 
 abbrev pub IsPieceRefusal : List External → (function : ℕ) → PieceFault → Type 0
-IsPieceRefusal unit f (piece.FunctionTooLarge at count) = IsNameAt unit f at count × IsLong unit f
-IsPieceRefusal unit f (piece.Unvalidated at count label) = IsNameAt unit f at count
-IsPieceRefusal unit f piece.OutOfMemory = Unit {0}
+IsPieceRefusal unit f fault = IsPieceRefusalIn Plain unit f fault
 
 -- ---- why a text has no image
 
--- the text is a program's, and the fault names this function of it: one of more than 256 tokens for 22, any for 24, where nothing says that
--- it has no piece
-pub record IsBlamed (text : List ℕ) (function : ℕ) (fault : PieceFault) : Type 0 where
+-- the text is a program's, and the fault names this function of it: one of more than 256 tokens for 22 (177 for a checked piece), any for 24,
+-- where nothing says that it has no piece
+pub record IsBlamedIn (mode : Mode) (text : List ℕ) (function : ℕ) (fault : PieceFault) : Type 0 where
   pub tree : List External
   pub is : IsProgramText text tree
   pub defined : function < length (functions tree)
-  pub refused : IsPieceRefusal tree function fault
+  pub refused : IsPieceRefusalIn mode tree function fault
 
--- this function of the text has a piece, with what its type and that of its unit keep
-pub record HasPiece (text : List ℕ) (function : ℕ) : Type 0 where
+-- this function of the text has a piece in the mode, with what its type and that of its unit keep
+pub record HasPieceIn (mode : Mode) (text : List ℕ) (function : ℕ) : Type 0 where
   pub piece : emit.Piece
   pub compiled : IsCompiled piece
+  pub mode_is : piece.mode ≡ mode
   pub text_is : (source piece.unit).text ≡ text
   pub function_is : piece.function ≡ function
 
 -- the text is a program's; the fault names one of its functions, and each function before it, in the order of their definitions, has a piece
-pub record IsFirstWithout (text : List ℕ) (fault : PieceFault) : Type 0 where
+pub record IsFirstWithoutIn (mode : Mode) (text : List ℕ) (fault : PieceFault) : Type 0 where
   pub function : ℕ
-  pub none : IsBlamed text function fault
-  pub earlier : (f : ℕ) → f < function → HasPiece text f
+  pub none : IsBlamedIn mode text function fault
+  pub earlier : (f : ℕ) → f < function → HasPieceIn mode text f
 
--- one piece of each function of a program, in their order, with what their types keep; together they make an image that is too large
-pub record IsTooLarge (text : List ℕ) : Type 0 where
+-- One piece of each function of a program, in their order, with what their types keep; together they make an image that is too large. Who made
+-- the pieces is not said, and one may be longer than what is emitted for its function: so tests alone show that 25 comes of none but large programs.
+pub record IsTooLargeIn (mode : Mode) (text : List ℕ) : Type 0 where
   pub tree : List External
   pub is : IsProgramText text tree
   pub pieces : List emit.Piece
   pub compiled : All IsCompiled pieces
-  pub own : AreFrom text 0 pieces
+  pub own : AreFromIn mode text 0 pieces
   pub count : length pieces ≡ length (functions tree)
-  pub refused : linked (source_with text tree) pieces ≡ Err link.ImageTooLarge
+  pub refused : linked_in mode (source_with text tree) pieces ≡ Err link.ImageTooLarge
 
 -- A text that is no program's is refused as one. Only a program has another fault: that of the first function without a piece; or, of
 -- linking's refusals, 25 alone, where pieces of all functions are refused so.
+abbrev pub IsBuildRefusalIn : Mode → List ℕ → BuildFault → Type 0
+IsBuildRefusalIn mode text (Text f) = IsTextRefusal text f
+IsBuildRefusalIn mode text (Piece f) = IsFirstWithoutIn mode text f
+IsBuildRefusalIn mode text (Link f) = (f ≡ link.OutOfMemory) ⊎ ((f ≡ link.ImageTooLarge) × IsTooLargeIn mode text)
+
 abbrev pub IsBuildRefusal : List ℕ → BuildFault → Type 0
-IsBuildRefusal text (Text f) = IsTextRefusal text f
-IsBuildRefusal text (Piece f) = IsFirstWithout text f
-IsBuildRefusal text (Link f) = (f ≡ link.OutOfMemory) ⊎ ((f ≡ link.ImageTooLarge) × IsTooLarge text)
+IsBuildRefusal text fault = IsBuildRefusalIn Plain text fault

@@ -4,26 +4,45 @@ use Rattle.cc_ast.specs.Tree.{External, Source}
 use Rattle.cc_ast.specs.Parse.{SpellsText}
 use Rattle.cc_types.specs.Checked.{IsChecked}
 use Rattle.cc_c_laws.specs.Meaning.{functions}
+use Rattle.cc_c_laws.specs.declared.mode.Mode.{Mode}
+use Rattle.cc_c_laws.specs.declared.mode.Mode.TheVariants.{Plain}
 use Rattle.cc_unit.specs.declared.unit.StoredUnit.{StoredUnit}
 use Rattle.cc_emit.specs.Piece.{Piece, IsPieceOfUnit}
-use Rattle.cc_link.specs.Agree.{Agree}
-use Rattle.cc_link.specs.Certificate.{SpellsAll, EachKeepsUp}
-use Rattle.cc_link.specs.Linked.{linked}
-use Rattle.cc_link.specs.Made.{IsMade}
+use Rattle.cc_link.specs.Agree.{Agree, AgreeIn}
+use Rattle.cc_link.specs.Certificate.{SpellsAll, EachKeepsUpIn}
+use Rattle.cc_link.specs.Linked.{linked, linked_in}
+use Rattle.cc_link.specs.Made.{IsMadeIn}
+use Rattle.cc_rv32.specs.declared.image.Image.{Image}
 
 -- the unit that pieces make for a checked unit has its text, and its image agrees with it
 abbrev pub LinkedUnitsAgree : Type 0
 LinkedUnitsAgree = (s : Source) (pieces : List Piece) (u : StoredUnit) → ∥ SpellsText s.text s.externals ∥₁ → IsChecked s → All IsPieceOfUnit pieces → linked s pieces ≡ Ok u
     → (u.source ≡ s.text) × Agree s.text u.image
 
+-- So in each mode: the unit that pieces make in the mode has its text, and on each input the run of its image follows what its program shows
+-- in the mode. Of checked pieces it follows `checked_behavior`.
+abbrev pub LinkedUnitsFollow : Type 0
+LinkedUnitsFollow = (mode : Mode) (s : Source) (pieces : List Piece) (u : StoredUnit) → ∥ SpellsText s.text s.externals ∥₁ → IsChecked s → All IsPieceOfUnit pieces → linked_in mode s pieces ≡ Ok u
+    → (u.source ≡ s.text) × AgreeIn mode s.text u.image
+
+-- an image that agrees with its text in a mode agrees with it
+abbrev pub AgreeInAgree : Type 0
+AgreeInAgree = (mode : Mode) (text : List ℕ) (image : Image) → AgreeIn mode text image → Agree text image
+
 -- the certificate of a unit that was made spells a function of LTL for each function of the unit's text, whose run keeps up with it
-pub record IsCertified (u : StoredUnit) : Type 0 where
+pub record IsCertifiedIn (mode : Mode) (u : StoredUnit) : Type 0 where
   pub tree : List External
   pub spelled : ∥ SpellsText u.source tree ∥₁
   pub certificate : List ℕ
   pub is : u.certificate ≡ Some certificate
   pub spells : SpellsAll certificate (length (functions tree))
-  pub keep_up : ∥ EachKeepsUp tree spells.ltls ∥₁
+  pub keep_up : ∥ EachKeepsUpIn mode tree spells.ltls ∥₁
+
+abbrev pub IsCertified : StoredUnit → Type 0
+IsCertified u = IsCertifiedIn Plain u
+
+abbrev pub UnitsAreCertifiedIn : Type 0
+UnitsAreCertifiedIn = (mode : Mode) (u : StoredUnit) → IsMadeIn mode u → IsCertifiedIn mode u
 
 abbrev pub MadeUnitsAreCertified : Type 0
-MadeUnitsAreCertified = (u : StoredUnit) → IsMade u → IsCertified u
+MadeUnitsAreCertified = (u : StoredUnit) → IsMadeIn Plain u → IsCertified u

@@ -10,12 +10,16 @@ pub mod Packed
 pub mod Certificate
 -- why pieces are refused, and else the unit that they make
 pub mod Linked
+-- how much stack an image takes, and that it agrees on a board that backs so much
+pub mod Stack
 -- that this unit agrees
 pub mod Laws
 -- whose pieces some pieces are
 pub mod Pieces
 -- what a compiled unit was made of
 pub mod Made
+-- what a text was compiled to, with what it was made of
+pub mod Whole
 -- what an audit says
 pub mod Audit
 -- the numbers of the faults

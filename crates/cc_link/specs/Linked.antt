@@ -1,12 +1,14 @@
 -- What linking comes to: why pieces are refused, and else the unit that they make.
 use Rattle.std.specs.Borrow.{Bor}
-use Rattle.std.specs.Prelude.{ℕ, zero, suc, map, ◌==◌, nat_eq, nat_lt, Bool, false, ◌||◌, if◌then◌else◌, List, [], ◌∷◌, ◌++◌, length, Option, Some, None, is_some, Result, Ok, Err}
+use Rattle.std.specs.Prelude.{ℕ, zero, suc, map, ◌==◌, nat_eq, nat_lt, Bool, true, false, ◌||◌, if◌then◌else◌, List, [], ◌∷◌, ◌++◌, length, Option, Some, None, is_some, Result, Ok, Err}
 use Rattle.std.specs.Option.{option_or}
 use Rattle.std.specs.Cmp.Lexicographic.{pointwise}
 use Rattle.cc_ast.specs.Tree.{External, Source}
 use Rattle.cc_ast.specs.Source.{source}
 use Rattle.cc_types.specs.Limits.{objects}
 use Rattle.cc_link.specs.Packed.{image_words}
+use Rattle.cc_c_laws.specs.declared.mode.Mode.{Mode}
+use Rattle.cc_c_laws.specs.declared.mode.Mode.TheVariants.{Plain, Checked}
 use Rattle.cc_c_laws.specs.Meaning.{functions}
 use Rattle.cc_c_laws.specs.Calls.{main_of}
 use Rattle.cc_rv32.specs.declared.image.Image.{Image}
@@ -29,10 +31,20 @@ lent_pieces pieces = map (λ (p : Bor Piece). p.now) pieces
 abbrev pub same_bytes : List ℕ → List ℕ → Bool
 same_bytes x y = pointwise nat_eq x y
 
--- 28: the first piece of a unit of another text; the first one of these is at `at` in the list
-abbrev pub stranger : (text : List ℕ) (at : ℕ) → List Piece → Option LinkFault
-stranger text at [] = None
-stranger text at (p ∷ ps) = if same_bytes (source p.unit).text text then stranger text (suc at) ps else Some (Stranger p.function at)
+-- the same mode
+abbrev pub same_mode : Mode → Mode → Bool
+same_mode Plain Plain = true
+same_mode Checked Checked = true
+same_mode a b = false
+
+-- a piece in this mode, of a unit of this text
+abbrev pub is_own : Mode → (text : List ℕ) → Piece → Bool
+is_own mode text p = if same_mode p.mode mode then same_bytes (source p.unit).text text else false
+
+-- 28: the first piece of a unit of another text, or in another mode; the first one of these is at `at` in the list
+abbrev pub stranger : Mode → (text : List ℕ) (at : ℕ) → List Piece → Option LinkFault
+stranger mode text at [] = None
+stranger mode text at (p ∷ ps) = if is_own mode text p then stranger mode text (suc at) ps else Some (Stranger p.function at)
 
 -- the number is one of these
 abbrev pub is_among : List ℕ → ℕ → Bool
@@ -84,9 +96,9 @@ abbrev pub too_large : List (List PieceItem) → Option LinkFault
 too_large fs = if nat_lt most_code (code_words fs) then Some ImageTooLarge else None
 
 -- why pieces do not make an image of a unit: 28, else 27, else 26, else 25
-abbrev pub link_refusal : Source → List Piece → Option LinkFault
-link_refusal s pieces =
-    option_or (stranger s.text 0 pieces) (option_or (doubled [] 0 pieces)
+abbrev pub link_refusal : Mode → Source → List Piece → Option LinkFault
+link_refusal mode s pieces =
+    option_or (stranger mode s.text 0 pieces) (option_or (doubled [] 0 pieces)
     (option_or (missing pieces 0 (length (functions s.externals))) (too_large (bodies s.externals pieces))))
 
 -- ---- what they make
@@ -108,6 +120,10 @@ abbrev pub unless_refused : Option LinkFault → StoredUnit → Result StoredUni
 unless_refused None u = Ok u
 unless_refused (Some fault) u = Err fault
 
--- what linking comes to
+-- what linking in a mode comes to
+abbrev pub linked_in : Mode → Source → List Piece → Result StoredUnit LinkFault
+linked_in mode s pieces = unless_refused (link_refusal mode s pieces) (unit_of s pieces)
+
+-- plain pieces
 abbrev pub linked : Source → List Piece → Result StoredUnit LinkFault
-linked s pieces = unless_refused (link_refusal s pieces) (unit_of s pieces)
+linked s pieces = linked_in Plain s pieces

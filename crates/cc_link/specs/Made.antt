@@ -4,9 +4,10 @@ use Rattle.cc_ast.specs.Tree.{Source}
 use Rattle.cc_ast.specs.Source.{source}
 use Rattle.cc_ast.specs.Parse.{SpellsText}
 use Rattle.cc_types.specs.Checked.{IsChecked}
+use Rattle.cc_c_laws.specs.declared.mode.Mode.{Mode}
 use Rattle.cc_unit.specs.declared.unit.StoredUnit.{StoredUnit}
 use Rattle.cc_emit.specs.Piece.{Piece, IsPieceOfUnit}
-use Rattle.cc_link.specs.Linked.{linked}
+use Rattle.cc_link.specs.Linked.{linked_in}
 
 -- what the types of a piece and of its unit keep
 pub record IsCompiled (piece : Piece) : Type 0 where
@@ -14,11 +15,15 @@ pub record IsCompiled (piece : Piece) : Type 0 where
   pub checked : IsChecked (source piece.unit)
   pub of_unit : IsPieceOfUnit piece
 
--- pieces that some calls have made, in whatever order, link to this unit
-pub record IsMade (unit : StoredUnit) : Type 0 where
+-- pieces that some calls have made in this mode, in whatever order, link to this unit
+pub record IsMadeIn (mode : Mode) (unit : StoredUnit) : Type 0 where
   pub of : Source
   pub spelled : ∥ SpellsText of.text of.externals ∥₁
   pub checked : IsChecked of
   pub pieces : List Piece
   pub compiled : All IsCompiled pieces
-  pub linked_is : linked of pieces ≡ Ok unit
+  pub linked_is : linked_in mode of pieces ≡ Ok unit
+
+-- in some mode
+abbrev pub IsMade : StoredUnit → Type 0
+IsMade unit = (mode : Mode) × IsMadeIn mode unit

@@ -5,6 +5,8 @@ ghost use Rattle.std.specs.Arc.{arc_value};
 ghost use Rattle.cc_link.specs.Agree.{Agree};
 ghost use Rattle.cc_link.specs.Made.{IsMade};
 
+use cc_emit::Piece;
+use cc_types::TypedUnit;
 use cc_unit::StoredUnit;
 use std::marker::Model;
 use std::sync::Arc;
@@ -52,5 +54,42 @@ impl CompiledUnit {
         ensures made { IsMade self.now }
     {
         &self.stored
+    }
+}
+
+/// What a text was compiled to, with what it was made of.
+pub struct Compilation {
+    /// The tree of the text.
+    pub typed: Arc<TypedUnit>,
+    /// The pieces of its functions.
+    pub pieces: Vec<Piece>,
+    /// The unit that they link to.
+    pub unit: CompiledUnit,
+}
+
+// By hand, as above.
+impl Drop for Compilation {
+    fn drop(self) {
+        let Compilation {
+            typed,
+            pieces,
+            unit,
+        } = self;
+    }
+}
+
+impl Compilation {
+    /// The unit alone.
+    pub fn into_unit(self) -> CompiledUnit
+        ensures { result ≡ self.unit }
+    {
+        let Compilation {
+            typed,
+            pieces,
+            unit,
+        } = self;
+        drop(typed);
+        drop(pieces);
+        unit
     }
 }

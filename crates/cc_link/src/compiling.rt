@@ -5,37 +5,44 @@ ghost use Rattle.std.specs.Arc.{arc_value};
 ghost use Rattle.cc_ast.specs.Source.{source};
 ghost use Rattle.cc_ast.specs.Tree.{External};
 ghost use Rattle.cc_c_laws.specs.Meaning.{functions};
-ghost use Rattle.cc_link.specs.Agree.{Agree};
-ghost use Rattle.cc_link.specs.Compile.{IsPieceRefusal, IsBuildRefusal, HasPiece};
-ghost use Rattle.cc_link.specs.Made.{IsCompiled};
-ghost use Rattle.cc_link.specs.Pieces.{AreFrom};
+ghost use Rattle.cc_c_laws.specs.declared.mode.Mode.TheVariants.{Plain};
+ghost use Rattle.cc_link.specs.Agree.{Agree, AgreeIn};
+ghost use Rattle.cc_link.specs.Compile.{IsPieceRefusalIn, IsBuildRefusal, IsBuildRefusalIn, HasPieceIn};
+ghost use Rattle.cc_link.specs.Made.{IsCompiled, IsMadeIn};
+ghost use Rattle.cc_link.specs.Pieces.{AreFromIn};
 ghost use Rattle.cc_link.specs.Text.{IsProgramText};
+ghost use Rattle.cc_link.specs.Whole.{IsWholeIn};
 
 use crate::build_fault::BuildFault;
-use crate::compiled::CompiledUnit;
-use crate::function::compile_function;
-use crate::linking::link;
+use crate::compiled::{Compilation, CompiledUnit};
+use crate::function::compile_function_in;
+use crate::laws::linked_units_follow;
+use crate::linking::link_all_in;
 use crate::piece_fault::PieceFault;
 use crate::text::typed_unit;
+use cc_c_laws::Mode;
 use cc_emit::Piece;
 use cc_types::TypedUnit;
 use std::alloc::Global;
 use std::sync::Arc;
 
-// The pieces of a unit's functions, in their order.
-fn pieces(alloc: Global, unit: &Arc<TypedUnit>) -> Result<Vec<Piece>, PieceFault>
+/// The pieces of a unit's functions in a mode, in their order: `compile_function_in` of each. The fault is that of the first one that has none.
+pub fn compile_functions_in(
+    alloc: Global,
+    mode: Mode,
+    unit: &Arc<TypedUnit>,
+) -> Result<Vec<Piece>, PieceFault>
     ensures count { IfOk result (λ pieces. length pieces.items ≡ length (functions (source (arc_value unit.now)).externals)) }
-    ensures own { IfOk result (λ pieces. AreFrom (source (arc_value unit.now)).text 0 pieces.items) }
+    ensures own { IfOk result (λ pieces. AreFromIn mode (source (arc_value unit.now)).text 0 pieces.items) }
     ensures compiled { IfOk result (λ pieces. All IsCompiled pieces.items) }
-    // The fault is that of the first function without a piece.
-    ensures refused { IfErr result (λ fault. (f : ℕ) × (f < length (functions (source (arc_value unit.now)).externals)) × IsPieceRefusal (source (arc_value unit.now)).externals f fault
-        × ((g : ℕ) → g < f → HasPiece (source (arc_value unit.now)).text g)) }
+    ensures refused { IfErr result (λ fault. (f : ℕ) × (f < length (functions (source (arc_value unit.now)).externals)) × IsPieceRefusalIn mode (source (arc_value unit.now)).externals f fault
+        × ((g : ℕ) → g < f → HasPieceIn mode (source (arc_value unit.now)).text g)) }
 {
     let mut pieces = Vec::new(alloc);
     let count = unit.functions();
     let _kept = unit.externals();
     for function in 0..count {
-        let piece = match compile_function(alloc, unit, function) {
+        let piece = match compile_function_in(alloc, mode, unit, function) {
             Ok(piece) => piece,
             Err(fault) => return Err(fault),
         };
@@ -47,34 +54,64 @@ fn pieces(alloc: Global, unit: &Arc<TypedUnit>) -> Result<Vec<Piece>, PieceFault
     Ok(pieces)
 }
 
-// A program compiled.
-fn compile_unit(alloc: Global, unit: &Arc<TypedUnit>) -> Result<CompiledUnit, BuildFault>
-    requires { IsProgramText (source (arc_value unit.now)).text (source (arc_value unit.now)).externals }
-    ensures source { IfOk result (λ made. made.source ≡ (source (arc_value unit.now)).text) }
-    ensures refused { IfErr result (λ fault. IsBuildRefusal (source (arc_value unit.now)).text fault) }
+// A program compiled in a mode, whose tree this is.
+fn compile_unit(alloc: Global, mode: Mode, typed: Arc<TypedUnit>) -> Result<Compilation, BuildFault>
+    requires { IsProgramText (source (arc_value typed)).text (source (arc_value typed)).externals }
+    ensures whole { IfOk result (IsWholeIn mode (source (arc_value typed)).text) }
+    ensures refused { IfErr result (λ fault. IsBuildRefusalIn mode (source (arc_value typed)).text fault) }
 {
-    let pieces = match pieces(alloc, unit) {
+    let pieces = match compile_functions_in(alloc, mode, &typed) {
         Ok(pieces) => pieces,
         Err(fault) => return Err(BuildFault::Piece(fault)),
     };
-    match link(alloc, unit, pieces) {
-        Ok(made) => Ok(made),
+    match link_all_in(alloc, mode, &typed, pieces.as_slice()) {
+        Ok(unit) => Ok(Compilation {
+            typed,
+            pieces,
+            unit,
+        }),
         Err(fault) => Err(BuildFault::Link(fault)),
     }
 }
 
-/// Compiles a text: its source is the text, and its image agrees with it.
+/// Compiles a text in a mode, and hands out with the unit what it was made of. It answers what `compile_in` does.
+pub fn compile_whole_in(alloc: Global, mode: Mode, text: &[u8]) -> Result<Compilation, BuildFault>
+    ensures whole { IfOk result (IsWholeIn mode text.now) }
+    ensures refused { IfErr result (λ fault. IsBuildRefusalIn mode text.now fault) }
+{
+    match typed_unit(alloc, text) {
+        Ok(typed) => compile_unit(alloc, mode, typed),
+        Err(fault) => Err(BuildFault::Text(fault)),
+    }
+}
+
+/// Compiles a text in a mode: its source is the text, its image agrees with it, and on every input the run of the image follows what the
+/// program shows in the mode.
 ///
 /// Refusals: 1 to 7 and 11 to 21 exactly those of `typed_unit`; for a text without these 22 or 24 for the first function that has one, with
-/// its name, where each function before it has a piece; 25 where `link` refuses the pieces so; 40 where memory ran out.
+/// its name, where each function before it has a piece; 25 where `link_in` refuses the pieces so; 40 where memory ran out.
+pub fn compile_in(alloc: Global, mode: Mode, text: &[u8]) -> Result<CompiledUnit, BuildFault>
+    ensures source { IfOk result (λ unit. unit.source ≡ text.now) }
+    ensures agrees { IfOk result (λ unit. Agree text.now unit.image) }
+    ensures follows { IfOk result (λ unit. AgreeIn mode text.now unit.image) }
+    ensures made { IfOk result (IsMadeIn mode) }
+    ensures program { IfOk result (λ _. (tree : List External) × IsProgramText text.now tree) }
+    ensures refused { IfErr result (λ fault. IsBuildRefusalIn mode text.now fault) }
+{
+    linked_units_follow();
+    match compile_whole_in(alloc, mode, text) {
+        Ok(made) => Ok(made.into_unit()),
+        Err(fault) => Err(fault),
+    }
+}
+
+/// Compiles a text to a plain image: its source is the text, and its image agrees with it. It answers what `compile_in` does.
 pub fn compile(alloc: Global, text: &[u8]) -> Result<CompiledUnit, BuildFault>
     ensures source { IfOk result (λ unit. unit.source ≡ text.now) }
     ensures agrees { IfOk result (λ unit. Agree text.now unit.image) }
+    ensures made { IfOk result (IsMadeIn Plain) }
     ensures program { IfOk result (λ _. (tree : List External) × IsProgramText text.now tree) }
     ensures refused { IfErr result (λ fault. IsBuildRefusal text.now fault) }
 {
-    match typed_unit(alloc, text) {
-        Ok(unit) => compile_unit(alloc, &unit),
-        Err(fault) => Err(BuildFault::Text(fault)),
-    }
+    compile_in(alloc, Mode::Plain, text)
 }

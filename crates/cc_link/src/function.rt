@@ -4,19 +4,20 @@ ghost use Rattle.std.specs.Prelude.{◌≡◌, ◌<◌, length, IfOk, IfErr};
 ghost use Rattle.std.specs.Arc.{arc_value};
 ghost use Rattle.cc_ast.specs.Source.{source};
 ghost use Rattle.cc_types.specs.Typed.{defined_names};
-ghost use Rattle.cc_cminor.specs.Pair.{code_of};
-ghost use Rattle.cc_cminor.specs.Size.{AtMostTwelveAToken};
-ghost use Rattle.cc_rtl.specs.declared.fault.RtlFault.TheVariants.{FunctionTooLarge};
-ghost use Rattle.cc_link.specs.Compile.{IsLong, IsNameAt, IsPieceRefusal};
+ghost use Rattle.cc_c_laws.specs.declared.mode.Mode.TheVariants.{Plain};
+ghost use Rattle.cc_mode.specs.Long.{IsLongIn};
+ghost use Rattle.cc_rtl.specs.declared.fault.RtlFault.TheVariants.{FunctionTooLarge, OutOfMemory};
+ghost use Rattle.cc_link.specs.Compile.{IsNameAt, IsPieceRefusal, IsPieceRefusalIn};
 
 use crate::piece_fault::PieceFault;
-use cc_cminor::{CminorPair, to_cminor};
+use cc_c_laws::Mode;
 use cc_colour::{colour, spill_all};
 use cc_emit::{Piece, emit};
 use cc_linear::linearise;
 use cc_live::{Liveness, drop_faint};
 use cc_ltl::Ltl;
-use cc_rtl::{Rtl, RtlFault, RtlPair, to_rtl};
+use cc_mode::rtl_in;
+use cc_rtl::{Rtl, RtlFault, RtlPair};
 use cc_types::TypedUnit;
 use cc_validate::{LtlPair, Refused, ValidateFault, validate};
 use std::alloc::{AllocError, Global};
@@ -38,18 +39,20 @@ struct Colourable {
     live: Liveness,
 }
 
-/// The RTL of a function, once the nodes that nobody needs have gone.
+/// The RTL of a function in a mode, once the nodes that nobody needs have gone.
 pub(crate) fn prepared(
     alloc: Global,
+    mode: Mode,
     unit: &Arc<TypedUnit>,
     function: usize,
 ) -> Result<RtlPair, RtlFault>
     requires { function < length (defined_names (source (arc_value unit.now))) }
+    ensures mode { IfOk result (λ pair. pair.mode ≡ mode) }
     ensures unit { IfOk result (λ pair. pair.unit ≡ arc_value unit.now) }
     ensures function { IfOk result (λ pair. pair.function ≡ function) }
-    ensures large { IfErr result (λ fault. fault ≡ FunctionTooLarge → IsLong (source (arc_value unit.now)).externals function) }
+    ensures large { IfErr result (λ fault. fault ≡ FunctionTooLarge → IsLongIn mode (source (arc_value unit.now)).externals function) }
 {
-    match with_live_sets(alloc, unit, function) {
+    match with_live_sets(alloc, mode, unit, function) {
         Ok(Colourable { rtl, .. }) => Ok(rtl),
         Err(fault) => Err(fault),
     }
@@ -58,31 +61,30 @@ pub(crate) fn prepared(
 // The same with its live sets.
 fn with_live_sets(
     alloc: Global,
+    mode: Mode,
     unit: &Arc<TypedUnit>,
     function: usize,
 ) -> Result<Colourable, RtlFault>
     requires { function < length (defined_names (source (arc_value unit.now))) }
+    ensures mode { IfOk result (λ made. made.rtl.mode ≡ mode) }
     ensures unit { IfOk result (λ made. made.rtl.unit ≡ arc_value unit.now) }
     ensures function { IfOk result (λ made. made.rtl.function ≡ function) }
-    ensures large { IfErr result (λ fault. fault ≡ FunctionTooLarge → IsLong (source (arc_value unit.now)).externals function) }
+    ensures large { IfErr result (λ fault. fault ≡ FunctionTooLarge → IsLongIn mode (source (arc_value unit.now)).externals function) }
 {
-    match to_cminor(alloc, unit, function) {
-        Ok(pair) => pruned(alloc, pair),
-        Err(_) => Err(RtlFault::OutOfMemory),
+    match rtl_in(alloc, mode, unit, function) {
+        Ok(rtl) => pruned(alloc, rtl),
+        Err(fault) => Err(fault),
     }
 }
 
-// The same of a function in Cminor.
-fn pruned(alloc: Global, pair: CminorPair) -> Result<Colourable, RtlFault>
-    requires { AtMostTwelveAToken (source pair.unit).externals pair.function (code_of pair) }
+// The same of a function in RTL. It fails only where memory runs out.
+fn pruned(alloc: Global, pair: RtlPair) -> Result<Colourable, RtlFault>
+    ensures mode { IfOk result (λ made. made.rtl.mode ≡ pair.mode) }
     ensures unit { IfOk result (λ made. made.rtl.unit ≡ pair.unit) }
     ensures function { IfOk result (λ made. made.rtl.function ≡ pair.function) }
-    ensures large { IfErr result (λ fault. fault ≡ FunctionTooLarge → IsLong (source pair.unit).externals pair.function) }
+    ensures memory { IfErr result (λ fault. fault ≡ OutOfMemory) }
 {
-    let mut rtl = match to_rtl(alloc, pair) {
-        Ok(rtl) => rtl,
-        Err(fault) => return Err(fault),
-    };
+    let mut rtl = pair;
     match drop_faint(alloc, &mut rtl) {
         Ok(live) => Ok(Colourable { rtl, live }),
         Err(_) => Err(RtlFault::OutOfMemory),
@@ -96,6 +98,7 @@ fn coloured(alloc: Global, rtl: &Rtl, live: Liveness) -> Result<Ltl, AllocError>
 
 // Validated LTL in which each pseudo-register has a slot of its own.
 fn spilled(alloc: Global, pair: RtlPair) -> Result<LtlPair, ValidateFault>
+    ensures mode { IfOk result (λ made. made.mode ≡ pair.mode) }
     ensures unit { IfOk result (λ made. made.unit ≡ pair.unit) }
     ensures function { IfOk result (λ made. made.function ≡ pair.function) }
 {
@@ -110,6 +113,7 @@ fn spilled(alloc: Global, pair: RtlPair) -> Result<LtlPair, ValidateFault>
 
 // LTL that the validator accepts: by registers, and with a slot for each value only where it refuses that.
 fn allocated(alloc: Global, colourable: Colourable) -> Result<LtlPair, ValidateFault>
+    ensures mode { IfOk result (λ made. made.mode ≡ colourable.rtl.mode) }
     ensures unit { IfOk result (λ made. made.unit ≡ colourable.rtl.unit) }
     ensures function { IfOk result (λ made. made.function ≡ colourable.rtl.function) }
 {
@@ -131,6 +135,7 @@ fn allocated(alloc: Global, colourable: Colourable) -> Result<LtlPair, ValidateF
 
 /// The piece of validated LTL.
 pub(crate) fn emitted(alloc: Global, pair: LtlPair) -> Result<Piece, AllocError>
+    ensures mode { IfOk result (λ piece. piece.mode ≡ pair.mode) }
     ensures unit { IfOk result (λ piece. piece.unit ≡ pair.unit) }
     ensures function { IfOk result (λ piece. piece.function ≡ pair.function) }
 {
@@ -148,9 +153,10 @@ fn finished(
     length: usize,
 ) -> Result<Piece, PieceFault>
     requires { IsNameAt (source colourable.rtl.unit).externals colourable.rtl.function at length }
+    ensures mode { IfOk result (λ piece. piece.mode ≡ colourable.rtl.mode) }
     ensures unit { IfOk result (λ piece. piece.unit ≡ colourable.rtl.unit) }
     ensures function { IfOk result (λ piece. piece.function ≡ colourable.rtl.function) }
-    ensures refused { IfErr result (λ fault. IsPieceRefusal (source colourable.rtl.unit).externals colourable.rtl.function fault) }
+    ensures refused { IfErr result (λ fault. IsPieceRefusalIn colourable.rtl.mode (source colourable.rtl.unit).externals colourable.rtl.function fault) }
 {
     let ltl = match allocated(alloc, colourable) {
         Ok(ltl) => ltl,
@@ -165,25 +171,44 @@ fn finished(
     }
 }
 
-/// The piece of the function with a number, through Cminor, RTL, validated LTL and Linear to its code. Functions are numbered from 0 in
-/// the order of their definitions. That the code does what the function does belongs to the piece's type.
+/// The piece of the function with a number in a mode, through Cminor, which has guards if it is checked, RTL, validated LTL and Linear to its
+/// code. Functions are numbered from 0 in the order of their definitions. That the code does what the function does in the mode belongs to
+/// the piece's type.
 ///
-/// Refusals, the first two with the bytes of the function's name: 22 where it would have more than 4,096 nodes of RTL, which needs more
-/// than 256 tokens; 24 where the validator refuses the allocation; 40 where memory ran out.
+/// Refusals, the first two with the bytes of the function's name: 22 where it would have more than 4,096 nodes of RTL or its guards would
+/// set more than 2,048 variables, which needs more than 256 tokens, or 177 for a checked piece; 24 where the validator refuses the
+/// allocation; 40 where memory ran out.
+pub fn compile_function_in(
+    alloc: Global,
+    mode: Mode,
+    unit: &Arc<TypedUnit>,
+    function: usize,
+) -> Result<Piece, PieceFault>
+    requires { function < length (defined_names (source (arc_value unit.now))) }
+    ensures mode { IfOk result (λ piece. piece.mode ≡ mode) }
+    ensures unit { IfOk result (λ piece. piece.unit ≡ arc_value unit.now) }
+    ensures function { IfOk result (λ piece. piece.function ≡ function) }
+    ensures refused { IfErr result (λ fault. IsPieceRefusalIn mode (source (arc_value unit.now)).externals function fault) }
+{
+    let (at, length) = name_of(unit, function);
+    match with_live_sets(alloc, mode, unit, function) {
+        Ok(colourable) => finished(alloc, colourable, at, length),
+        Err(RtlFault::FunctionTooLarge) => Err(PieceFault::FunctionTooLarge { at, length }),
+        Err(RtlFault::OutOfMemory) => Err(PieceFault::OutOfMemory),
+    }
+}
+
+/// The plain piece of the function with a number. It answers what `compile_function_in` does.
 pub fn compile_function(
     alloc: Global,
     unit: &Arc<TypedUnit>,
     function: usize,
 ) -> Result<Piece, PieceFault>
     requires { function < length (defined_names (source (arc_value unit.now))) }
+    ensures mode { IfOk result (λ piece. piece.mode ≡ Plain) }
     ensures unit { IfOk result (λ piece. piece.unit ≡ arc_value unit.now) }
     ensures function { IfOk result (λ piece. piece.function ≡ function) }
     ensures refused { IfErr result (λ fault. IsPieceRefusal (source (arc_value unit.now)).externals function fault) }
 {
-    let (at, length) = name_of(unit, function);
-    match with_live_sets(alloc, unit, function) {
-        Ok(colourable) => finished(alloc, colourable, at, length),
-        Err(RtlFault::FunctionTooLarge) => Err(PieceFault::FunctionTooLarge { at, length }),
-        Err(RtlFault::OutOfMemory) => Err(PieceFault::OutOfMemory),
-    }
+    compile_function_in(alloc, Mode::Plain, unit, function)
 }

@@ -3,10 +3,13 @@
 ghost use Rattle.cc_tokens.specs.Tokens.{TokensAreOne};
 ghost use Rattle.cc_ast.specs.Limits.{TreesAreOne};
 ghost use Rattle.cc_c_laws.specs.Calls.{ObjectsAreSized, TypedUnitsHaveMain};
-ghost use Rattle.cc_c_laws.specs.Numbered.{ProgramsAreNumbered, TypedUnitsHaveMeanings};
-ghost use Rattle.cc_link.specs.Laws.{LinkedUnitsAgree, MadeUnitsAreCertified};
+ghost use Rattle.cc_c_laws.specs.Numbered.{CheckedFollows, ProgramsAreNumbered, TypedUnitsHaveMeanings};
+ghost use Rattle.cc_link.specs.Laws.{AgreeInAgree, LinkedUnitsAgree, LinkedUnitsFollow, MadeUnitsAreCertified, UnitsAreCertifiedIn};
+ghost use Rattle.cc_link.specs.Stack.{LinkedUnitsAreBacked};
 
-use cc_c_laws::{names_have_numbers, programs_call_main, units_have_meanings};
+use cc_c_laws::{
+    names_have_numbers, programs_are_checked, programs_call_main, units_have_meanings,
+};
 use cc_syntax::trees_are_determined;
 use cc_tokens::tokens_are_determined;
 
@@ -18,11 +21,13 @@ pub(crate) fn unit_laws()
     ensures mains { TypedUnitsHaveMain }
     ensures programs { ProgramsAreNumbered }
     ensures sized { ObjectsAreSized }
+    ensures checked { CheckedFollows }
 {
     tokens_are_determined();
     trees_are_determined();
     units_have_meanings();
     programs_call_main();
+    programs_are_checked();
     names_have_numbers();
 }
 
@@ -33,10 +38,27 @@ pub fn linked_units_agree()
     unit_laws();
 }
 
+/// In each mode the image follows its program on a board with less stack too, if that is at least what the pieces' frames and calls take.
+pub fn linked_units_are_backed()
+    ensures { LinkedUnitsAreBacked }
+{
+    unit_laws();
+}
+
 /// A unit that pieces link to has a certificate, which spells one function of LTL for each function of its source, whose run keeps up
 /// with that function.
 pub fn made_units_are_certified()
     ensures { MadeUnitsAreCertified }
+{
+    unit_laws();
+}
+
+/// In each mode the unit that the pieces of a checked unit make has the unit's text, and on every input the run of its image follows what the
+/// program shows in that mode; so it agrees with the text. Its certificate spells LTL whose runs keep up in that mode.
+pub fn linked_units_follow()
+    ensures follow { LinkedUnitsFollow }
+    ensures agree { AgreeInAgree }
+    ensures certified { UnitsAreCertifiedIn }
 {
     unit_laws();
 }

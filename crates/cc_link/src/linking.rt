@@ -3,23 +3,27 @@
 // Pieces come in any order. First it is seen that there is one of each function, and that all are of this text; then what stands where
 // depends on nothing but the functions' items in the order of definitions.
 
-ghost use Rattle.std.specs.Prelude.{◌≡◌, ◌⊎◌, ◌≤◌, ◌<◌, ◌^◌, Some, Ok, Err, length, IfOk, IfErr};
+ghost use Rattle.std.specs.Prelude.{◌≡◌, ◌⊎◌, ◌≤◌, ◌<◌, ◌^◌, Some, Ok, Err, All, length, IfOk, IfErr};
 ghost use Rattle.std.specs.Arc.{arc_value};
 ghost use Rattle.cc_ast.specs.Source.{source};
 ghost use Rattle.cc_c_laws.specs.Meaning.{functions};
 ghost use Rattle.cc_link.specs.declared.fault.LinkFault.TheVariants.{OutOfMemory};
+ghost use Rattle.cc_link.specs.Agree.{Agree, AgreeIn};
+ghost use Rattle.cc_link.specs.Made.{IsCompiled, IsMadeIn};
 ghost use Rattle.cc_link.specs.Certificate.{certificate_of};
 ghost use Rattle.cc_link.specs.Link.{code_words, most_code};
-ghost use Rattle.cc_link.specs.Linked.{all_ltl, image_of, linked, lent_pieces};
+ghost use Rattle.cc_link.specs.Linked.{all_ltl, image_of, linked, linked_in, lent_pieces};
+ghost use Rattle.cc_link.specs.Stack.{IsBackedFrom, stack_of};
 ghost use Rattle.cc_link.specs.internal.Filling.{lent, AllStayIn};
 
 use crate::certificate::certificate;
 use crate::compiled::CompiledUnit;
 use crate::fault::LinkFault;
 use crate::globals::image_words;
-use crate::laws::{linked_units_agree, unit_laws};
+use crate::laws::{linked_units_are_backed, linked_units_follow, unit_laws};
 use crate::order::{all_items, doubled, in_order, stranger};
 use crate::words::{code, fits};
+use cc_c_laws::Mode;
 use cc_emit::{Piece, PieceItem};
 use cc_resolve::lay_out;
 use cc_rv32::image::{Globals, Image};
@@ -86,21 +90,23 @@ fn stored(
     Ok(Arc::new(alloc, unit)?)
 }
 
-/// Links the pieces of a unit, lent in any order: its source is the unit's text, its image agrees with it, and its certificate has the LTL
-/// of each function.
-///
-/// Refusals, in this order: 28 for the first piece whose unit has another text; 27 for the first piece whose function came before; 26
-/// for the least function without a piece; 25 where the image would have more than 131,072 words of code. 40 where memory ran out.
-pub fn link_lent(
+// The unit that the pieces of a unit in a mode make, lent in any order.
+fn made_in(
     alloc: Global,
+    mode: Mode,
     unit: &Arc<TypedUnit>,
     pieces: &[&Piece],
-) -> Result<CompiledUnit, LinkFault>
-    ensures answer { IfOk result (λ unit'. linked (source (arc_value unit.now)) (lent_pieces pieces.now) ≡ Ok unit') }
-    ensures refused { IfErr result (λ fault. (fault ≡ OutOfMemory) ⊎ (linked (source (arc_value unit.now)) (lent_pieces pieces.now) ≡ Err fault)) }
+) -> Result<Arc<StoredUnit>, LinkFault>
+    ensures answer { IfOk result (λ made. linked_in mode (source (arc_value unit.now)) (lent_pieces pieces.now) ≡ Ok (arc_value made)) }
+    ensures follows { IfOk result (λ made. AgreeIn mode (arc_value made).source (arc_value made).image) }
+    ensures agrees { IfOk result (λ made. Agree (arc_value made).source (arc_value made).image) }
+    ensures made { IfOk result (λ made. IsMadeIn mode (arc_value made)) }
+    ensures compiled { IfOk result (λ _. All IsCompiled (lent_pieces pieces.now)) }
+    ensures backed { IfOk result (λ made. IsBackedFrom mode (arc_value made).source (stack_of (source (arc_value unit.now)).externals (lent_pieces pieces.now)) (arc_value made).image) }
+    ensures refused { IfErr result (λ fault. (fault ≡ OutOfMemory) ⊎ (linked_in mode (source (arc_value unit.now)) (lent_pieces pieces.now) ≡ Err fault)) }
 {
     let unit: &TypedUnit = unit;
-    if let Some(fault) = stranger(unit.text(), pieces) {
+    if let Some(fault) = stranger(mode, unit.text(), pieces) {
         return Err(fault);
     }
     if let Some(fault) = doubled(pieces) {
@@ -118,13 +124,54 @@ pub fn link_lent(
         return Err(LinkFault::ImageTooLarge);
     }
     unit_laws();
-    linked_units_agree();
+    linked_units_follow();
+    linked_units_are_backed();
     let _kept = unit.externals();
     let made = stored(alloc, unit, bodies.as_slice(), ordered.as_slice());
-    Ok(CompiledUnit::new(made?))
+    Ok(made?)
 }
 
-/// Links the pieces of a unit, given up in any order. It answers what `link_lent` does.
+/// Links the pieces of a unit in a mode, lent in any order: its source is the unit's text, its certificate has the LTL of each function, and on
+/// every input the run of its image follows what the program shows in the mode, so that it agrees with the text. It does so on each board
+/// that backs at least as many bytes of stack as the pieces' frames and calls take.
+///
+/// Refusals: those of `link_lent`, and 28 also for a piece in another mode.
+pub fn link_in(
+    alloc: Global,
+    mode: Mode,
+    unit: &Arc<TypedUnit>,
+    pieces: &[&Piece],
+) -> Result<CompiledUnit, LinkFault>
+    ensures answer { IfOk result (λ unit'. linked_in mode (source (arc_value unit.now)) (lent_pieces pieces.now) ≡ Ok unit') }
+    ensures follows { IfOk result (λ unit'. AgreeIn mode unit'.source unit'.image) }
+    ensures made { IfOk result (IsMadeIn mode) }
+    ensures compiled { IfOk result (λ _. All IsCompiled (lent_pieces pieces.now)) }
+    ensures backed { IfOk result (λ unit'. IsBackedFrom mode unit'.source (stack_of (source (arc_value unit.now)).externals (lent_pieces pieces.now)) unit'.image) }
+    ensures refused { IfErr result (λ fault. (fault ≡ OutOfMemory) ⊎ (linked_in mode (source (arc_value unit.now)) (lent_pieces pieces.now) ≡ Err fault)) }
+{
+    match made_in(alloc, mode, unit, pieces) {
+        Ok(made) => Ok(CompiledUnit::new(made)),
+        Err(fault) => Err(fault),
+    }
+}
+
+/// Links plain pieces of a unit, lent in any order: its source is the unit's text, its image agrees with it, and its certificate has the LTL
+/// of each function.
+///
+/// Refusals, in this order: 28 for the first piece whose unit has another text; 27 for the first piece whose function came before; 26
+/// for the least function without a piece; 25 where the image would have more than 131,072 words of code. 40 where memory ran out.
+pub fn link_lent(
+    alloc: Global,
+    unit: &Arc<TypedUnit>,
+    pieces: &[&Piece],
+) -> Result<CompiledUnit, LinkFault>
+    ensures answer { IfOk result (λ unit'. linked (source (arc_value unit.now)) (lent_pieces pieces.now) ≡ Ok unit') }
+    ensures refused { IfErr result (λ fault. (fault ≡ OutOfMemory) ⊎ (linked (source (arc_value unit.now)) (lent_pieces pieces.now) ≡ Err fault)) }
+{
+    link_in(alloc, Mode::Plain, unit, pieces)
+}
+
+/// Links plain pieces of a unit, given up in any order. It answers what `link_lent` does.
 pub fn link(
     alloc: Global,
     unit: &Arc<TypedUnit>,
@@ -133,11 +180,43 @@ pub fn link(
     ensures answer { IfOk result (λ unit'. linked (source (arc_value unit.now)) pieces.items ≡ Ok unit') }
     ensures refused { IfErr result (λ fault. (fault ≡ OutOfMemory) ⊎ (linked (source (arc_value unit.now)) pieces.items ≡ Err fault)) }
 {
-    let lent = match lent(alloc, pieces.as_slice()) {
+    link_pieces_in(alloc, Mode::Plain, unit, pieces)
+}
+
+/// Links the pieces of a unit in a mode, given up in any order. It answers what `link_in` does.
+pub fn link_pieces_in(
+    alloc: Global,
+    mode: Mode,
+    unit: &Arc<TypedUnit>,
+    pieces: Vec<Piece>,
+) -> Result<CompiledUnit, LinkFault>
+    ensures answer { IfOk result (λ unit'. linked_in mode (source (arc_value unit.now)) pieces.items ≡ Ok unit') }
+    ensures follows { IfOk result (λ unit'. AgreeIn mode unit'.source unit'.image) }
+    ensures made { IfOk result (IsMadeIn mode) }
+    ensures refused { IfErr result (λ fault. (fault ≡ OutOfMemory) ⊎ (linked_in mode (source (arc_value unit.now)) pieces.items ≡ Err fault)) }
+{
+    link_all_in(alloc, mode, unit, pieces.as_slice())
+}
+
+/// Links the pieces of a unit in a mode that lie one after the other. It answers what `link_in` does.
+pub(crate) fn link_all_in(
+    alloc: Global,
+    mode: Mode,
+    unit: &Arc<TypedUnit>,
+    pieces: &[Piece],
+) -> Result<CompiledUnit, LinkFault>
+    ensures answer { IfOk result (λ unit'. linked_in mode (source (arc_value unit.now)) pieces.now ≡ Ok unit') }
+    ensures follows { IfOk result (λ unit'. AgreeIn mode unit'.source unit'.image) }
+    ensures made { IfOk result (IsMadeIn mode) }
+    ensures compiled { IfOk result (λ _. All IsCompiled pieces.now) }
+    ensures backed { IfOk result (λ unit'. IsBackedFrom mode unit'.source (stack_of (source (arc_value unit.now)).externals pieces.now) unit'.image) }
+    ensures refused { IfErr result (λ fault. (fault ≡ OutOfMemory) ⊎ (linked_in mode (source (arc_value unit.now)) pieces.now ≡ Err fault)) }
+{
+    let lent = match lent(alloc, pieces) {
         Ok(lent) => lent,
         Err(_) => return Err(LinkFault::OutOfMemory),
     };
-    link_lent(alloc, unit, lent.as_slice())
+    link_in(alloc, mode, unit, lent.as_slice())
 }
 
 // References to pieces, in their order.

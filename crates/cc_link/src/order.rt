@@ -6,18 +6,47 @@ ghost use Rattle.std.specs.Prelude.{◌≡◌, ◌⊎◌, [], None, Some, All, I
 ghost use Rattle.cc_emit.specs.Piece.{IsPieceOfUnit};
 ghost use Rattle.cc_link.specs.declared.fault.LinkFault.TheVariants.{OutOfMemory};
 ghost use Rattle.cc_link.specs.Made.{IsCompiled};
-ghost use Rattle.cc_link.specs.Linked.{stranger, is_among, doubled, piece_of, missing, in_order, all_items, lent_pieces};
+ghost use Rattle.cc_link.specs.Linked.{same_mode, is_own, stranger, is_among, doubled, piece_of, missing, in_order, all_items, lent_pieces};
 ghost use Rattle.cc_link.specs.internal.Filling.{lent};
 ghost use Rattle.cc_link.specs.internal.Lent.{functions_of};
 
 use crate::fault::LinkFault;
+use cc_c_laws::Mode;
 use cc_emit::{Piece, PieceItem};
 use cc_types::TypedUnit;
 use std::alloc::{AllocError, Global};
 
-/// 28 for the first piece of a unit of another text. Where there is none, each piece is what its type keeps.
-pub(crate) fn stranger(text: &[u8], pieces: &[&Piece]) -> Option<LinkFault>
-    ensures answer { result ≡ stranger text.now 0 (lent_pieces pieces.now) }
+// Whether two modes are the same.
+fn same_mode(a: Mode, b: Mode) -> bool
+    ensures { result ≡ same_mode a b }
+{
+    match a {
+        Mode::Plain => match b {
+            Mode::Plain => true,
+            Mode::Checked => false,
+        },
+        Mode::Checked => match b {
+            Mode::Plain => false,
+            Mode::Checked => true,
+        },
+    }
+}
+
+// Whether a piece is in this mode and of a unit of this text.
+fn is_own(mode: Mode, text: &[u8], piece: &Piece) -> bool
+    ensures { result ≡ is_own mode text.now piece.now }
+{
+    let unit: &TypedUnit = piece.unit();
+    if same_mode(piece.mode(), mode) {
+        unit.text() == text
+    } else {
+        false
+    }
+}
+
+/// 28 for the first piece of a unit of another text, or in another mode. If there is none, each piece is what its type keeps.
+pub(crate) fn stranger(mode: Mode, text: &[u8], pieces: &[&Piece]) -> Option<LinkFault>
+    ensures answer { result ≡ stranger mode text.now 0 (lent_pieces pieces.now) }
     ensures kept { IfNone result (All IsPieceOfUnit (lent_pieces pieces.now)) }
     ensures compiled { IfNone result (All IsCompiled (lent_pieces pieces.now)) }
 {
@@ -26,7 +55,7 @@ pub(crate) fn stranger(text: &[u8], pieces: &[&Piece]) -> Option<LinkFault>
         let _kept = piece.items();
         let other: &TypedUnit = piece.unit();
         let _kept = other.externals();
-        if other.text() != text {
+        if !is_own(mode, text, *piece) {
             return Some(LinkFault::Stranger { function, at });
         }
     }
@@ -71,7 +100,7 @@ fn piece_of<'a>(pieces: &'a [&'a Piece], function: usize) -> Option<&'a Piece>
 }
 
 /// The first pieces of this many functions in their order, and 26 for the least without one.
-pub(crate) fn in_order<'a>(
+pub fn in_order<'a>(
     alloc: Global,
     functions: usize,
     pieces: &'a [&'a Piece],

@@ -30,6 +30,7 @@ pub fn drop_dead(alloc: Global, pair: &mut RtlPair, live: &Liveness) -> Result<(
 /// run still keeps up with the function. Afterwards no node is dead. It answers the least live sets of what is left, as `liveness` of it
 /// does. Without memory the pair stays as it was.
 pub fn drop_faint(alloc: Global, pair: &mut RtlPair) -> Result<Liveness, AllocError>
+    ensures mode { pair.new.mode ≡ pair.old.mode }
     ensures unit { pair.new.unit ≡ pair.old.unit }
     ensures function { pair.new.function ≡ pair.old.function }
     ensures without { IfOk result (λ _. IsWithoutFaint pair.old.rtl pair.new.rtl) }

@@ -169,16 +169,16 @@ ltl_send : IsSend Ltl.the_row
 ltl_send = view_send _ _ _ _ _ (recorded_send ltl.the_field.row _ _ ltl.the_type.to_one (struct_send (shape ltl.the_type) (search sendable, (search sendable, (Vec-send _ block_send, tt)))))
 
 piece_send : IsSend Piece.the_row
-piece_send = view_send _ _ _ _ _ (recorded_send piece.the_field.row _ _ piece.the_type.to_one (struct_send (shape piece.the_type) (Arc-send _ typed_send typed_sync, (search sendable, (ltl_send, (Vec-send _ word_send, tt))))))
+piece_send = view_send _ _ _ _ _ (recorded_send piece.the_field.row _ _ piece.the_type.to_one (struct_send (shape piece.the_type) (search sendable depth 20, (Arc-send _ typed_send typed_sync, (search sendable, (ltl_send, (search sendable, (Vec-send _ word_send, tt))))))))
 
 refusal_send : IsSend Refusal.the_row
-refusal_send = view_send _ _ _ _ _ (recorded_send refusal.the_field.row _ _ refusal.the_type.to_one (struct_send (shape refusal.the_type) (Arc-send _ typed_send typed_sync, (search sendable, (search sendable depth 20, tt)))))
+refusal_send = view_send _ _ _ _ _ (recorded_send refusal.the_field.row _ _ refusal.the_type.to_one (struct_send (shape refusal.the_type) (search sendable depth 20, (Arc-send _ typed_send typed_sync, (search sendable, (search sendable depth 20, tt))))))
 
 answer_send : IsSend Answer.the_row
 answer_send = recorded_send _ _ _ Answer.the_type.to_one (enum_send (enum_shape Answer.the_type) ((piece_send, tt), ((refusal_send, tt), tt)))
 
 order_send : IsSend Order.the_row
-order_send = view_send _ _ _ _ _ (recorded_send order.the_field.row _ _ order.the_type.to_one (struct_send (shape order.the_type) (search sendable, (search sendable, (Arc-send _ typed_send typed_sync, (let a = answer_send in search (sendable, crosses) depth 40 fits 40000, tt))))))
+order_send = view_send _ _ _ _ _ (recorded_send order.the_field.row _ _ order.the_type.to_one (struct_send (shape order.the_type) (search sendable, (search sendable, (search sendable depth 20, (Arc-send _ typed_send typed_sync, (let a = answer_send in search (sendable, crosses) depth 40 fits 40000, tt)))))))
 
 pub item_field_send : IsSend (Item.the_field).row
 item_field_send = enum_send (enum_shape Item.the_type) ((order_send, tt), (tt, tt))

@@ -4,9 +4,10 @@ use Rattle.std.specs.Prelude.{All}
 use Rattle.std.proofs.lemmas.Bool.{cases_lt}
 use Rattle.std.proofs.lemmas.List.Elements.{All-head, All-tail}
 use Rattle.cc_ast.specs.Source.{source}
+use Rattle.cc_c_laws.specs.declared.mode.Mode.{Mode}
 use Rattle.cc_emit.specs.Piece.{Piece}
-use Rattle.cc_link.specs.Pieces.{AreFrom}
-use Rattle.cc_link.specs.Compile.{HasPiece}
+use Rattle.cc_link.specs.Pieces.{AreFromIn}
+use Rattle.cc_link.specs.Compile.{HasPieceIn}
 use Rattle.cc_link.specs.Made.{IsCompiled}
 use Rattle.cc_pool.specs.Fault.{IsJobRefusal, IsRefusedAt}
 use Rattle.cc_pool.specs.internal.Reason.{IsReason}
@@ -14,22 +15,22 @@ use Rattle.cc_pool.specs.declared.fault.PoolFault.{PoolFault}
 use Rattle.cc_pool.specs.declared.fault.PoolFault.TheVariants as fault
 
 -- one piece more
-pub one_from : (text : List ℕ) (from : ℕ) (ps : List Piece) (p : Piece) → AreFrom text from ps → (source p.unit).text ≡ text → p.function ≡ from + length ps → AreFrom text from (ps ++ p ∷ [])
-one_from text from [] p own whose which = (whose, omega (arith, which), tt)
-one_from text from (q ∷ ps) p own whose which = (own.0, own.1, one_from text (suc from) ps p own.2 whose (omega (arith, which)))
+pub one_from : (mode : Mode) (text : List ℕ) (from : ℕ) (ps : List Piece) (p : Piece) → AreFromIn mode text from ps → (p.mode ≡ mode) × ((source p.unit).text ≡ text) → p.function ≡ from + length ps → AreFromIn mode text from (ps ++ p ∷ [])
+one_from mode text from [] p own whose which = (whose, omega (arith, which), tt)
+one_from mode text from (q ∷ ps) p own whose which = (own.0, own.1, one_from mode text (suc from) ps p own.2 whose (omega (arith, which)))
 
 -- so there is one of each function before the end
-has_piece : (text : List ℕ) (from g : ℕ) (ps : List Piece) → AreFrom text from ps → All IsCompiled ps → from ≤ g → g < from + length ps → HasPiece text g
-has_piece text from g [] own all low high = absurd (omega arith)
-has_piece text from g (p ∷ ps) own all low high =
+has_piece : (mode : Mode) (text : List ℕ) (from g : ℕ) (ps : List Piece) → AreFromIn mode text from ps → All IsCompiled ps → from ≤ g → g < from + length ps → HasPieceIn mode text g
+has_piece mode text from g [] own all low high = absurd (omega arith)
+has_piece mode text from g (p ∷ ps) own all low high =
     elim (cases_lt from g) [
-      | inl lt ↦ has_piece text (suc from) g ps own.2 (All-tail IsCompiled p ps all) lt (omega (arith, high))
-      | inr le ↦ record { piece = p; compiled = All-head IsCompiled p ps all; text_is = own.0; function_is = own.1 ∙ omega (arith, low, le) }
+      | inl lt ↦ has_piece mode text (suc from) g ps own.2 (All-tail IsCompiled p ps all) lt (omega (arith, high))
+      | inr le ↦ record { piece = p; compiled = All-head IsCompiled p ps all; mode_is = own.0.0; text_is = own.0.1; function_is = own.1 ∙ omega (arith, low, le) }
     ]
 
 -- the reason of the function behind them is that of the first function that has none
-pub refusal_of : (text : List ℕ) (function : ℕ) (ps : List Piece) (fault : PoolFault) → AreFrom text 0 ps → All IsCompiled ps → length ps ≡ function → IsReason text function fault → IsJobRefusal text fault
-refusal_of text function ps (fault.Piece f why) own compiled count reason =
-    (subst (λ (n : ℕ). IsRefusedAt text n why) (sym reason.0) reason.1, λ g less. has_piece text 0 g ps own compiled (omega arith) (omega (arith, less, reason.0, count)))
-refusal_of text function ps fault.WorkersGone own compiled count reason = tt
-refusal_of text function ps fault.OutOfMemory own compiled count reason = tt
+pub refusal_of : (mode : Mode) (text : List ℕ) (function : ℕ) (ps : List Piece) (fault : PoolFault) → AreFromIn mode text 0 ps → All IsCompiled ps → length ps ≡ function → IsReason mode text function fault → IsJobRefusal mode text fault
+refusal_of mode text function ps (fault.Piece f why) own compiled count reason =
+    (subst (λ (n : ℕ). IsRefusedAt mode text n why) (sym reason.0) reason.1, λ g less. has_piece mode text 0 g ps own compiled (omega arith) (omega (arith, less, reason.0, count)))
+refusal_of mode text function ps fault.WorkersGone own compiled count reason = tt
+refusal_of mode text function ps fault.OutOfMemory own compiled count reason = tt

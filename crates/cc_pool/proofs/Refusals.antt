@@ -1,4 +1,4 @@
--- A refusal names a function of a program's text: what `compile_function` says over the tree of a checked unit holds of its text.
+-- A refusal names a function of a program's text: what `compile_function_in` says over the tree of a checked unit holds of its text.
 use Rattle.std.proofs.Common.{◌≡◌, ℕ, suc, ◌<◌, List, [], ◌∷◌, length, map, refl, ap, subst}
 use Rattle.std.proofs.Math.Logic.{∥∥₁_map}
 use Rattle.cc_ast.specs.Tree.{Name, External, Source, Declaration, Definition, Objects}
@@ -7,7 +7,8 @@ use Rattle.cc_types.specs.Scope.{FileScope, first_file_scope, file_scope_behind}
 use Rattle.cc_types.specs.Limits.{function_names}
 use Rattle.cc_types.specs.Typed.{IsTyped, IsWithinLimits, defined_names}
 use Rattle.cc_link.specs.Meaning.{functions, functions_from}
-use Rattle.cc_link.specs.Compile.{IsBlamed, IsPieceRefusal}
+use Rattle.cc_c_laws.specs.declared.mode.Mode.{Mode}
+use Rattle.cc_link.specs.Compile.{IsBlamedIn, IsPieceRefusalIn}
 use Rattle.cc_link.specs.declared.piece_fault.PieceFault.{PieceFault}
 
 -- ---- the functions of a source
@@ -21,9 +22,9 @@ names_long (Objects t os ∷ es) f = names_long es (file_scope_behind (Objects t
 defined_long : (s : Source) → length (defined_names s) ≡ length (functions s.externals)
 defined_long s = names_long s.externals first_file_scope
 
-pub blames : (s : Source) (function : ℕ) (fault : PieceFault) → ∥ SpellsText s.text s.externals ∥₁ → IsTyped s.externals → IsWithinLimits s.externals → function < length (defined_names s)
-    → IsPieceRefusal s.externals function fault → ∥ IsBlamed s.text function fault ∥₁
-blames s function fault spelled typed limits within refused =
+pub blames : (mode : Mode) (s : Source) (function : ℕ) (fault : PieceFault) → ∥ SpellsText s.text s.externals ∥₁ → IsTyped s.externals → IsWithinLimits s.externals → function < length (defined_names s)
+    → IsPieceRefusalIn mode s.externals function fault → ∥ IsBlamedIn mode s.text function fault ∥₁
+blames mode s function fault spelled typed limits within refused =
     ∥∥₁_map spelled (λ (h : SpellsText s.text s.externals). record {
       tree = s.externals;
       is = record { spelled = h; typed = typed; limits = limits };

@@ -1,6 +1,7 @@
 -- The faults of the pool.
 use Rattle.std.specs.Prelude.{◌≢◌, ℕ, ◌<◌, List}
-use Rattle.cc_link.specs.Compile.{IsBlamed, HasPiece, piece_fault_number}
+use Rattle.cc_c_laws.specs.declared.mode.Mode.{Mode}
+use Rattle.cc_link.specs.Compile.{IsBlamedIn, HasPieceIn, piece_fault_number}
 use Rattle.cc_link.specs.declared.piece_fault.PieceFault.{PieceFault}
 use Rattle.cc_link.specs.declared.piece_fault.PieceFault.TheVariants as piece
 use Rattle.cc_pool.specs.declared.fault.PoolFault.{PoolFault}
@@ -12,11 +13,11 @@ pool_fault_number WorkersGone = 41
 pool_fault_number OutOfMemory = 40
 
 -- the text is a program's, and the fault, which is not lack of memory, names this function of it
-abbrev pub IsRefusedAt : List ℕ → (function : ℕ) → PieceFault → Type 0
-IsRefusedAt text function fault = ∥ IsBlamed text function fault ∥₁ × (fault ≢ piece.OutOfMemory)
+abbrev pub IsRefusedAt : Mode → List ℕ → (function : ℕ) → PieceFault → Type 0
+IsRefusedAt mode text function fault = ∥ IsBlamedIn mode text function fault ∥₁ × (fault ≢ piece.OutOfMemory)
 
 -- the fault of a piece, 22 or 24, names a function before which, in the order of their definitions, each has a piece
-abbrev pub IsJobRefusal : List ℕ → PoolFault → Type 0
-IsJobRefusal text (Piece function fault) = IsRefusedAt text function fault × ((f : ℕ) → f < function → HasPiece text f)
-IsJobRefusal text WorkersGone = Unit {0}
-IsJobRefusal text OutOfMemory = Unit {0}
+abbrev pub IsJobRefusal : Mode → List ℕ → PoolFault → Type 0
+IsJobRefusal mode text (Piece function fault) = IsRefusedAt mode text function fault × ((f : ℕ) → f < function → HasPieceIn mode text f)
+IsJobRefusal mode text WorkersGone = Unit {0}
+IsJobRefusal mode text OutOfMemory = Unit {0}

@@ -1,13 +1,15 @@
 -- What contracts see of jobs.
 use Rattle.std.specs.Prelude.{ℕ, List}
+use Rattle.cc_c_laws.specs.declared.mode.Mode.{Mode}
 
 -- a function of a job: both by their numbers
 pub record JobFunction : Type 0 where
   pub job : ℕ
   pub function : ℕ
 
--- a unit that was handed in: the job's number, the unit's text, and how many functions it defines
+-- a unit that was handed in: the job's number, the mode of its code, the unit's text, and how many functions it defines
 pub record Job : Type 0 where
   pub number : ℕ
+  pub mode : Mode
   pub text : List ℕ
   pub functions : ℕ

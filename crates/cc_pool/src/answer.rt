@@ -4,12 +4,12 @@ ghost use Rattle.std.specs.Prelude.{◌≡◌, ◌≢◌, ◌<◌, length, IfSom
 ghost use Rattle.std.specs.Arc.{arc_value};
 ghost use Rattle.cc_ast.specs.Source.{source};
 ghost use Rattle.cc_types.specs.Typed.{defined_names};
-ghost use Rattle.cc_link.specs.Compile.{IsPieceRefusal};
+ghost use Rattle.cc_link.specs.Compile.{IsPieceRefusalIn};
 ghost use Rattle.cc_link.specs.declared.piece_fault.PieceFault.TheVariants.{OutOfMemory};
 ghost use Rattle.cc_pool.specs.Fault.{IsRefusedAt};
 
 use cc_emit::Piece;
-use cc_link::{PieceFault, compile_function};
+use cc_link::{Mode, PieceFault, compile_function_in};
 use cc_types::TypedUnit;
 use std::alloc::Global;
 use std::marker::Model;
@@ -22,8 +22,9 @@ pub enum Answer {
     Refused(Refusal),
 }
 
-/// A function that a worker refused, for another reason than lack of memory. Contracts see its text, its number and the reason.
+/// A function that a worker refused, for another reason than lack of memory. Contracts see the mode, its text, its number and the reason.
 pub struct Refusal {
+    mode: Mode,
     unit: Arc<TypedUnit>,
     function: usize,
     fault: PieceFault,
@@ -33,6 +34,7 @@ pub struct Refusal {
 impl Drop for Refusal {
     fn drop(self) {
         let Refusal {
+            mode,
             unit,
             function,
             fault,
@@ -48,34 +50,46 @@ impl Model for Refusal {
 
     ghost Value = { FunctionRefusal };
 
-    ghost view = { λ r. record { text = (source (arc_value r.unit)).text; function = r.function; fault = r.fault } };
+    ghost view = { λ r. record { mode = r.mode; text = (source (arc_value r.unit)).text; function = r.function; fault = r.fault } };
 
-    ghost invariant = { λ r. IsRefusedAt (source (arc_value r.unit)).text r.function r.fault };
+    ghost invariant = { λ r. IsRefusedAt r.mode (source (arc_value r.unit)).text r.function r.fault };
 }
 
-// What is answered for a function of a unit: None where memory ran out.
-pub(crate) fn answered(alloc: Global, unit: Arc<TypedUnit>, function: usize) -> Option<Answer>
+// What is answered for a function of a unit in a mode: None where memory ran out.
+pub(crate) fn answered(
+    alloc: Global,
+    mode: Mode,
+    unit: Arc<TypedUnit>,
+    function: usize,
+) -> Option<Answer>
     requires { function < length (defined_names (source (arc_value unit))) }
 {
-    match compile_function(alloc, &unit, function) {
+    match compile_function_in(alloc, mode, &unit, function) {
         Ok(piece) => Some(Answer::Made(piece)),
         Err(PieceFault::OutOfMemory) => None,
-        Err(fault) => Some(Answer::Refused(Refusal::new(unit, function, fault))),
+        Err(fault) => Some(Answer::Refused(Refusal::new(mode, unit, function, fault))),
     }
 }
 
 impl Refusal {
-    fn new(unit: Arc<TypedUnit>, function: usize, fault: PieceFault) -> Refusal
+    fn new(mode: Mode, unit: Arc<TypedUnit>, function: usize, fault: PieceFault) -> Refusal
         requires within { function < length (defined_names (source (arc_value unit))) }
-        requires refused { IsPieceRefusal (source (arc_value unit)).externals function fault }
+        requires refused { IsPieceRefusalIn mode (source (arc_value unit)).externals function fault }
         requires real { fault ≢ OutOfMemory }
     {
         let _kept = unit.externals();
         Refusal {
+            mode,
             unit,
             function,
             fault,
         }
+    }
+
+    pub(crate) fn mode(&self) -> Mode
+        ensures { result ≡ self.now.mode }
+    {
+        self.mode
     }
 
     pub(crate) fn text(&self) -> &[u8]
@@ -92,7 +106,7 @@ impl Refusal {
 
     pub(crate) fn fault(&self) -> PieceFault
         ensures answer { result ≡ self.now.fault }
-        ensures refused { IsRefusedAt self.now.text self.now.function self.now.fault }
+        ensures refused { IsRefusedAt self.now.mode self.now.text self.now.function self.now.fault }
     {
         self.fault
     }

@@ -8,6 +8,7 @@ ghost use Rattle.cc_types.specs.Limits.{most_functions};
 
 use crate::answer::{Answer, answered};
 use crate::gate::Gate;
+use cc_link::Mode;
 use cc_types::TypedUnit;
 use crossbeam_channel::Sender;
 use std::alloc::{AllocError, Global};
@@ -21,11 +22,12 @@ pub enum Item {
     Stop,
 }
 
-/// A function of a unit that is to be compiled, and where the answer goes. Contracts see the job's number and the function's.
+/// A function of a unit that is to be compiled in a mode, and where the answer goes. Contracts see the job's number and the function's.
 #[derive(Drop)]
 pub struct Order {
     job: u64,
     function: usize,
+    mode: Mode,
     unit: Arc<TypedUnit>,
     answers: Sender<Answer>,
 }
@@ -50,6 +52,7 @@ impl Order {
     pub(crate) fn new(
         job: u64,
         function: usize,
+        mode: Mode,
         unit: &Arc<TypedUnit>,
         answers: &Sender<Answer>,
     ) -> Result<Order, AllocError>
@@ -63,6 +66,7 @@ impl Order {
         Ok(Order {
             job,
             function,
+            mode,
             unit,
             answers,
         })
@@ -73,11 +77,12 @@ impl Order {
         let Order {
             job,
             function,
+            mode,
             unit,
             answers,
         } = self;
         gate.before(job, function as u32);
-        if let Some(answer) = answered(alloc, unit, function) {
+        if let Some(answer) = answered(alloc, mode, unit, function) {
             drop(answers.send(rt, answer));
         }
     }

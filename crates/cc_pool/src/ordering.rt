@@ -1,17 +1,18 @@
 // How a job's answers are put in order.
 //
-// A plain channel says nothing of which job a message is from. So an answer is told by its text, compared when it runs, and its
-// function's number: what another text's answer may be stays out.
+// A plain channel says nothing of which job a message is from. So an answer is told by its mode and its text, compared when it runs, and its
+// function's number: what the answer for another text or mode may be stays out.
 
 ghost use Rattle.std.specs.Prelude.{◌≡◌, ◌<◌, length, All, HoldsAt, IfOk, IfErr, IfSome};
 ghost use Rattle.cc_link.specs.Made.{IsCompiled};
-ghost use Rattle.cc_link.specs.Pieces.{AreFrom};
+ghost use Rattle.cc_link.specs.Pieces.{AreFromIn};
 ghost use Rattle.cc_pool.specs.Fault.{IsJobRefusal};
 ghost use Rattle.cc_pool.specs.internal.Reason.{IsOf, IsReason};
 
 use crate::answer::{Answer, Refusal};
 use crate::fault::PoolFault;
 use cc_emit::Piece;
+use cc_link::Mode;
 use cc_types::TypedUnit;
 use crossbeam_channel::Receiver;
 use std::alloc::{AllocError, Global};
@@ -44,11 +45,11 @@ pub(crate) fn gather<R: Wait>(
 }
 
 // What is told of a function of which no piece came: the reason that came for it, else 41.
-fn reason(text: &[u8], function: usize, refusals: &[Refusal]) -> PoolFault
-    ensures { IsReason text.now function result }
+fn reason(mode: Mode, text: &[u8], function: usize, refusals: &[Refusal]) -> PoolFault
+    ensures { IsReason mode text.now function result }
 {
     for refusal in refusals {
-        if refusal.function() == function && refusal.text() == text {
+        if refusal.function() == function && refusal.mode() == mode && refusal.text() == text {
             return PoolFault::Piece {
                 function,
                 fault: refusal.fault(),
@@ -58,38 +59,42 @@ fn reason(text: &[u8], function: usize, refusals: &[Refusal]) -> PoolFault
     PoolFault::WorkersGone
 }
 
-// Where the piece of a function of a text stands.
-fn place_of(pieces: &[Piece], text: &[u8], function: usize) -> Option<usize>
+// Where the piece of a function of a text in a mode stands.
+fn place_of(pieces: &[Piece], mode: Mode, text: &[u8], function: usize) -> Option<usize>
     ensures within { IfSome result (λ at. at < length pieces.now) }
-    ensures some { IfSome result (λ at. HoldsAt (IsOf text.now function) pieces.now at) }
+    ensures some { IfSome result (λ at. HoldsAt (IsOf mode text.now function) pieces.now at) }
 {
     for at in 0..pieces.len() {
-        if pieces[at].function() == function && pieces[at].unit().text() == text {
+        if pieces[at].function() == function
+            && pieces[at].mode() == mode
+            && pieces[at].unit().text() == text
+        {
             return Some(at);
         }
     }
     None
 }
 
-// The piece of a function of a text, taken out.
-fn piece_of(pieces: &mut Vec<Piece>, text: &[u8], function: usize) -> Option<Piece>
-    ensures { IfSome result (IsOf text.now function) }
+// The piece of a function of a text in a mode, taken out.
+fn piece_of(pieces: &mut Vec<Piece>, mode: Mode, text: &[u8], function: usize) -> Option<Piece>
+    ensures { IfSome result (IsOf mode text.now function) }
 {
-    let at = place_of(pieces.as_slice(), text, function)?;
+    let at = place_of(pieces.as_slice(), mode, text, function)?;
     Some(pieces.swap_remove(at))
 }
 
-// The pieces of this many functions of a text, in their order. Else what is told of the first function of which none came.
+// The pieces of this many functions of a text in a mode, in their order. Else what is told of the first function of which none came.
 pub(crate) fn in_order(
     alloc: Global,
+    mode: Mode,
     text: &[u8],
     functions: usize,
     came: Came,
 ) -> Result<Vec<Piece>, PoolFault>
     ensures count { IfOk result (λ pieces. length pieces.items ≡ functions) }
-    ensures own { IfOk result (λ pieces. AreFrom text.now 0 pieces.items) }
+    ensures own { IfOk result (λ pieces. AreFromIn mode text.now 0 pieces.items) }
     ensures compiled { IfOk result (λ pieces. All IsCompiled pieces.items) }
-    ensures refused { IfErr result (λ fault. IsJobRefusal text.now fault) }
+    ensures refused { IfErr result (λ fault. IsJobRefusal mode text.now fault) }
 {
     let Came {
         pieces: mut made,
@@ -97,8 +102,8 @@ pub(crate) fn in_order(
     } = came;
     let mut pieces = Vec::new(alloc);
     for function in 0..functions {
-        let Some(piece) = piece_of(&mut made, text, function) else {
-            return Err(reason(text, function, refusals.as_slice()));
+        let Some(piece) = piece_of(&mut made, mode, text, function) else {
+            return Err(reason(mode, text, function, refusals.as_slice()));
         };
         // What its type and that of its unit keep.
         let _kept = piece.items();

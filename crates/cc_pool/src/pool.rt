@@ -4,8 +4,9 @@ ghost use Rattle.std.specs.Prelude.{◌≡◌, ◌≤◌, ◌++◌, [], length, 
 ghost use Rattle.std.specs.Arc.{arc_value};
 ghost use Rattle.cc_ast.specs.Source.{source};
 ghost use Rattle.cc_types.specs.Typed.{defined_names};
+ghost use Rattle.cc_c_laws.specs.declared.mode.Mode.TheVariants.{Plain};
 ghost use Rattle.cc_link.specs.Made.{IsCompiled};
-ghost use Rattle.cc_link.specs.Pieces.{AreFrom};
+ghost use Rattle.cc_link.specs.Pieces.{AreFromIn};
 ghost use Rattle.cc_pool.specs.Fault.{IsJobRefusal};
 ghost use Rattle.cc_pool.specs.Shared.{pieces_of, HasSentSome, IsDrained};
 
@@ -19,6 +20,7 @@ use crate::named::Queued;
 use crate::seats::{Drained, Own, Pass, Taker};
 use crate::ticket::Ticket;
 use cc_emit::Piece;
+use cc_link::Mode;
 use cc_types::TypedUnit;
 use crossbeam_channel::{Receiver, Sender, bounded};
 use std::alloc::Global;
@@ -106,11 +108,7 @@ impl<N: Queued + Send + Sync + 'static> Pool<N> {
         self.own.lock(rt).pass(&self.ends)
     }
 
-    /// Hands in a unit: an item for each of its functions, in the order of their definitions and with the job's number, goes behind what
-    /// the pass has sent. It waits while the queue is full.
-    ///
-    /// Refusals: 40; 41 where the queue is closed or 2^64 - 1 jobs were handed in. Some of the items may have gone then: the first ones,
-    /// of one job, and nothing else.
+    /// Hands in a unit for plain pieces: `submit_in`.
     pub fn submit<R: Wait>(
         &self,
         rt: &R,
@@ -118,6 +116,30 @@ impl<N: Queued + Send + Sync + 'static> Pool<N> {
         pass: &mut Pass<N>,
         unit: Arc<TypedUnit>,
     ) -> Result<Ticket, PoolFault>
+        ensures mode { IfOk result (λ t. t.mode ≡ Plain) }
+        ensures text { IfOk result (λ t. t.text ≡ (source (arc_value unit)).text) }
+        ensures functions { IfOk result (λ t. t.functions ≡ length (defined_names (source (arc_value unit)))) }
+        ensures sent { IfOk result (λ t. pass.new.sent ≡ pass.old.sent ++ pieces_of t.number t.functions) }
+        ensures some { HasSentSome pass.old.sent pass.new.sent (length (defined_names (source (arc_value unit)))) }
+        ensures taken { pass.new.taken ≡ pass.old.taken }
+    {
+        self.submit_in(rt, alloc, pass, Mode::Plain, unit)
+    }
+
+    /// Hands in a unit for pieces in a mode: an item for each of its functions, in the order of their definitions and with the job's number,
+    /// goes behind what the pass has sent. It waits while the queue is full.
+    ///
+    /// Refusals: 40; 41 where the queue is closed or 2^64 - 1 jobs were handed in. Some of the items may have gone then: the first ones,
+    /// of one job, and nothing else.
+    pub fn submit_in<R: Wait>(
+        &self,
+        rt: &R,
+        alloc: Global,
+        pass: &mut Pass<N>,
+        mode: Mode,
+        unit: Arc<TypedUnit>,
+    ) -> Result<Ticket, PoolFault>
+        ensures mode { IfOk result (λ t. t.mode ≡ mode) }
         ensures text { IfOk result (λ t. t.text ≡ (source (arc_value unit)).text) }
         ensures functions { IfOk result (λ t. t.functions ≡ length (defined_names (source (arc_value unit)))) }
         ensures sent { IfOk result (λ t. pass.new.sent ≡ pass.old.sent ++ pieces_of t.number t.functions) }
@@ -130,8 +152,8 @@ impl<N: Queued + Send + Sync + 'static> Pool<N> {
         let Ok((answer, answers)) = bounded(alloc, unit.functions()) else {
             return Err(PoolFault::OutOfMemory);
         };
-        match self.send_all(rt, pass, job, &unit, &answer) {
-            Ok(()) => Ok(Ticket::new(job, unit, answers)),
+        match self.send_all(rt, pass, job, mode, &unit, &answer) {
+            Ok(()) => Ok(Ticket::new(job, mode, unit, answers)),
             Err(fault) => Err(fault),
         }
     }
@@ -148,6 +170,7 @@ impl<N: Queued + Send + Sync + 'static> Pool<N> {
         rt: &R,
         pass: &mut Pass<N>,
         job: u64,
+        mode: Mode,
         unit: &Arc<TypedUnit>,
         answer: &Sender<Answer>,
     ) -> Result<(), PoolFault>
@@ -157,7 +180,7 @@ impl<N: Queued + Send + Sync + 'static> Pool<N> {
     {
         let _kept = unit.externals();
         for function in 0..unit.functions() {
-            let Ok(order) = Order::new(job, function, unit, answer) else {
+            let Ok(order) = Order::new(job, function, mode, unit, answer) else {
                 return Err(PoolFault::OutOfMemory);
             };
             match pass.send(rt, &self.ends, order) {
@@ -168,7 +191,7 @@ impl<N: Queued + Send + Sync + 'static> Pool<N> {
         Ok(())
     }
 
-    /// Waits for the pieces of a job: one compiled piece of its text for each function, in the order of their definitions. While memory
+    /// Waits for the pieces of a job: one compiled piece of its text and mode for each function, in the order of their definitions. While memory
     /// is short the pieces that came are let go.
     ///
     /// Refusals, of the first function of which no piece came: 22 or 24 where a worker refused it, else 41; 40. Each function before that
@@ -180,9 +203,9 @@ impl<N: Queued + Send + Sync + 'static> Pool<N> {
         ticket: Ticket,
     ) -> Result<Vec<Piece>, PoolFault>
         ensures count { IfOk result (λ pieces. length pieces.items ≡ ticket.functions) }
-        ensures own { IfOk result (λ pieces. AreFrom ticket.text 0 pieces.items) }
+        ensures own { IfOk result (λ pieces. AreFromIn ticket.mode ticket.text 0 pieces.items) }
         ensures compiled { IfOk result (λ pieces. All IsCompiled pieces.items) }
-        ensures refused { IfErr result (λ fault. IsJobRefusal ticket.text fault) }
+        ensures refused { IfErr result (λ fault. IsJobRefusal ticket.mode ticket.text fault) }
     {
         ticket.collect(rt, alloc)
     }

@@ -1,5 +1,6 @@
 -- How it is kept that whatever a crash left since an earlier call holds the calls until then.
 use Rattle.std.proofs.Common.{◌≡◌, ◌⊎◌, ℕ, ◌≤◌, inl, inr, false, List, [], ◌∷◌, ◌++◌, length, take, Result, Ok, Err, refl, sym, ap, ◌∙◌, subst, arith, append_assoc, length-append}
+use Rattle.std.proofs.lemmas.Bool.{cases_lt}
 use Rattle.std.proofs.lemmas.List.{take-append-le, take_all}
 use Rattle.cc_disk.specs.declared.disk.Disk.{Ghosts}
 use Rattle.cc_disk.specs.Images.{LeavesOnly, OnlyReads}
@@ -17,7 +18,7 @@ use Rattle.cc_recorded.specs.declared.fault.BookFault.{BookFault}
 use Rattle.cc_recorded.specs.declared.fault.BookFault.TheVariants.{Exists, Absent, Full, DiskFault, Closed, Estranged, OutOfMemory}
 use Rattle.cc_recorded.specs.Book.{BookView, RecoversTo, chronicle_of}
 use Rattle.cc_recorded.specs.Answers.{CommitAnswers, CompactAnswers, LookAnswers}
-use Rattle.cc_recorded.specs.Since.{AreSince, HoldsFrom, IsPast, IsSince, IsSinceOpening}
+use Rattle.cc_recorded.specs.Since.{AreSince, HoldsFrom, HoldsJust, IsInOrder, IsPast, IsSince, IsSinceOpening, StoodWith}
 use Rattle.cc_recorded.proofs.Cores.{nothing_behind}
 
 none_is_some : {A : Type 0} (l : List A) (x : A) → l ≡ [] → l ≡ x ∷ [] → ⊥
@@ -56,23 +57,25 @@ module _ {Disk : Type 0} (D : Ghosts Disk) where
 
   -- ---- what a call does to the book
 
-  -- The history grows, or stays. The library stays; or the disk is written, and each image that it then leaves holds all calls before.
+  -- The history has one entry more, or stays. The library stays; or the disk is written, and each image that it then leaves holds all calls before.
   pub record Goes (before after_it : BookView Disk) : Type 0 where
     pub more : List Entry
+    pub one : length more ≤ 1
     pub base : after_it.base ≡ before.base
     pub history : after_it.history ≡ before.history ++ more
     pub way :
         ((after_it.library ≡ before.library) × (after_it.failed ≡ before.failed))
         ⊎ ((before.failed ≡ []) × LeavesOnly D.moment D.left_since before.library.disk after_it.library.disk (λ image. (n : ℕ) → n ≤ length before.history → HoldsFrom after_it n image))
 
-  longer : (before after_it : BookView Disk) (more : List Entry) → after_it.base ≡ before.base → after_it.history ≡ before.history ++ more → after_it.library ≡ before.library → after_it.failed ≡ before.failed → Goes before after_it
-  longer before after_it more base history library failed = record { more = more; base = base; history = history; way = inl (library, failed) }
+  longer : (before after_it : BookView Disk) (more : List Entry) → length more ≤ 1 → after_it.base ≡ before.base → after_it.history ≡ before.history ++ more → after_it.library ≡ before.library → after_it.failed ≡ before.failed → Goes before after_it
+  longer before after_it more one base history library failed = record { more = more; one = one; base = base; history = history; way = inl (library, failed) }
 
-  written : (before after_it : BookView Disk) (more : List Entry) (P : List ℕ → Type 0) → after_it.base ≡ before.base → after_it.history ≡ before.history ++ more → before.failed ≡ []
+  written : (before after_it : BookView Disk) (more : List Entry) (P : List ℕ → Type 0) → length more ≤ 1 → after_it.base ≡ before.base → after_it.history ≡ before.history ++ more → before.failed ≡ []
       → LeavesOnly D.moment D.left_since before.library.disk after_it.library.disk P
       → ((n : ℕ) (image : List ℕ) → n ≤ length before.history → P image → HoldsFrom after_it n image) → Goes before after_it
-  written before after_it more P base history none leaves holds = record {
+  written before after_it more P one base history none leaves holds = record {
     more = more;
+    one = one;
     base = base;
     history = history;
     way = inr (
@@ -87,7 +90,7 @@ module _ {Disk : Type 0} (D : Ghosts Disk) where
 
   same : (before after_it : BookView Disk) → after_it ≡ before → Goes before after_it
   same before after_it is =
-      longer before after_it [] (ap (λ (b : BookView Disk). b.base) is) (ap (λ (b : BookView Disk). b.history) is ∙ sym (nothing_behind before.history))
+      longer before after_it [] (omega arith) (ap (λ (b : BookView Disk). b.base) is) (ap (λ (b : BookView Disk). b.history) is ∙ sym (nothing_behind before.history))
       (ap (λ (b : BookView Disk). b.library) is) (ap (λ (b : BookView Disk). b.failed) is)
 
   -- ---- what holds of what was left since a moment before holds after the call
@@ -149,14 +152,14 @@ module _ {Disk : Type 0} (D : Ghosts Disk) where
     commit_goes old new command (Ok receipt) answers leaves =
         let done = answers.0 in
         let c = change_of command in
-        written before after_it (receipt.entry ∷ []) (RecoversOneOf before.library.units (after before.library.units c)) done.recorded.base done.recorded.history (idle done.asked.idle) (leaves done.asked.idle)
+        written before after_it (receipt.entry ∷ []) (RecoversOneOf before.library.units (after before.library.units c)) (omega arith) done.recorded.base done.recorded.history (idle done.asked.idle) (leaves done.asked.idle)
         (λ n image few recovers. elim recovers [
           | inl old_map ↦ of_prefix after_it n image before.history (receipt.entry ∷ []) before.base before.library.units done.recorded.base done.recorded.history replays.units few old_map
           | inr new_map ↦ of_prefix after_it n image after_it.history [] after_it.base after_it.library.units refl (sym (nothing_behind after_it.history)) replays_after.units
               (omega (arith, few, ap length done.recorded.history, length-append before.history (receipt.entry ∷ []))) (subst (λ (v : View Disk). RecoversAlone image v.units) (sym done.library) new_map)
         ])
-    commit_goes old new command (Err (Exists receipt)) refused leaves = longer before after_it (receipt.entry ∷ []) refused.recorded.base refused.recorded.history refused.library refused.failed
-    commit_goes old new command (Err (Absent receipt)) refused leaves = longer before after_it (receipt.entry ∷ []) refused.recorded.base refused.recorded.history refused.library refused.failed
+    commit_goes old new command (Err (Exists receipt)) refused leaves = longer before after_it (receipt.entry ∷ []) (omega arith) refused.recorded.base refused.recorded.history refused.library refused.failed
+    commit_goes old new command (Err (Absent receipt)) refused leaves = longer before after_it (receipt.entry ∷ []) (omega arith) refused.recorded.base refused.recorded.history refused.library refused.failed
     commit_goes old new command (Err Closed) (_, stays, _) leaves = same before after_it stays
     commit_goes old new command (Err (Estranged number found)) (_, _, stays, _) leaves = same before after_it stays
     commit_goes old new command (Err Full) (_, _, stays, _) leaves = same before after_it stays
@@ -167,14 +170,14 @@ module _ {Disk : Type 0} (D : Ghosts Disk) where
         let history : after_it.history ≡ before.history = ap (λ (b : BookView Disk). b.history) stays in
         let units : after_it.library.units ≡ before.library.units = ap (λ (b : BookView Disk). b.library.units) stays in
         let failed : after_it.failed ≡ c ∷ [] = ap (λ (b : BookView Disk). b.failed) stays in
-        written before after_it [] (RecoversOneOf before.library.units (after before.library.units c)) base (history ∙ sym (nothing_behind before.history)) (idle asked.idle) (leaves asked.idle)
+        written before after_it [] (RecoversOneOf before.library.units (after before.library.units c)) (omega arith) base (history ∙ sym (nothing_behind before.history)) (idle asked.idle) (leaves asked.idle)
         (λ n image few recovers. elim recovers [
           | inl old_map ↦ of_prefix after_it n image before.history [] before.base before.library.units base (history ∙ sym (nothing_behind before.history)) replays.units few old_map
           | inr new_map ↦ inr (c, failed, subst (λ (u : Units). RecoversAlone image (after u c)) (sym units) new_map)
         ])
 
     pub look_goes : (old new : MemberView) (asked : Asked) (result : Result Receipt BookFault) → LookAnswers before old asked after_it new result → Goes before after_it
-    look_goes old new asked (Ok receipt) (recorded, library, failed) = longer before after_it (receipt.entry ∷ []) recorded.base recorded.history library failed
+    look_goes old new asked (Ok receipt) (recorded, library, failed) = longer before after_it (receipt.entry ∷ []) (omega arith) recorded.base recorded.history library failed
     look_goes old new asked (Err (Estranged number found)) (_, stays, _) = same before after_it stays
     look_goes old new asked (Err OutOfMemory) (stays, _) = same before after_it stays
     look_goes old new asked (Err (Exists receipt)) answers = absurd answers
@@ -186,7 +189,7 @@ module _ {Disk : Type 0} (D : Ghosts Disk) where
     rewritten : after_it.base ≡ before.base → after_it.history ≡ before.history → before.failed ≡ []
         → LeavesOnly D.moment D.left_since before.library.disk after_it.library.disk (λ image. RecoversAlone image before.library.units) → Goes before after_it
     rewritten base history none leaves =
-        written before after_it [] (λ image. RecoversAlone image before.library.units) base (history ∙ sym (nothing_behind before.history)) none leaves
+        written before after_it [] (λ image. RecoversAlone image before.library.units) (omega arith) base (history ∙ sym (nothing_behind before.history)) none leaves
         (λ n image few recovers. of_prefix after_it n image before.history [] before.base before.library.units base (history ∙ sym (nothing_behind before.history)) replays.units few recovers)
 
     pub compact_goes : (result : Result (Unit {0}) BookFault) → CompactAnswers D.failures before after_it result
@@ -217,6 +220,65 @@ module _ {Disk : Type 0} (D : Ghosts Disk) where
       → AreSince D book since → AreSince D book (since ++ book ∷ [])
   one_more book since replays one only_now images all k old at =
       elim (snoc_cases since book old k at) [ inl h ↦ all k old h.1 | inr h ↦ subst (λ (b : BookView Disk). Since book b) (sym h.1) (now_since book replays one only_now images) ]
+
+  -- ---- the entries, one by one
+
+  just_stays : (before after_it : BookView Disk) → (goes : Goes before after_it) → (n : ℕ) (image : List ℕ) → n ≤ length before.history → HoldsJust before n image → HoldsJust after_it n image
+  just_stays before after_it goes n image few (inl recovers) =
+      let cut : take n after_it.history ≡ take n before.history = ap (take n) goes.history ∙ take-append-le n before.history goes.more few in
+      inl (subst (λ (u : Units). RecoversAlone image u) (λ i. units_after (sym goes.base i) (sym cut i)) recovers)
+  just_stays before after_it goes n image few (inr (c, is, recovers)) =
+      elim goes.way [
+        | inl stays ↦ inr (c, stays.1 ∙ is, subst (λ (v : View Disk). RecoversAlone image (after v.units c)) (sym stays.0) recovers)
+        | inr leaves ↦ absurd (none_is_some before.failed c leaves.0 is)
+      ]
+
+  stood_goes : (before after_it : BookView Disk) → Goes before after_it → (n : ℕ) (disk : Disk) → n ≤ length before.history → StoodWith D before n disk → StoodWith D after_it n disk
+  stood_goes before after_it goes n disk few was =
+      let on = goes_on before after_it goes (D.moment disk) n (λ image. ⊥) was.past few (λ image left. inr (was.holds image left)) in
+      record {
+        past = on.0;
+        just = λ image left. just_stays before after_it goes n image few (was.just image left);
+        holds = λ image left. elim (on.1 image left) [ inl none ↦ absurd none | inr held ↦ held ];
+      }
+
+  just_now : (book : BookView Disk) (image : List ℕ) (failed : List LibraryCommand) → book.library.units ≡ units_after book.base book.history → book.failed ≡ failed → length failed ≤ 1
+      → RecoversTo book.library.units failed image → HoldsJust book (length book.history) image
+  just_now book image failed map is one recovers =
+      let whole : units_after book.base (take (length book.history) book.history) ≡ units_after book.base book.history = ap (units_after book.base) (take_all (length book.history) book.history (omega arith)) in
+      by failed is one recovers (map ∙ sym whole)
+    where
+      by : (failed : List LibraryCommand) → book.failed ≡ failed → length failed ≤ 1 → RecoversTo book.library.units failed image
+          → book.library.units ≡ units_after book.base (take (length book.history) book.history) → HoldsJust book (length book.history) image
+      by [] is one recovers all = inl (subst (λ (u : Units). RecoversAlone image u) all recovers)
+      by (c ∷ []) is one (inl recovers) all = inl (subst (λ (u : Units). RecoversAlone image u) all recovers)
+      by (c ∷ []) is one (inr recovers) all = inr (c, is, recovers)
+      by (c ∷ d ∷ others) is one recovers all = absurd (omega (arith, one))
+
+  -- what is known of the book as it is now
+  module _ (book : BookView Disk) (replays : Replays (chronicle_of book)) (one : length book.failed ≤ 1)
+      (only_now : (image : List ℕ) → D.left_since book.library.disk (D.moment book.library.disk) image → D.may_leave book.library.disk image)
+      (images : (image : List ℕ) → D.may_leave book.library.disk image → RecoversTo book.library.units book.failed image) where
+    stood_now : StoodWith D book (length book.history) book.library.disk
+    stood_now = record {
+      past = omega arith;
+      just = λ image left. just_now book image book.failed replays.units refl one (images image left);
+      holds = λ image left. holds_now book image book.failed replays.units refl one (images image (only_now image left));
+    }
+
+    pub ordered_goes : (before : BookView Disk) → Goes before book → IsInOrder D before → IsInOrder D book
+    ordered_goes before goes was entries few =
+        elim (cases_lt (length before.history) entries) [
+          | inl more ↦
+              let all : length book.history ≡ entries = (let one_more = goes.one in omega (arith, ap length goes.history, length-append before.history goes.more, one_more, more, few)) in
+              (book.library.disk, subst (λ (n : ℕ). StoodWith D book n book.library.disk) all stood_now)
+          | inr within ↦ let stood = was entries within in (stood.0, stood_goes before book goes entries stood.0 within stood.1)
+        ]
+
+    pub ordered_begins : book.history ≡ [] → IsInOrder D book
+    ordered_begins none entries few =
+        let all : length book.history ≡ entries = omega (arith, ap length none, few) in
+        (book.library.disk, subst (λ (n : ℕ). StoodWith D book n book.library.disk) all stood_now)
 
 -- reading changes nothing of what a crash has left since an earlier moment
 pub past_on : {Disk : Type 0} (D : Ghosts Disk) (from : ℕ) (left : List ℕ → Type 0) (old new : Disk)

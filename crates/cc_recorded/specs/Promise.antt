@@ -11,15 +11,16 @@ use Rattle.cc_headline.specs.Compiling.{compiling, Keeps, is_right}
 use Rattle.cc_history.specs.Closing.{AreOwn, IsClosed, IsNotWhole}
 use Rattle.cc_history.specs.History.{EachAgrees, MemberView, IsLegal, changes, units_after}
 use Rattle.cc_recorded.specs.Book.{AllAgreed, BookView, RecoversTo}
-use Rattle.cc_recorded.specs.Since.{AreSince, BookSince, HoldsFrom, IsSinceOpening}
+use Rattle.cc_recorded.specs.Since.{AreSince, BookSince, HoldsFrom, IsInOrder, IsSinceOpening}
 use Rattle.cc_recorded.specs.Tie.{IsTied}
 
 -- On an honest disk: the tie to the core's theorem, what a crash at any moment since each earlier call has left, and what one has left since
--- the moment that the service's parameter names, for which it had left this until the opening.
+-- the moment that the service's parameter names, for which it had left this until the opening; and that the entries came one by one.
 pub record IsBook {Disk : Type 0} (D : Ghosts Disk) (from : ℕ) (left : List ℕ → Type 0) (b : BookSince Disk) : Type 0 where
   pub tied : IsTrue D.honest → IsTied compiling Keeps D b.book
   pub since : IsTrue D.honest → AreSince D b.book b.since
   pub opened : IsTrue D.honest → IsSinceOpening D from left b.book
+  pub ordered : IsTrue D.honest → IsInOrder D b.book
 
 -- What a crash leaves of a book's disk recovers, to the library of a prefix of the commands in commit order. These are some that led to
 -- the base, then the changes of the history, then the one in which the device failed. The prefix holds each that was acknowledged, as often as
@@ -54,6 +55,8 @@ pub record IsSound {Disk : Type 0} (D : Ghosts Disk) (base : Units) (from : ℕ)
   pub images : IsTrue D.honest → (image : List ℕ) → D.may_leave book.library.disk image → RecoversTo book.library.units book.failed image
   pub survives : IsTrue D.honest → (image : List ℕ) → D.may_leave book.library.disk image → SurvivesCrash book image
   pub since : IsTrue D.honest → (image : List ℕ) → D.left_since book.library.disk from image → left image ⊎ HoldsPrefix book image
+  -- From when the history had the entry of a call on, a crash leaves that call.
+  pub ordered : IsTrue D.honest → IsInOrder D book
 
 -- What is left of a service that was given up with these clients: its book lay on this disk, and each has receipts of its own calls, in their
 -- order. Where it is said that these are all its clients, every receipt of theirs stands in its history, and every entry has one; where it is

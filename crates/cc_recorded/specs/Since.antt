@@ -27,6 +27,13 @@ module _ {Disk : Type 0} where
       ((j : ℕ) × (entries ≤ j) × (j ≤ length book.history) × RecoversAlone image (units_after book.base (take j book.history)))
       ⊎ ((c : LibraryCommand) × (book.failed ≡ c ∷ []) × RecoversAlone image (after book.library.units c))
 
+  -- An image of the disk as it was when the history had this many entries: it recovers to the base after these; or to the map with the change in which
+  -- the device failed.
+  abbrev pub HoldsJust : BookView Disk → ℕ → List ℕ → Type 0
+  HoldsJust book entries image =
+      RecoversAlone image (units_after book.base (take entries book.history))
+      ⊎ ((c : LibraryCommand) × (book.failed ≡ c ∷ []) × RecoversAlone image (after book.library.units c))
+
 module _ {Disk : Type 0} (D : Ghosts Disk) where
   -- Whatever a crash left since the book was as `old` says holds all calls that were in the history then.
   pub record IsSince (book old : BookView Disk) : Type 0 where
@@ -47,3 +54,14 @@ module _ {Disk : Type 0} (D : Ghosts Disk) where
 
   abbrev pub AreSince : BookView Disk → List (BookView Disk) → Type 0
   AreSince book since = (k : ℕ) (old : BookView Disk) → slice_get since k ≡ Some old → IsSince book old
+
+  -- This was the disk when the history had so many entries, each of them answered: a crash then left these, and whatever one has left from then on
+  -- holds them.
+  pub record StoodWith (book : BookView Disk) (entries : ℕ) (disk : Disk) : Type 0 where
+    pub past : D.moment disk ≤ D.moment book.library.disk
+    pub just : (image : List ℕ) → D.may_leave disk image → HoldsJust book entries image
+    pub holds : (image : List ℕ) → D.left_since book.library.disk (D.moment disk) image → HoldsFrom book entries image
+
+  -- the entries came one by one: with each number of them the disk was there
+  abbrev pub IsInOrder : BookView Disk → Type 0
+  IsInOrder book = (entries : ℕ) → entries ≤ length book.history → (disk : Disk) × StoodWith book entries disk

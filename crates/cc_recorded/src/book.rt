@@ -10,14 +10,14 @@ ghost use Rattle.cc_library.specs.Apply.{Units};
 ghost use Rattle.cc_library.specs.Recovered.{Recovers, RecoversAlone};
 ghost use Rattle.cc_headline.specs.Compiling.{compiling, Keeps, is_right};
 ghost use Rattle.cc_history.specs.Calls.{change_of};
-ghost use Rattle.cc_history.specs.Closing.{AreApart, ReceiptsStand};
+ghost use Rattle.cc_history.specs.Closing.{AreApart, AreOwn, IsClosed, IsNotWhole, ReceiptsStand};
 ghost use Rattle.cc_history.specs.History.{LastStands};
 ghost use Rattle.cc_recorded.specs.Book.{BookView};
 ghost use Rattle.cc_recorded.specs.Answers.{IsBegun, IsLook, IsNotClosed, LookAnswers};
 ghost use Rattle.cc_recorded.specs.Changed.{AllRecover, ChangesAtOnce, IsBookChanged, IsBookCompacted};
 ghost use Rattle.cc_recorded.specs.Compacting.{CompactingAnswers};
 ghost use Rattle.cc_recorded.specs.Opened.{IsOpened};
-ghost use Rattle.cc_recorded.specs.Promise.{IsGivenUp, IsSound};
+ghost use Rattle.cc_recorded.specs.Promise.{IsSound};
 ghost use Rattle.cc_recorded.specs.Since.{HoldsFrom, IsPast};
 ghost use Rattle.cc_recorded.specs.Tie.{IsTied};
 ghost use Rattle.cc_recorded.specs.internal.Early.{IsRefusedEarly};
@@ -317,7 +317,12 @@ impl<N: Based, D: Disk> Book<N, D> {
 
     /// The disk, and whether these are all clients of its history. It takes no memory.
     pub fn give_up<C: HasReceipts>(self, clients: &[C]) -> (D, bool)
-        ensures { IsGivenUp D.Disk N.base N.from N.left (map C.member clients.now) result.1 result.0 }
+        ensures disk { result.0 ≡ self.book.library.disk }
+        ensures sound { IsSound D.Disk N.base N.from N.left self.book }
+        ensures own { AreOwn (map C.member clients.now) }
+        // If so, every receipt of theirs stands in its history, and every entry has one; if not, why.
+        ensures closed { IsTrue result.1 → IsClosed self.book.history (map C.member clients.now) }
+        ensures why { result.1 ≡ false → IsNotWhole self.book.history (map C.member clients.now) }
     {
         self.survives();
         let are_all = self.recorded.is_whole(clients);

@@ -8,7 +8,7 @@ use denote.Param.Weighed.{most, at_most}
 use Rattle.std.proofs.lemmas.Grind.{reverse_onto}
 use Rattle.cc_cminor.specs.Code.{expression_of, expressions_of, statement_of, statements_in, in_sequence}
 use Rattle.cc_cminor.specs.internal.Statements.{statements_of}
-use Rattle.cc_cminor.specs.Numbers.{ExpressionFits, ExpressionsFit, StatementFits}
+use Rattle.cc_cminor.specs.Numbers.{most_variables, ExpressionBelow, ExpressionsBelow, StatementFits}
 use Rattle.cc_cminor.specs.declared.code.Expression.{Expression}
 use Rattle.cc_cminor.specs.declared.code.Statement as written
 use Rattle.cc_cminor.specs.declared.code.Statement.{Statement, Row_of-Statement, end_of-Statement, more_of-Statement, items-the_row-Statement}
@@ -25,8 +25,8 @@ use Rattle.cc_rtl_language.proofs.Places.{same_test}
 
 -- ---- arguments
 
-pub first_fits : (es : List Expression) (e : Expression) (rest : List Expression) → es ≡ e ∷ rest → ExpressionsFit (expressions_of es) → ExpressionFits (expression_of e) × ExpressionsFit (expressions_of rest)
-first_fits es e rest is fits = subst (λ l. ExpressionsFit (expressions_of l)) is fits
+pub first_fits : (es : List Expression) (e : Expression) (rest : List Expression) → es ≡ e ∷ rest → ExpressionsBelow most_variables (expressions_of es) → ExpressionBelow most_variables (expression_of e) × ExpressionsBelow most_variables (expressions_of rest)
+first_fits es e rest is fits = subst (λ l. ExpressionsBelow most_variables (expressions_of l)) is fits
 
 pub first_nodes : (es : List Expression) (e : Expression) (rest : List Expression) → es ≡ e ∷ rest → operands_nodes (expressions_of es) ≡ operand_nodes (expression_of e) + operands_nodes (expressions_of rest)
 first_nodes es e rest is = ap (λ l. operands_nodes (expressions_of l)) is

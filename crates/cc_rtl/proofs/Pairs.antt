@@ -4,6 +4,7 @@ use Rattle.cc_ast.specs.declared.unit.Unit as parsed
 use Rattle.cc_types.specs.Typed.{IsTyped}
 use Rattle.cc_c_laws.specs.Meaning.{functions}
 use Rattle.cc_c_laws.specs.Resolved.{arities}
+use Rattle.cc_c_laws.specs.declared.mode.Mode.{Mode}
 use Rattle.cc_simulation.proofs.Simulating.{coarser}
 use Rattle.cc_cminor.specs.Code.{statement_of}
 use Rattle.cc_cminor.specs.Pair as cminor
@@ -13,7 +14,7 @@ use Rattle.cc_rtl_language.specs.Pair.{IsPair, AreCalls, KeepsUp}
 use Rattle.cc_rtl.specs.Size.{function_nodes}
 use Rattle.cc_rtl.specs.internal.Generate.{IsFormed, generated_rtl}
 use Rattle.cc_rtl.specs.internal.Generating.{generated_nodes}
-use Rattle.cc_rtl.specs.internal.Variables.{above_statement}
+use Rattle.cc_cminor.specs.Variables.{above_statement}
 use Rattle.cc_rtl.proofs.Called.{generated_calls}
 use Rattle.cc_rtl.proofs.Function.{generated_tracks}
 use Rattle.cc_rtl.proofs.Kept.{many, is_rtl}
@@ -35,19 +36,20 @@ module _ (p : cminor.Pair) (s : written.Statement) (parameters count : ℕ) (nod
   pub as_many_nodes : length nodes ≡ function_nodes (cminor.code_of p)
   as_many_nodes = ap {A = rtl.Rtl} (λ r. length r.nodes) (sym same) ∙ many parameters count (statement_of s) formed ∙ ap (λ t. function_nodes (statement_of t)) code_is
 
-  pub pair_made : (unit : parsed.Unit) (f : ℕ) → unit ≡ p.unit → f ≡ p.function → IsTyped (cminor.tree_of p) → p.function < length (functions (cminor.tree_of p)) → slice_get (arities (cminor.tree_of p)) p.function ≡ Some parameters
-      → cminor.AreCalls (cminor.tree_of p) (cminor.code_of p) → cminor.KeepsUp (cminor.tree_of p) p.function (cminor.code_of p)
-      → IsPair (record { unit = unit; function = f; rtl = record { parameters = parameters; entry = 0; nodes = nodes } })
-  pair_made unit f unit_is function_is typed below parameters_are calls keeps =
-      let made : IsPair (record { unit = p.unit; function = p.function; rtl = record { parameters = parameters; entry = 0; nodes = nodes } }) = record {
+  pub pair_made : (mode : Mode) (unit : parsed.Unit) (f : ℕ) → mode ≡ p.mode → unit ≡ p.unit → f ≡ p.function → IsTyped (cminor.tree_of p) → p.function < length (functions (cminor.tree_of p)) → slice_get (arities (cminor.tree_of p)) p.function ≡ Some parameters
+      → cminor.AreCalls (cminor.tree_of p) (cminor.code_of p) → cminor.KeepsUp p.mode (cminor.tree_of p) p.function (cminor.code_of p)
+      → IsPair (record { mode = mode; unit = unit; function = f; rtl = record { parameters = parameters; entry = 0; nodes = nodes } })
+  pair_made mode unit f mode_is unit_is function_is typed below parameters_are calls keeps =
+      let made : IsPair (record { mode = p.mode; unit = p.unit; function = p.function; rtl = record { parameters = parameters; entry = 0; nodes = nodes } }) = record {
         typed = typed;
         function = below;
         rtl = rtl_made;
         parameters = parameters_are;
         calls = subst (AreCalls (cminor.tree_of p)) same (generated_calls (cminor.tree_of p) parameters count (statement_of s) formed (subst (λ t. cminor.AreCalls (cminor.tree_of p) (statement_of t)) (sym code_is) calls));
         keeps_up =
-            subst (KeepsUp (cminor.tree_of p) p.function) same
-            (coarser 1 (suc (size (statement_of s))), λ meaning is. generated_tracks parameters count (statement_of s) formed meaning p.function 1 (subst (λ t. cminor.KeepsUp (cminor.tree_of p) p.function (statement_of t)) (sym code_is) keeps meaning is));
+            subst (KeepsUp p.mode (cminor.tree_of p) p.function) same
+            (coarser 1 (suc (size (statement_of s))), λ meaning is. generated_tracks parameters count (statement_of s) formed meaning p.function 1 (subst (λ t. cminor.KeepsUp p.mode (cminor.tree_of p) p.function (statement_of t)) (sym code_is) keeps meaning is));
       } in
-      subst (λ u. IsPair (record { unit = u; function = f; rtl = record { parameters = parameters; entry = 0; nodes = nodes } })) (sym unit_is)
-      (subst (λ k. IsPair (record { unit = p.unit; function = k; rtl = record { parameters = parameters; entry = 0; nodes = nodes } })) (sym function_is) made)
+      subst (λ m. IsPair (record { mode = m; unit = unit; function = f; rtl = record { parameters = parameters; entry = 0; nodes = nodes } })) (sym mode_is)
+      (subst (λ u. IsPair (record { mode = p.mode; unit = u; function = f; rtl = record { parameters = parameters; entry = 0; nodes = nodes } })) (sym unit_is)
+      (subst (λ k. IsPair (record { mode = p.mode; unit = p.unit; function = k; rtl = record { parameters = parameters; entry = 0; nodes = nodes } })) (sym function_is) made))

@@ -6,10 +6,9 @@ use Rattle.cc_cminor.specs.internal.Statements.{statements_of}
 use Rattle.cc_cminor.specs.declared.code.Expression.{Expression}
 use Rattle.cc_cminor.specs.declared.code.Statement as written
 use Rattle.cc_cminor.specs.declared.code.Statement.{Statement, Row_of-Statement, end_of-Statement, more_of-Statement, items-the_row-Statement}
-use Rattle.cc_cminor.specs.Numbers.{StatementFits}
 use Rattle.cc_cminor.specs.Size.{expression_size, expressions_size, statement_size}
 use Rattle.cc_rtl.specs.Size.{variable_of, kept_by, into_nodes, operand_nodes, operands_nodes, statement_nodes}
-use Rattle.cc_rtl.specs.internal.Variables.{above, above_result, above_expression, above_expressions, above_statement}
+use Rattle.cc_cminor.specs.Variables.{above, above_result, above_expression, above_expressions, above_statement}
 use Rattle.cc_rtl.specs.internal.Generate.{Uses, AllUse, IsFormed}
 use Rattle.std.proofs.lemmas.Bool.Decides.{nat_tests}
 
@@ -21,19 +20,9 @@ in_row n (more_of-Statement s rest) = ap (λ ss. statement_of s ∷ ss) (in_row 
 pub sequence_is : (all : _) → statement_of (written.Sequence all) ≡ in_sequence (statements_of all.items)
 sequence_is all = search (rules, written.the_lemmas, in_row)
 
-pub fits_list : (s : Statement) (all : _) (l : List Statement) → s ≡ written.Sequence all → l ≡ all.items → StatementFits (statement_of s) → StatementFits (in_sequence (statements_of l))
-fits_list s all l is same fits = subst StatementFits (ap statement_of is ∙ sequence_is all ∙ ap (λ k. in_sequence (statements_of k)) (sym same)) fits
-
-pub above_list : (count : ℕ) (s : Statement) (all : _) (l : List Statement) → s ≡ written.Sequence all → l ≡ all.items → above_statement count (in_sequence (statements_of l)) ≡ above_statement count (statement_of s)
-above_list count s all l is same = sym (ap (above_statement count) (ap statement_of is ∙ sequence_is all ∙ ap (λ k. in_sequence (statements_of k)) (sym same)))
-
 pub nodes_after_first : (s : cminor.Statement) (rest : List cminor.Statement) → statement_nodes (in_sequence (s ∷ rest)) ≡ statement_nodes s + statement_nodes (in_sequence rest)
 nodes_after_first s [] = omega arith
 nodes_after_first s (t ∷ rest) = refl
-
-pub above_after_first : (count : ℕ) (s : cminor.Statement) (rest : List cminor.Statement) → above_statement count (in_sequence (s ∷ rest)) ≡ above_statement (above_statement count s) (in_sequence rest)
-above_after_first count s [] = refl
-above_after_first count s (t ∷ rest) = refl
 
 -- ---- the rest of a list
 
@@ -47,14 +36,6 @@ operands_left all i e lt is = ap (λ es. operands_nodes (expressions_of es)) (dr
 pub statements_left : (all : List Statement) (i : ℕ) (s : Statement) → i < length all → s ≡ get_or all i s
     → statement_nodes (in_sequence (statements_of (drop i all))) ≡ statement_nodes (statement_of s) + statement_nodes (in_sequence (statements_of (drop (i + 1) all)))
 statements_left all i s lt is = ap (λ ss. statement_nodes (in_sequence (statements_of ss))) (drop_item all i s lt is) ∙ nodes_after_first (statement_of s) (statements_of (drop (i + 1) all))
-
-pub above_left : (count : ℕ) (all : List Statement) (i : ℕ) (s : Statement) → i < length all → s ≡ get_or all i s
-    → above_statement count (in_sequence (statements_of (drop i all))) ≡ above_statement (above_statement count (statement_of s)) (in_sequence (statements_of (drop (i + 1) all)))
-above_left count all i s lt is = ap (λ ss. above_statement count (in_sequence (statements_of ss))) (drop_item all i s lt is) ∙ above_after_first count (statement_of s) (statements_of (drop (i + 1) all))
-
-pub all_above_left : (count : ℕ) (all : List Expression) (i : ℕ) (e : Expression) → i < length all → e ≡ get_or all i e
-    → above_expressions count (expressions_of (drop i all)) ≡ above_expressions (above_expression count (expression_of e)) (expressions_of (drop (i + 1) all))
-all_above_left count all i e lt is = ap (λ es. above_expressions count (expressions_of es)) (drop_item all i e lt is)
 
 -- ---- nodes, statements and expressions
 

@@ -4,5 +4,3 @@ pub mod Translates
 pub mod Generate
 -- What the contracts of the generator's code speak of.
 pub mod Generating
--- How many registers the variables take.
-pub mod Variables

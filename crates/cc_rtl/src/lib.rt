@@ -1,14 +1,13 @@
 //! From Cminor to RTL, the code of a function as a graph of labelled nodes over pseudo-registers.
 //!
 //! The language is that of `cc_rtl_language`, and handed out here too. `translate` has the call; `size` counts the nodes that a function
-//! takes, `variables` the registers of its variables, `generate` makes the nodes from the function's Cminor.
+//! takes, `generate` makes the nodes from the function's Cminor.
 #![tactic(auto)]
 
 mod fault;
 mod generate;
 mod size;
 mod translate;
-mod variables;
 
 pub use cc_rtl_language::{Node, Rtl, RtlPair, rtl_is_a_layer};
 pub use fault::RtlFault;

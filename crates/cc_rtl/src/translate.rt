@@ -11,9 +11,8 @@ ghost use Rattle.cc_rtl.specs.declared.fault.RtlFault.TheVariants.{FunctionTooLa
 use crate::fault::RtlFault;
 use crate::generate::generate;
 use crate::size::fits;
-use crate::variables::with_statement;
 use cc_c_laws::functions_are_resolved;
-use cc_cminor::CminorPair;
+use cc_cminor::{CminorPair, variables_above};
 use cc_rtl_language::{Rtl, RtlPair};
 use cc_types::TypedUnit;
 use std::alloc::Global;
@@ -37,6 +36,7 @@ fn parameters_of(pair: &CminorPair) -> u32
 /// `FunctionTooLarge` (22) exactly where it would have more than 4,096 nodes, which needs more than 3,072 statements and expressions;
 /// `OutOfMemory` (40) where memory runs out. The pair is given up with an error.
 pub fn to_rtl(alloc: Global, pair: CminorPair) -> Result<RtlPair, RtlFault>
+    ensures mode { IfOk result (λ made. made.mode ≡ pair.mode) }
     ensures unit { IfOk result (λ made. made.unit ≡ pair.unit) }
     ensures function { IfOk result (λ made. made.function ≡ pair.function) }
     ensures nodes { IfOk result (λ made. length made.rtl.nodes ≡ function_nodes (code_of pair)) }
@@ -44,17 +44,18 @@ pub fn to_rtl(alloc: Global, pair: CminorPair) -> Result<RtlPair, RtlFault>
     ensures large { IfErr result (λ fault. fault ≡ FunctionTooLarge → 3072 < statement_size (code_of pair)) }
 {
     let parameters = parameters_of(&pair);
+    let mode = pair.mode();
     let function = pair.function();
     let code = pair.code();
     if !fits(code) {
         drop(pair);
         return Err(RtlFault::FunctionTooLarge);
     }
-    let count = with_statement(parameters, code);
+    let count = variables_above(parameters, code);
     match generate(alloc, count, code) {
         Ok(nodes) => {
             let rtl = Rtl::new(parameters, 0, nodes);
-            Ok(RtlPair::new(pair.into_unit(), function, rtl))
+            Ok(RtlPair::new(mode, pair.into_unit(), function, rtl))
         }
         Err(_) => {
             drop(pair);

@@ -11,6 +11,7 @@ use Rattle.cc_simulation.specs.internal.Simulation.{Advances, Asks, Ending, Simu
 use Rattle.cc_simulation.proofs.Simulating.{coarser, tracks_on}
 use Rattle.cc_rtl_language.specs.Rtl.{Rtl, Node, Nop, Const, Move, Unary, Binary, Load, Store, Call, Read, Write, Branch, Return, Registers, Configuration, at, put, answered, branched, node_at, node_move, rtl_move, rtl_output, rtl_start, successors}
 use Rattle.cc_rtl_language.specs.Live.{Sets, in_some, result, Carries, is_dead, is_nop, as_nop, with_nops, MayBecomeNops, MayGo, among, without}
+use Rattle.cc_c_laws.specs.declared.mode.Mode.{Mode}
 use Rattle.cc_rtl_language.specs.Pair.{Pair, tree_of, IsCallOf, KeepsUp, IsPair}
 use Rattle.cc_rtl_language.proofs.Nops.{Which, turned, these, node_turned, turned_from, is_rtl}
 
@@ -220,8 +221,8 @@ module _ (r : Rtl) (which : Which) (may : MayBecomeNops r.nodes which) where
     ends = ends;
   }
 
-  pub keeps_up : (unit : List External) (f : ℕ) → KeepsUp unit f r → KeepsUp unit f less
-  keeps_up unit f (rate, keeps) = (
+  pub keeps_up : (mode : Mode) (unit : List External) (f : ℕ) → KeepsUp mode unit f r → KeepsUp mode unit f less
+  keeps_up mode unit f (rate, keeps) = (
     coarser rate 0,
     λ meaning is. tracks_on meaning f rate (rtl_move r) rtl_output (rtl_move less) rtl_output Same (λ c. 0) 0 0 simulation (rtl_start r) (rtl_start less)
         (λ ws h call. record { label = refl; world = refl; agree = λ x l. refl }) (keeps meaning is),
@@ -254,5 +255,5 @@ pair_without p labels may is = record {
   rtl = is_rtl (these labels) p.rtl is.rtl;
   parameters = is.parameters;
   calls = λ label n e. let old = turned_from (these labels) p.rtl.nodes label n e in subst (IsCallOf (tree_of p)) (sym old.2) (calls_turned (tree_of p) (among labels label) old.0 (is.calls label old.0 old.1));
-  keeps_up = keeps_up p.rtl (these labels) may (tree_of p) p.function is.keeps_up;
+  keeps_up = keeps_up p.rtl (these labels) may p.mode (tree_of p) p.function is.keeps_up;
 }

@@ -10,6 +10,7 @@ use Rattle.cc_simulation.proofs.Following.{tracks_follow}
 use Rattle.cc_ast.specs.Tree.{External}
 use Rattle.cc_rtl_language.specs.Rtl as rtl
 use Rattle.cc_rtl_language.specs.Rtl.{Configuration, Registers, Rtl, node_at, node_move, rtl_output, rtl_start}
+use Rattle.cc_c_laws.specs.declared.mode.Mode.{Mode}
 use Rattle.cc_rtl_language.specs.Pair.{KeepsUp, FollowsFunction}
 use Rattle.cc_rtl_language.specs.internal.Moves.{Graph, graph_move}
 
@@ -53,6 +54,6 @@ rtl_layer nodes = record {
     at_label c = tried_case (rtl_output c) (nodes c.label) _ (λ n. layered n c.registers c.world)
 
 -- what keeps up follows, at whatever rate
-pub follows_of : (unit : List External) (f : ℕ) (r : Rtl) → KeepsUp unit f r → FollowsFunction unit f r
-follows_of unit f r (rate, keeps) meaning is opened below ws h call =
+pub follows_of : (mode : Mode) (unit : List External) (f : ℕ) (r : Rtl) → KeepsUp mode unit f r → FollowsFunction mode unit f r
+follows_of mode unit f r (rate, keeps) meaning is opened below ws h call =
     tracks_follow meaning (graph_move (node_at r.nodes)) rtl_output (rtl_layer (node_at r.nodes)) f rate (rtl_start r) (keeps meaning is) opened below ws h call

@@ -6,7 +6,8 @@ use Rattle.cc_ast.specs.declared.unit.Unit as parsed
 use Rattle.cc_types.specs.Typed.{IsTyped}
 use Rattle.cc_c_laws.specs.Meaning.{functions}
 use Rattle.cc_c_laws.specs.Resolved.{arities}
-use Rattle.cc_c_laws.specs.Numbered.{IsMeaningOf}
+use Rattle.cc_c_laws.specs.Numbered.{IsMeaning}
+use Rattle.cc_c_laws.specs.declared.mode.Mode.{Mode}
 use Rattle.cc_simulation.specs.Behavior.{Follows}
 use Rattle.cc_simulation.specs.World.{World}
 use Rattle.cc_simulation.specs.Run.{run}
@@ -14,8 +15,9 @@ use Rattle.cc_simulation.specs.Meaning.{Meaning, most_open, IsCall, call_effect,
 use Rattle.cc_simulation.specs.Tracks.{Tracks}
 use Rattle.cc_rtl_language.specs.Rtl.{Rtl, Node, Nop, Const, Move, Unary, Binary, Load, Store, Call, Read, Write, Branch, Return, IsRtl, node_at, rtl_move, rtl_output, rtl_start}
 
--- a pair as contracts see it: the unit, the function's number in the order of definitions, and its RTL
+-- a pair as contracts see it: the mode, the unit, the function's number in the order of definitions, and its RTL
 pub record Pair : Type 0 where
+  pub mode : Mode
   pub unit : parsed.Unit
   pub function : ℕ
   pub rtl : Rtl
@@ -48,13 +50,13 @@ abbrev pub HasParameters : List External → (function : ℕ) → Rtl → Type 0
 HasParameters unit f rtl = slice_get (arities unit) f ≡ Some rtl.parameters
 
 -- at some rate the run keeps up with the function
-abbrev pub KeepsUp : List External → (function : ℕ) → Rtl → Type 0
-KeepsUp unit f rtl = (rate : ℕ) × ((meaning : Meaning) → IsMeaningOf unit meaning → Tracks meaning f rate (rtl_move rtl) rtl_output (rtl_start rtl))
+abbrev pub KeepsUp : Mode → List External → (function : ℕ) → Rtl → Type 0
+KeepsUp mode unit f rtl = (rate : ℕ) × ((meaning : Meaning) → IsMeaning mode unit meaning → Tracks meaning f rate (rtl_move rtl) rtl_output (rtl_start rtl))
 
 -- so at each number of open calls the run follows the function's body
-abbrev pub FollowsFunction : List External → (function : ℕ) → Rtl → Type 0
-FollowsFunction unit f rtl =
-    (meaning : Meaning) → IsMeaningOf unit meaning → (opened : ℕ) → opened < most_open → (ws : List ℕ) (h : World) → IsCall meaning f ws h
+abbrev pub FollowsFunction : Mode → List External → (function : ℕ) → Rtl → Type 0
+FollowsFunction mode unit f rtl =
+    (meaning : Meaning) → IsMeaning mode unit meaning → (opened : ℕ) → opened < most_open → (ws : List ℕ) (h : World) → IsCall meaning f ws h
     → Follows (λ n. answered (meaning.body n opened f ws h)) (λ (b : ℕ × ℕ). run (rtl_move rtl) rtl_output (call_effect meaning (suc opened)) b.0 b.1 (rtl_start rtl ws h))
 
 -- what a pair's type keeps
@@ -64,4 +66,4 @@ pub record IsPair (p : Pair) : Type 0 where
   pub rtl : IsRtl p.rtl
   pub parameters : HasParameters (tree_of p) p.function p.rtl
   pub calls : AreCalls (tree_of p) p.rtl
-  pub keeps_up : KeepsUp (tree_of p) p.function p.rtl
+  pub keeps_up : KeepsUp p.mode (tree_of p) p.function p.rtl

@@ -9,6 +9,7 @@ ghost use Rattle.cc_rtl_language.specs.Live.{without, MayGo};
 ghost use Rattle.cc_rtl_language.specs.Pair.{Pair, tree_of, AreCalls, HasParameters, KeepsUp, FollowsFunction, IsPair};
 
 use crate::rtl::Rtl;
+use cc_c_laws::Mode;
 use cc_types::TypedUnit;
 use std::marker::Model;
 use std::sync::Arc;
@@ -16,6 +17,7 @@ use std::sync::Arc;
 /// The RTL of one function of a typed unit. Contracts see the unit, the function's number and the RTL; that its run follows the
 /// function's meaning belongs to the type, so nobody holds a pair of which it is not true.
 pub struct RtlPair {
+    mode: Mode,
     unit: Arc<TypedUnit>,
     function: usize,
     code: Rtl,
@@ -25,6 +27,7 @@ pub struct RtlPair {
 impl Drop for RtlPair {
     fn drop(self) {
         let RtlPair {
+            mode,
             unit,
             function,
             code,
@@ -36,28 +39,37 @@ impl Model for RtlPair {
     ghost use Rattle.std.specs.Arc.{arc_value};
     ghost use Rattle.std.specs.Coded.{codes};
     ghost use Rattle.cc_ast.specs.contracts.unit.Unit as parsed;
+    ghost use Rattle.cc_c_laws.specs.contracts.mode.Mode as modes;
     ghost use Rattle.cc_rtl_language.specs.Pair.{Pair, IsPair};
 
     ghost Value = { Pair };
 
-    ghost coded = { Prim.hlevel (codes, parsed.the_row.coded) };
+    ghost coded = { Prim.hlevel (codes, modes.the_row.coded, parsed.the_row.coded) };
 
-    ghost view = { λ p. record { unit = arc_value p.unit; function = p.function; rtl = p.code } };
+    ghost view = { λ p. record { mode = p.mode; unit = arc_value p.unit; function = p.function; rtl = p.code } };
 
-    ghost invariant = { λ p. IsPair (record { unit = arc_value p.unit; function = p.function; rtl = p.code }) };
+    ghost invariant = { λ p. IsPair (record { mode = p.mode; unit = arc_value p.unit; function = p.function; rtl = p.code }) };
 }
 
 impl RtlPair {
     /// The pair of a function whose RTL is proved to keep up with it: what the type keeps is asked for here. It takes no memory.
-    pub fn new(unit: Arc<TypedUnit>, function: usize, code: Rtl) -> RtlPair
-        requires { IsPair (record { unit = arc_value unit; function = function; rtl = code }) }
-        ensures { result ≡ record { unit = arc_value unit; function = function; rtl = code } }
+    pub fn new(mode: Mode, unit: Arc<TypedUnit>, function: usize, code: Rtl) -> RtlPair
+        requires { IsPair (record { mode = mode; unit = arc_value unit; function = function; rtl = code }) }
+        ensures { result ≡ record { mode = mode; unit = arc_value unit; function = function; rtl = code } }
     {
         RtlPair {
+            mode,
             unit,
             function,
             code,
         }
+    }
+
+    /// What the code owes if the function goes wrong.
+    pub fn mode(&self) -> Mode
+        ensures answer { result ≡ self.now.mode }
+    {
+        self.mode
     }
 
     /// The unit.
@@ -84,8 +96,8 @@ impl RtlPair {
         ensures typed { IsTyped (tree_of self.now) }
         ensures parameters { HasParameters (tree_of self.now) self.now.function self.now.rtl }
         ensures calls { AreCalls (tree_of self.now) self.now.rtl }
-        ensures keeps_up { KeepsUp (tree_of self.now) self.now.function self.now.rtl }
-        ensures follows { FollowsFunction (tree_of self.now) self.now.function self.now.rtl }
+        ensures keeps_up { KeepsUp self.now.mode (tree_of self.now) self.now.function self.now.rtl }
+        ensures follows { FollowsFunction self.now.mode (tree_of self.now) self.now.function self.now.rtl }
     {
         &self.code
     }
@@ -114,6 +126,7 @@ impl RtlPair {
         ensures answer { arc_value result ≡ self.unit }
     {
         let RtlPair {
+            mode: _,
             unit,
             function: _,
             code,

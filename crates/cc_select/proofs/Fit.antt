@@ -2,7 +2,7 @@
 -- it, registers stay registers, and each word and number is one that the step's instructions can have. Words that are known are words, since
 -- they come of items.
 use Rattle.std.proofs.Common.{◌≡◌, ℕ, List, [], ◌∷◌, Option, Some, None, true, false, Bool, ◌≢◌, refl, sym, ap, ◌∙◌, subst}
-use Rattle.std.specs.Prelude.{if◌then◌else◌, ◌==◌, Contains}
+use Rattle.std.specs.Prelude.{if◌then◌else◌, ◌==◌, ◌||◌, not, Contains}
 use Rattle.std.specs.List.{AllByRecursion, AllPairs}
 use Rattle.cc_simulation.specs.Unknown.{survives}
 use Rattle.cc_ltl.specs.declared.operation.Move.TheVariants.{Between, Reload, Spill}
@@ -12,9 +12,16 @@ use Rattle.cc_linear_language.specs.declared.item.LinearItem.TheVariants.{Label,
 use Rattle.cc_linear_language.specs.Linear as above
 use Rattle.cc_linear_language.specs.Linear.{IsItem, IsLinear}
 use Rattle.cc_select.specs.declared.step.Step.{Step}
-use Rattle.cc_select.specs.declared.step.Step.TheVariants.{One}
+use Rattle.cc_select.specs.declared.step.Step.TheVariants.{One, Immediate, LoadAt, StoreAt, LoadNear, StoreNear, Branch, BranchImmediate}
+use Rattle.cc_select.specs.declared.step.WordOperator.{WordOperator}
+use Rattle.cc_select.specs.declared.step.WordOperator.TheVariants.{Add, Sub}
+use Rattle.cc_select.specs.declared.near.Sum.{Sum}
+use Rattle.cc_words.specs.Words.{neg}
+use Rattle.cc_words.proofs.Laws.{IsWord-neg}
+use Rattle.cc_ltl.specs.Registers.{IsAllocatable}
 use Rattle.cc_select.specs.Selected.{labels, IsStep, IsSelected}
 use Rattle.cc_select.specs.Known.{Known, unknown, forget, learn, known_behind, choose, chosen}
+use Rattle.cc_select.specs.Near.{unless, summed, sum_immediate, sum_item, sum_behind, sum_in, near, nearer}
 use Rattle.cc_select.specs.Threading.{threaded}
 use Rattle.cc_select.specs.Live.{Registers, live}
 use Rattle.cc_select.specs.Table.{table}
@@ -22,6 +29,7 @@ use Rattle.cc_select.specs.Selection.{lean, Test, test_of, behind, Truth, truth_
 use Rattle.cc_select.proofs.Basics.{none_some, either_way}
 use Rattle.cc_select.proofs.Places.{IsThere, there_labels}
 use Rattle.cc_select.proofs.Forms.{right_is, left_is}
+use Rattle.cc_select.proofs.Nearing.{load_near_gives, store_near_gives, load_near_there, store_near_there}
 use Rattle.cc_select.proofs.Choices.{nonzero_gives, zero_gives, binary_gives, load_gives, store_gives, nonzero_there, zero_there, binary_there, load_there, store_there}
 use Rattle.cc_select.proofs.Fused.{is_truth}
 use Rattle.cc_select.proofs.Threading_fits.{threaded_linear}
@@ -43,7 +51,16 @@ lean_labels at [] = refl
 lean_labels at (One (Label n) ∷ steps) = ap (λ (ls : List ℕ). n ∷ ls) (lean_labels at steps)
 lean_labels at (One (Const to w) ∷ steps) =
     either_way (λ (xs : List Step). labels xs ≡ labels steps) (live at steps to) (One (Const to w) ∷ lean at steps) (lean at steps) (lean_labels at steps) (lean_labels at steps)
+lean_labels at (Immediate o to a w ∷ steps) =
+    either_way (λ (xs : List Step). labels xs ≡ labels steps) (live at steps to || not (live at steps a)) (Immediate o to a w ∷ lean at steps) (lean at steps) (lean_labels at steps) (lean_labels at steps)
 lean_labels at (s ∷ steps) = lean_labels at steps
+
+near_labels : (z : Option Sum) (steps : List Step) → labels (nearer z steps) ≡ labels steps
+near_labels z [] = refl
+near_labels z (One (Label n) ∷ steps) = ap (λ (ls : List ℕ). n ∷ ls) (near_labels None steps)
+near_labels z (One (Load width g to i) ∷ steps) = there_labels (near z (One (Load width g to i))) (nearer (unless to z) steps) (load_near_there z width g to i) ∙ near_labels (unless to z) steps
+near_labels z (One (Store width g i a) ∷ steps) = there_labels (near z (One (Store width g i a))) (nearer z steps) (store_near_there z width g i a) ∙ near_labels z steps
+near_labels z (s ∷ steps) = near_labels (sum_behind s z) steps
 
 test_labels : (at : ℕ → Registers) (steps : List Step) (t : Test) → test_of steps ≡ Some t → labels (behind (fused at steps)) ≡ labels (fused at steps)
 test_labels at [] t e = refl
@@ -63,10 +80,10 @@ fused_labels at [] = refl
 fused_labels at (One (Label n) ∷ steps) = ap (λ (ls : List ℕ). n ∷ ls) (fused_labels at steps)
 fused_labels at (s ∷ steps) = joined_labels at s (truth_of s) (test_of steps) steps refl refl tt ∙ fused_labels at steps
 
-trimmed_labels : (is : List LinearItem) → labels (trimmed (chosen unknown is)) ≡ above.labels is
+trimmed_labels : (is : List LinearItem) → labels (trimmed (nearer None (chosen unknown is))) ≡ above.labels is
 trimmed_labels is =
-    let steps = chosen unknown is in
-    fused_labels (table steps) (lean (table steps) steps) ∙ lean_labels (table steps) steps ∙ chosen_labels unknown is
+    let steps = nearer None (chosen unknown is) in
+    fused_labels (table steps) (lean (table steps) steps) ∙ lean_labels (table steps) steps ∙ near_labels None (chosen unknown is) ∙ chosen_labels unknown is
 
 -- ---- what is known are words
 
@@ -140,7 +157,66 @@ module _ (slots functions : ℕ) (all : List ℕ) where
   lean_fits : (at : ℕ → Registers) (steps : List Step) → AreFit steps → AreFit (lean at steps)
   lean_fits at [] f = tt
   lean_fits at (One (Const to w) ∷ steps) f = either_way AreFit (live at steps to) (One (Const to w) ∷ lean at steps) (lean at steps) (f.0, lean_fits at steps f.1) (lean_fits at steps f.1)
+  lean_fits at (Immediate o to a w ∷ steps) f = either_way AreFit (live at steps to || not (live at steps a)) (Immediate o to a w ∷ lean at steps) (lean at steps) (f.0, lean_fits at steps f.1) (lean_fits at steps f.1)
   lean_fits at (s ∷ steps) f = (f.0, lean_fits at steps f.1)
+
+  -- a sum that is known is of registers, with a word
+  abbrev IsSum : Option Sum → Type 0
+  IsSum None = Unit {0}
+  IsSum (Some s) = IsAllocatable s.from × IsWord s.word
+
+  sum_unless : (r : ℕ) (z : Option Sum) → IsSum z → IsSum (unless r z)
+  sum_unless r None p = tt
+  sum_unless r (Some s) p = either_way IsSum ((r == s.to) || (r == s.from)) None (Some s) tt p
+
+  sum_summed : (to from w : ℕ) → IsAllocatable from → IsWord w → IsSum (summed to from w)
+  sum_summed to from w u p = either_way IsSum (to == from) None (Some (record { to = to; from = from; word = w })) tt (u, p)
+
+  sum_of_immediate : (o : WordOperator) (to from w : ℕ) (z : Option Sum) → IsAllocatable from → IsWord w → IsSum z → IsSum (sum_immediate o to from w z)
+  sum_of_immediate Add to from w z u p q = sum_summed to from w u p
+  sum_of_immediate Sub to from w z u p q = sum_summed to from (neg w) u (IsWord-neg w)
+  sum_of_immediate o to from w z u p q = sum_unless to z q
+
+  sum_of_item : (i : LinearItem) (z : Option Sum) → IsSum z → IsSum (sum_item i z)
+  sum_of_item (Label n) z p = tt
+  sum_of_item (Jump n) z p = tt
+  sum_of_item (IfNonzero r n) z p = p
+  sum_of_item (IfZero r n) z p = p
+  sum_of_item (Copy (Between to from)) z p = sum_unless to z p
+  sum_of_item (Copy (Reload to slot)) z p = sum_unless to z p
+  sum_of_item (Copy (Spill slot from)) z p = p
+  sum_of_item (Const to w) z p = sum_unless to z p
+  sum_of_item (Unary o to a) z p = sum_unless to z p
+  sum_of_item (Binary o to a b) z p = sum_unless to z p
+  sum_of_item (Load width g to i) z p = sum_unless to z p
+  sum_of_item (Store width g i a) z p = p
+  sum_of_item (Call g) z p = tt
+  sum_of_item Read z p = sum_unless 10 (unless 17 z) (sum_unless 17 z p)
+  sum_of_item Write z p = sum_unless 17 z p
+  sum_of_item Return z p = tt
+
+  sum_of : (s : Step) (z : Option Sum) → Fits s → IsSum z → IsSum (sum_behind s z)
+  sum_of (One i) z f p = sum_of_item i z p
+  sum_of (Immediate o to from w) z f p = sum_of_immediate o to from w z f.1 f.2 p
+  sum_of (LoadAt width g to n) z f p = sum_unless to z p
+  sum_of (StoreAt width g n a) z f p = p
+  sum_of (LoadNear width g to i w) z f p = sum_unless to z p
+  sum_of (StoreNear width g i w a) z f p = p
+  sum_of (Branch o nonzero a b n) z f p = p
+  sum_of (BranchImmediate o nonzero a w n) z f p = p
+
+  sum_found : (z : Option Sum) (r : ℕ) → IsSum z → IsSum (sum_in z r)
+  sum_found None r p = tt
+  sum_found (Some s) r p = either_way IsSum (r == s.to) (Some s) None p tt
+
+  near_step_fits : (s : Step) (z : Option Sum) → Fits s → IsSum z → Fits (near z s)
+  near_step_fits (One (Load width g to i)) z f p = load_near_gives Fits z width g to i (λ s known. let q = subst IsSum known (sum_found z i p) in (f.0, f.1, q.0, q.1)) f
+  near_step_fits (One (Store width g i a)) z f p = store_near_gives Fits z width g i a (λ s known. let q = subst IsSum known (sum_found z i p) in (f.0, q.0, q.1, f.2)) f
+  near_step_fits s z f p = f
+
+  near_fits : (z : Option Sum) (steps : List Step) → AreFit steps → IsSum z → AreFit (nearer z steps)
+  near_fits z [] f p = tt
+  near_fits z (s ∷ steps) f p = (near_step_fits s z f.0 p, near_fits (sum_behind s z) steps f.1 (sum_of s z f.0 p))
 
   -- a test leads to a label
   test_fits : (steps : List Step) (t : Test) → test_of steps ≡ Some t → AreFit steps → Contains all t.to
@@ -163,20 +239,20 @@ module _ (slots functions : ℕ) (all : List ℕ) where
   fused_fits at [] f = tt
   fused_fits at (s ∷ steps) f = joined_fits at s (truth_of s) (test_of steps) steps (fused at steps) refl refl f.0 f.1 (fused_fits at steps f.1)
 
-  trimmed_fits : (is : List LinearItem) → AllByRecursion (IsItem slots functions all) is → AreFit (trimmed (chosen unknown is))
+  trimmed_fits : (is : List LinearItem) → AllByRecursion (IsItem slots functions all) is → AreFit (trimmed (nearer None (chosen unknown is)))
   trimmed_fits is f =
-      let steps = chosen unknown is in
-      fused_fits (table steps) (lean (table steps) steps) (lean_fits (table steps) steps (chosen_fits is unknown f words_unknown))
+      let steps = nearer None (chosen unknown is) in
+      fused_fits (table steps) (lean (table steps) steps) (lean_fits (table steps) steps (near_fits None (chosen unknown is) (chosen_fits is unknown f words_unknown) tt))
 
 -- ---- the whole
 
-are_trimmed : (slots functions : ℕ) (is : List LinearItem) → IsLinear slots functions is → IsSelected slots functions (trimmed (chosen unknown is))
+are_trimmed : (slots functions : ℕ) (is : List LinearItem) → IsLinear slots functions is → IsSelected slots functions (trimmed (nearer None (chosen unknown is)))
 are_trimmed slots functions is p =
     let e = sym (trimmed_labels is) in
     record {
       few = p.few;
       distinct = subst (λ (ls : List ℕ). AllPairs (λ (a b : ℕ). a ≢ b) ls) e p.distinct;
-      fit = subst (λ (ls : List ℕ). AllByRecursion (IsStep slots functions ls) (trimmed (chosen unknown is))) e (trimmed_fits slots functions (above.labels is) is p.fit);
+      fit = subst (λ (ls : List ℕ). AllByRecursion (IsStep slots functions ls) (trimmed (nearer None (chosen unknown is)))) e (trimmed_fits slots functions (above.labels is) is p.fit);
     }
 
 pub is_selected : (slots functions : ℕ) (is : List LinearItem) → IsLinear slots functions is → IsSelected slots functions (selected is)

@@ -1,9 +1,9 @@
 -- Without the constants that nobody reads a run keeps up as with them. What is live is live without them too, so a table that is settled
 -- stays so; a constant that goes is no move, and the register that it wrote is not live.
-use Rattle.std.proofs.Common.{◌≡◌, ℕ, ◌≤◌, List, [], ◌∷◌, ◌++◌, true, false, Bool, length, refl, sym, ap, ◌∙◌, subst, inr, arith}
-use Rattle.std.specs.Prelude.{if◌then◌else◌, ◌==◌, ◌&&◌, not}
+use Rattle.std.proofs.Common.{◌≡◌, ℕ, ◌≤◌, List, [], ◌∷◌, ◌++◌, Option, Some, None, true, false, Bool, length, refl, sym, ap, ◌∙◌, subst, inr, arith}
+use Rattle.std.specs.Prelude.{if◌then◌else◌, ◌==◌, ◌&&◌, ◌||◌, not}
 use Rattle.cc_simulation.specs.World.{World}
-use Rattle.cc_simulation.specs.Run.{Move as Moving, Goes}
+use Rattle.cc_simulation.specs.Run.{Move as Moving, Goes, tried}
 use Rattle.cc_simulation.specs.Meaning.{Meaning}
 use Rattle.cc_simulation.specs.Tracks.{TracksForAll}
 use Rattle.cc_simulation.proofs.Simulating.{coarser}
@@ -11,13 +11,14 @@ use Rattle.cc_ltl.specs.declared.location.Location.TheVariants.{Register}
 use Rattle.cc_ltl.specs.Ltl.{Locations, put}
 use Rattle.cc_linear_language.specs.declared.item.LinearItem.TheVariants.{Label, Const}
 use Rattle.cc_select.specs.declared.step.Step.{Step}
-use Rattle.cc_select.specs.declared.step.Step.TheVariants.{One}
+use Rattle.cc_select.specs.declared.step.Step.TheVariants.{One, Immediate}
 use Rattle.cc_select.specs.Selected.{Configuration, at_steps, place, does, selected_move, selected_output, selected_start}
-use Rattle.cc_select.specs.Live.{Registers, live_before, live}
+use Rattle.cc_select.specs.Immediates.{apply_immediate}
+use Rattle.cc_select.specs.Live.{Registers, without, live_before, live}
 use Rattle.cc_select.specs.internal.Settled.{IsSettled}
 use Rattle.cc_select.specs.Selection.{lean}
 use Rattle.cc_select.proofs.Basics.{eqb_says, either_way}
-use Rattle.cc_select.proofs.Unread.{Agree, put_beside}
+use Rattle.cc_select.proofs.Unread.{Agree, agree_behind, put_beside}
 use Rattle.cc_select.proofs.Places.{IsThere}
 use Rattle.cc_select.proofs.Making.{labelled, Plain, Owes, owes_kept, owes_label, tracks_made}
 
@@ -35,6 +36,22 @@ lean_live at (One (Const to w) ∷ steps) r = by (live at steps to) refl (lean_l
     by : (b : Bool) → live at steps to ≡ b → live at (lean at steps) r ≡ live at steps r → live at (if b then One (Const to w) ∷ lean at steps else lean at steps) r ≡ (not (to == r) && live at steps r)
     by true e ih = ap (λ b. not (to == r) && b) ih
     by false e ih = ih ∙ gone (to == r) refl e
+lean_live at (Immediate o to a w ∷ steps) r = by (live at steps to || not (live at steps a)) refl (lean_live at steps r)
+  where
+    unread : (b c : Bool) → (b || not c) ≡ false → (b ≡ false) × (c ≡ true)
+    unread true c e = absurd (let z : true ≡ false = e in cc)
+    unread false true e = (refl, refl)
+    unread false false e = absurd (let z : true ≡ false = e in cc)
+
+    gone : (b c : Bool) → (a == r) ≡ b → (to == r) ≡ c → (live at steps to ≡ false) × (live at steps a ≡ true) → live at steps r ≡ (b || (not c && live at steps r))
+    gone true c p q d = ap (live at steps) (sym (eqb_says a r p)) ∙ d.1
+    gone false true p q d = ap (live at steps) (sym (eqb_says to r q)) ∙ d.0
+    gone false false p q d = refl
+
+    by : (b : Bool) → (live at steps to || not (live at steps a)) ≡ b → live at (lean at steps) r ≡ live at steps r
+        → live at (if b then Immediate o to a w ∷ lean at steps else lean at steps) r ≡ ((a == r) || (not (to == r) && live at steps r))
+    by true e ih = ap (λ b. (a == r) || (not (to == r) && b)) ih
+    by false e ih = ih ∙ gone (a == r) (to == r) refl refl (unread (live at steps to) (live at steps a) e)
 lean_live at (s ∷ steps) r = ap (λ (x : Registers). live_before s at x r) (λ i x. lean_live at steps x i)
 
 lean_if : (at : ℕ → Registers) (b : Bool) (xs ys zs : List Step) → zs ≡ lean at ys → (if b then lean at xs else zs) ≡ lean at (if b then xs else ys)
@@ -47,6 +64,8 @@ lean_place at [] l = refl
 lean_place at (One (Label n) ∷ steps) l = lean_if at (n == l) (One (Label n) ∷ steps) (place steps l) (place (lean at steps) l) (lean_place at steps l)
 lean_place at (One (Const to w) ∷ steps) l =
     either_way (λ (xs : List Step). place xs l ≡ lean at (place steps l)) (live at steps to) (One (Const to w) ∷ lean at steps) (lean at steps) (lean_place at steps l) (lean_place at steps l)
+lean_place at (Immediate o to a w ∷ steps) l =
+    either_way (λ (xs : List Step). place xs l ≡ lean at (place steps l)) (live at steps to || not (live at steps a)) (Immediate o to a w ∷ lean at steps) (lean at steps) (lean_place at steps l) (lean_place at steps l)
 lean_place at (s ∷ steps) l = lean_place at steps l
 
 -- a table that is settled stays so
@@ -82,6 +101,21 @@ module _ (arity : ℕ → ℕ) (code : List Step) (at : ℕ → Registers) (sett
           → Owed (Goes (at_steps steps (put (Register to) w l) h ws)) (One (Const to w) ∷ steps) h (at_steps (labelled ns (if b then One (Const to w) ∷ make steps else make steps)) k h ws)
       by true e = kept (One (Const to w)) steps ns l k h ws tt le g
       by false e = inr (record { before = ns; steps = refl; agree = put_beside to w (live at steps) l k e g; world = refl; words = refl; short = omega arith }, omega arith)
+  owes (Immediate o to a w ∷ steps) ns l k h ws le g = by (live at steps to || not (live at steps a)) refl
+    where
+      unread : (b c : Bool) → (b || c) ≡ false → b ≡ false
+      unread true c e = absurd (let z : true ≡ false = e in cc)
+      unread false c e = refl
+
+      gone : (x : Option ℕ) → live at steps to ≡ false
+          → Owed (tried x (λ v. Goes (at_steps steps (put (Register to) v l) h ws))) (Immediate o to a w ∷ steps) h (at_steps (labelled ns (make steps)) k h ws)
+      gone None e = tt
+      gone (Some v) e = inr (record { before = ns; steps = refl; agree = put_beside to v (live at steps) l k e (agree_behind a (without to (live at steps)) l k g); world = refl; words = refl; short = omega arith }, omega arith)
+
+      by : (b : Bool) → (live at steps to || not (live at steps a)) ≡ b
+          → Owed (tried (apply_immediate o (l (Register a)) w) (λ v. Goes (at_steps steps (put (Register to) v l) h ws))) (Immediate o to a w ∷ steps) h (at_steps (labelled ns (if b then Immediate o to a w ∷ make steps else make steps)) k h ws)
+      by true e = kept (Immediate o to a w) steps ns l k h ws tt le g
+      by false e = gone (apply_immediate o (l (Register a)) w) (unread (live at steps to) (not (live at steps a)) e)
   owes (s ∷ steps) ns l k h ws le g = kept s steps ns l k h ws tt le g
 
   -- from any related configuration

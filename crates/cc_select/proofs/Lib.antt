@@ -18,6 +18,8 @@ pub mod Forms
 pub mod Choices
 -- from items to steps
 pub mod Choosing
+-- accesses near by
+pub mod Nearing
 -- what is not live may be anything
 pub mod Unread
 -- steps made of steps

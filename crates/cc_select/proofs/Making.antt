@@ -2,6 +2,7 @@
 -- where it stood, so each step that is kept does what it did, between places that correspond. A label is no move, so the steps that are made
 -- may stand behind labels that the run has passed already (`labelled`).
 use Rattle.std.proofs.Common.{◌≡◌, ℕ, ◌<◌, ◌≤◌, ◌⊎◌, List, [], ◌∷◌, ◌++◌, Option, Some, None, true, false, Bool, length, refl, sym, ap, ◌∙◌, subst, inl, inr, arith}
+use Rattle.cc_words.specs.Words.{add}
 use Rattle.cc_words.specs.Operators.{apply_binary}
 use Rattle.cc_simulation.specs.World.{World, element, stored}
 use Rattle.cc_simulation.specs.Run.{Move as Moving, Goes, Calls, Returns, Fails, tried}
@@ -13,7 +14,7 @@ use Rattle.cc_ltl.specs.declared.location.Location.TheVariants.{Register}
 use Rattle.cc_ltl.specs.Ltl.{Locations, put}
 use Rattle.cc_linear_language.specs.declared.item.LinearItem.TheVariants.{Label, Jump, IfNonzero, IfZero, Copy, Const, Unary, Binary, Load, Store, Call, Read, Write, Return}
 use Rattle.cc_select.specs.declared.step.Step.{Step}
-use Rattle.cc_select.specs.declared.step.Step.TheVariants.{One, Immediate, LoadAt, StoreAt, Branch, BranchImmediate}
+use Rattle.cc_select.specs.declared.step.Step.TheVariants.{One, Immediate, LoadAt, StoreAt, LoadNear, StoreNear, Branch, BranchImmediate}
 use Rattle.cc_select.specs.Immediates.{apply_immediate}
 use Rattle.cc_select.specs.Selected.{Configuration, at_steps, place, led, does, selected_move, selected_output, selected_start}
 use Rattle.cc_select.specs.Live.{Registers, live}
@@ -91,6 +92,8 @@ module _ (arity : ℕ → ℕ) (code : List Step) (make : List Step → List Ste
   kept_does (Immediate o to a w) steps l h ws t = put_made (apply_immediate o (l (Register a)) w) to steps l h ws
   kept_does (LoadAt width g to i) steps l h ws t = put_made (element h width g i) to steps l h ws
   kept_does (StoreAt width g i a) steps l h ws t = stored_made (stored h width g i (l (Register a))) steps l ws
+  kept_does (LoadNear width g to i w) steps l h ws t = put_made (element h width g (add (l (Register i)) w)) to steps l h ws
+  kept_does (StoreNear width g i w a) steps l h ws t = stored_made (stored h width g (add (l (Register i)) w) (l (Register a))) steps l ws
   kept_does (Branch o nonzero a b n) steps l h ws t = branch_made (apply_binary o (l (Register a)) (l (Register b))) nonzero n steps l h ws
   kept_does (BranchImmediate o nonzero a w n) steps l h ws t = branch_made (apply_immediate o (l (Register a)) w) nonzero n steps l h ws
 

@@ -23,6 +23,7 @@ use Rattle.cc_select.specs.internal.Passes.{stays, test_in, branch_compared, bra
 
 lean_more : (t : Table) (step : Step) (steps : List Step) → lean t (step ∷ steps) ≡ (if stays step (live t steps) then step ∷ lean t steps else lean t steps)
 lean_more t (One (Const to word)) steps = refl
+lean_more t (Immediate operator to from word) steps = refl
 lean_more t _ steps = refl
 
 -- the steps before number `at` have been looked at: those that stay are kept, with what is live behind each

@@ -2,6 +2,7 @@
 -- steps than the code has.
 use Rattle.std.proofs.Common.{◌≡◌, ℕ, ◌≤◌, List, [], ◌∷◌, Option, Some, None, true, false, Bool, length, refl, arith}
 use Rattle.std.specs.Prelude.{◌==◌}
+use Rattle.cc_words.specs.Words.{add}
 use Rattle.cc_words.specs.Operators.{apply_binary}
 use Rattle.cc_simulation.specs.World.{World, Answer, element, stored}
 use Rattle.cc_simulation.specs.Run.{Move as Moving, Goes, Calls, Returns, Fails, tried}
@@ -9,7 +10,7 @@ use Rattle.cc_ltl.specs.declared.location.Location.TheVariants.{Register}
 use Rattle.cc_ltl.specs.Ltl.{Locations}
 use Rattle.cc_linear_language.specs.declared.item.LinearItem.TheVariants.{Label, Jump, IfNonzero, IfZero, Copy, Const, Unary, Binary, Load, Store, Call, Read, Write, Return}
 use Rattle.cc_select.specs.declared.step.Step.{Step}
-use Rattle.cc_select.specs.declared.step.Step.TheVariants.{One, Immediate, LoadAt, StoreAt, Branch, BranchImmediate}
+use Rattle.cc_select.specs.declared.step.Step.TheVariants.{One, Immediate, LoadAt, StoreAt, LoadNear, StoreNear, Branch, BranchImmediate}
 use Rattle.cc_select.specs.Immediates.{apply_immediate}
 use Rattle.cc_select.specs.Selected.{Configuration, labels, place, led, does}
 use Rattle.cc_select.proofs.Basics.{either_way, if_alike}
@@ -82,6 +83,8 @@ module _ (arity : ℕ → ℕ) (code : List Step) where
   short_move (Immediate o to a w ∷ steps) l h ws le = let lt : length steps ≤ length code = omega arith in short_tried (apply_immediate o (l (Register a)) w) _ (λ v. lt)
   short_move (LoadAt width g to i ∷ steps) l h ws le = let lt : length steps ≤ length code = omega arith in short_tried (element h width g i) _ (λ v. lt)
   short_move (StoreAt width g i a ∷ steps) l h ws le = let lt : length steps ≤ length code = omega arith in short_tried (stored h width g i (l (Register a))) _ (λ v. lt)
+  short_move (LoadNear width g to i w ∷ steps) l h ws le = let lt : length steps ≤ length code = omega arith in short_tried (element h width g (add (l (Register i)) w)) _ (λ v. lt)
+  short_move (StoreNear width g i w a ∷ steps) l h ws le = let lt : length steps ≤ length code = omega arith in short_tried (stored h width g (add (l (Register i)) w) (l (Register a))) _ (λ v. lt)
   short_move (Branch o nonzero a b n ∷ steps) l h ws le =
       let lt : length steps ≤ length code = omega arith in
       short_tried (apply_binary o (l (Register a)) (l (Register b))) _ (λ v. short_led nonzero v steps n lt)

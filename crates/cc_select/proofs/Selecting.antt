@@ -1,9 +1,10 @@
 -- From a pair of Linear to a pair of Selected: the run by the steps of a function's items keeps up with the function, at twice the
 -- rate that the items had, times how many steps there were before constants went, and again before comparisons were joined.
-use Rattle.std.proofs.Common.{ℕ, ◌≤◌, List, length}
+use Rattle.std.proofs.Common.{ℕ, ◌≤◌, List, length, None}
 use Rattle.cc_ast.specs.Tree.{External}
 use Rattle.cc_types.specs.Typed.{IsWithinLimits}
 use Rattle.cc_linear_language.specs.Meaning.{functions}
+use Rattle.cc_c_laws.specs.declared.mode.Mode.{Mode}
 use Rattle.cc_simulation.specs.Meaning.{Meaning}
 use Rattle.cc_simulation.specs.Tracks.{TracksForAll}
 use Rattle.cc_simulation.proofs.Simulating.{coarser}
@@ -13,6 +14,7 @@ use Rattle.cc_linear_language.specs.Pair as above
 use Rattle.cc_select.specs.declared.step.Step.{Step}
 use Rattle.cc_select.specs.Selected.{selected_move, selected_output, selected_start}
 use Rattle.cc_select.specs.Known.{unknown, chosen}
+use Rattle.cc_select.specs.Near.{nearer}
 use Rattle.cc_select.specs.Threading.{threaded}
 use Rattle.cc_select.specs.Table.{table}
 use Rattle.cc_select.specs.Selection.{lean, trimmed, selected}
@@ -21,6 +23,7 @@ use Rattle.cc_select.proofs.Settled.{is_settled}
 use Rattle.cc_select.proofs.Tests.{Distinct}
 use Rattle.cc_select.proofs.Threaded.{threaded_tracks}
 use Rattle.cc_select.proofs.Choosing.{chosen_tracks}
+use Rattle.cc_select.proofs.Nearing.{near_tracks}
 use Rattle.cc_select.proofs.Lean.{lean_settled, lean_tracks}
 use Rattle.cc_select.proofs.Fused.{fused_tracks}
 use Rattle.cc_select.proofs.Fit.{is_selected}
@@ -38,22 +41,23 @@ trimmed_tracks meaning f rate slots steps few keeps =
     fused_tracks meaning f (coarser rate (length steps)) slots (lean at steps) at (lean_settled at steps settled) few (lean_tracks meaning f rate slots steps at settled few keeps)
 
 abbrev selected_rate : (rate : ℕ) → List LinearItem → ℕ
-selected_rate rate items = trimmed_rate (coarser rate 1) (chosen unknown (threaded items))
+selected_rate rate items = trimmed_rate (coarser rate 1) (nearer None (chosen unknown (threaded items)))
 
 pub selected_tracks : (meaning : Meaning) (f rate slots : ℕ) (items : List LinearItem) → Distinct (labels items) → ((g : ℕ) → meaning.arity g ≤ 8)
     → TracksForAll meaning f rate (linear_move meaning.arity items) linear_output (linear_start slots items)
     → TracksForAll meaning f (selected_rate rate items) (selected_move meaning.arity (selected items)) selected_output (selected_start slots (selected items))
 selected_tracks meaning f rate slots items distinct few keeps =
-    trimmed_tracks meaning f (coarser rate 1) slots (chosen unknown (threaded items)) few (chosen_tracks meaning f (coarser rate 1) slots (threaded items) (threaded_tracks meaning f rate slots items distinct keeps))
+    trimmed_tracks meaning f (coarser rate 1) slots (nearer None (chosen unknown (threaded items))) few
+    (near_tracks meaning f (coarser rate 1) slots (chosen unknown (threaded items)) (chosen_tracks meaning f (coarser rate 1) slots (threaded items) (threaded_tracks meaning f rate slots items distinct keeps)))
 
-pub keeps_up_selected : (unit : List External) (f slots : ℕ) (items : List LinearItem) → IsWithinLimits unit → Distinct (labels items) → above.KeepsUp unit f slots items → KeepsUp unit f slots (selected items)
-keeps_up_selected unit f slots items limits distinct (rate, keeps) = (
+pub keeps_up_selected : (mode : Mode) (unit : List External) (f slots : ℕ) (items : List LinearItem) → IsWithinLimits unit → Distinct (labels items) → above.KeepsUp mode unit f slots items → KeepsUp mode unit f slots (selected items)
+keeps_up_selected mode unit f slots items limits distinct (rate, keeps) = (
   selected_rate rate items,
   λ meaning is. selected_tracks meaning f rate slots items distinct (few_of_meaning unit meaning limits is) (keeps meaning is),
 )
 
 -- with what `TypedUnit::externals` says of the unit's limits
-pub pair_selected : (p : above.Pair) → above.IsPair p → IsWithinLimits (above.tree_of p) → IsPair (record { unit = p.unit; function = p.function; ltl = p.ltl; code = selected p.code })
+pub pair_selected : (p : above.Pair) → above.IsPair p → IsWithinLimits (above.tree_of p) → IsPair (record { mode = p.mode; unit = p.unit; function = p.function; ltl = p.ltl; code = selected p.code })
 pair_selected p is limits =
     let unit = above.tree_of p in
     record {
@@ -63,5 +67,5 @@ pair_selected p is limits =
       few = is.few;
       ltl_keeps_up = is.ltl_keeps_up;
       selected = is_selected p.ltl.slots (length (functions unit)) p.code is.linear;
-      keeps_up = keeps_up_selected unit p.function p.ltl.slots p.code limits is.linear.distinct is.keeps_up;
+      keeps_up = keeps_up_selected p.mode unit p.function p.ltl.slots p.code limits is.linear.distinct is.keeps_up;
     }

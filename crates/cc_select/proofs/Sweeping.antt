@@ -9,7 +9,7 @@ use Rattle.cc_ltl.specs.declared.operation.Move.TheVariants.{Between, Reload, Sp
 use Rattle.cc_simulation.specs.Unknown.{survives}
 use Rattle.cc_linear_language.specs.declared.item.LinearItem.TheVariants.{Label, Jump, IfNonzero, IfZero, Copy, Const, Unary, Binary, Load, Store, Call, Read, Write, Return}
 use Rattle.cc_select.specs.declared.step.Step.{Step}
-use Rattle.cc_select.specs.declared.step.Step.TheVariants.{One, Immediate, LoadAt, StoreAt, Branch, BranchImmediate}
+use Rattle.cc_select.specs.declared.step.Step.TheVariants.{One, Immediate, LoadAt, StoreAt, LoadNear, StoreNear, Branch, BranchImmediate}
 use Rattle.cc_select.specs.declared.registers.Registers as bits
 use Rattle.cc_select.specs.declared.live.LiveTable as rows
 use Rattle.cc_select.specs.Live.{Registers, nothing, live_before, live, is_argument}
@@ -53,6 +53,8 @@ live_before_same (One Return) at at' s s' r h e = refl
 live_before_same (Immediate operator to from word) at at' s s' r h e = cc
 live_before_same (LoadAt width object to number) at at' s s' r h e = cc
 live_before_same (StoreAt width object number from) at at' s s' r h e = cc
+live_before_same (LoadNear width object to index word) at at' s s' r h e = cc
+live_before_same (StoreNear width object index word from) at at' s s' r h e = cc
 live_before_same (Branch operator nonzero left right to) at at' s s' r h e = (let a = h to in cc)
 live_before_same (BranchImmediate operator nonzero from word to) at at' s s' r h e = (let a = h to in cc)
 

@@ -3,6 +3,7 @@
 use Rattle.std.proofs.Common.{◌≡◌, ℕ, zero, suc, ◌+◌, ◌<◌, ◌≤◌, List, [], ◌∷◌, Option, Some, None, true, false, Bool, refl, sym, ap, ap₂, ◌∙◌, subst, arith}
 use Rattle.std.proofs.lemmas.Bool.Decides.{nat_tests}
 use Rattle.std.specs.Prelude.{if◌then◌else◌, ◌==◌, ◌&&◌, ◌||◌, not, nat_le}
+use Rattle.cc_words.specs.Words.{add}
 use Rattle.cc_words.specs.Operators.{apply_unary, apply_binary}
 use Rattle.cc_simulation.specs.World.{World, element, stored, next_word, after_read, after_write}
 use Rattle.cc_simulation.specs.Run.{Move as Moving, Goes, tried}
@@ -13,7 +14,7 @@ use Rattle.cc_ltl.specs.declared.operation.Move.TheVariants.{Between, Reload, Sp
 use Rattle.cc_ltl.specs.Ltl.{Locations, put, words_from, after_call}
 use Rattle.cc_linear_language.specs.declared.item.LinearItem.TheVariants.{Label, Jump, IfNonzero, IfZero, Copy, Const, Unary, Binary, Load, Store, Call, Read, Write, Return}
 use Rattle.cc_select.specs.declared.step.Step.{Step}
-use Rattle.cc_select.specs.declared.step.Step.TheVariants.{One, Immediate, LoadAt, StoreAt, Branch, BranchImmediate}
+use Rattle.cc_select.specs.declared.step.Step.TheVariants.{One, Immediate, LoadAt, StoreAt, LoadNear, StoreNear, Branch, BranchImmediate}
 use Rattle.cc_select.specs.Immediates.{apply_immediate}
 use Rattle.cc_select.specs.Selected.{Configuration, at_steps, place, led, does}
 use Rattle.cc_select.specs.Live.{Registers, with, without, either, is_argument, live}
@@ -223,6 +224,12 @@ module _ (arity : ℕ → ℕ) (code : List Step) (at : ℕ → Registers) (sett
   does_alike (StoreAt width o i a ∷ ss) l k h ws g =
       let s = live at ss in
       stored_alike _ _ ss l k ws (ap (stored h width o i) (g.registers a (in_with a s))) (agree_behind a s l k g)
+  does_alike (LoadNear width o to i w ∷ ss) l k h ws g =
+      let s = without to (live at ss) in
+      made_alike _ _ to ss l k h ws (ap (λ n. element h width o (add n w)) (g.registers i (in_with i s))) (agree_behind i s l k g)
+  does_alike (StoreNear width o i w a ∷ ss) l k h ws g =
+      let s = live at ss in
+      stored_alike _ _ ss l k ws (ap₂ (λ n v. stored h width o (add n w) v) (first_of_two i a s l k g) (second_of_two i a s l k g)) (behind_two i a s l k g)
   does_alike (Branch o nonzero a b n ∷ ss) l k h ws g =
       let s = either (at n) (live at ss) in
       branch_alike _ _ nonzero n ss l k h ws (ap₂ (apply_binary o) (first_of_two a b s l k g) (second_of_two a b s l k g)) (behind_two a b s l k g)

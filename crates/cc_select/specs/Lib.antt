@@ -4,6 +4,8 @@ pub mod Immediates
 pub mod Selected
 -- what is known of registers, and the steps that it gives
 pub mod Known
+-- sums that are known, and the accesses near by
+pub mod Near
 -- tests that go before labels and into jumps
 pub mod Threading
 -- which registers are live, and the table of labels

@@ -7,7 +7,7 @@ use Rattle.cc_ltl.specs.declared.operation.Move.TheVariants.{Between, Reload, Sp
 use Rattle.cc_linear_language.specs.declared.item.LinearItem.{LinearItem}
 use Rattle.cc_linear_language.specs.declared.item.LinearItem.TheVariants.{Label, Jump, IfNonzero, IfZero, Copy, Const, Unary, Binary, Load, Store, Call, Read, Write, Return}
 use Rattle.cc_select.specs.declared.step.Step.{Step}
-use Rattle.cc_select.specs.declared.step.Step.TheVariants.{One, Immediate, LoadAt, StoreAt, Branch, BranchImmediate}
+use Rattle.cc_select.specs.declared.step.Step.TheVariants.{One, Immediate, LoadAt, StoreAt, LoadNear, StoreNear, Branch, BranchImmediate}
 
 -- a set of registers
 abbrev pub Registers : Type 0
@@ -58,6 +58,8 @@ live_before (One item) at s = live_item item at s
 live_before (Immediate operator to from word) at s = with from (without to s)
 live_before (LoadAt width object to number) at s = without to s
 live_before (StoreAt width object number from) at s = with from s
+live_before (LoadNear width object to index word) at s = with index (without to s)
+live_before (StoreNear width object index word from) at s = with index (with from s)
 live_before (Branch operator nonzero left right to) at s = with left (with right (either (at to) s))
 live_before (BranchImmediate operator nonzero from word to) at s = with from (either (at to) s)
 

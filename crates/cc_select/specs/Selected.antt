@@ -2,6 +2,7 @@
 -- an element's number within it, or a branch that compares.
 use Rattle.std.specs.Prelude.{◌≡◌, ◌≢◌, ℕ, ◌≤◌, ◌==◌, Bool, true, false, if◌then◌else◌, List, [], ◌∷◌, Contains}
 use Rattle.std.specs.List.{AllByRecursion, AllPairs}
+use Rattle.cc_words.specs.Words.{add}
 use Rattle.cc_words.specs.Operators.{apply_unary, apply_binary}
 use Rattle.cc_simulation.specs.World.{World, Answer, element, stored, next_word, after_read, after_write}
 use Rattle.cc_simulation.specs.Unknown.{unknown_word, left_after_entry, left_after_call, left_after_word}
@@ -12,7 +13,7 @@ use Rattle.cc_ltl.specs.Ltl.{IsWord, Locations, put, target, source, first_argum
 use Rattle.cc_linear_language.specs.declared.item.LinearItem.TheVariants.{Label, Jump, IfNonzero, IfZero, Copy, Const, Unary, Binary, Load, Store, Call, Read, Write, Return}
 use Rattle.cc_linear_language.specs.Linear.{IsItem}
 use Rattle.cc_select.specs.declared.step.Step.{Step}
-use Rattle.cc_select.specs.declared.step.Step.TheVariants.{One, Immediate, LoadAt, StoreAt, Branch, BranchImmediate}
+use Rattle.cc_select.specs.declared.step.Step.TheVariants.{One, Immediate, LoadAt, StoreAt, LoadNear, StoreNear, Branch, BranchImmediate}
 use Rattle.cc_select.specs.Immediates.{operator_of, apply_immediate, has_word, is_comparison}
 
 -- ---- which functions there are
@@ -30,6 +31,8 @@ IsStep slots functions labels (One item) = IsItem slots functions labels item
 IsStep slots functions labels (Immediate operator to from word) = IsAllocatable to × IsAllocatable from × IsWord word × (has_word operator word ≡ true)
 IsStep slots functions labels (LoadAt width object to number) = IsWord object × IsAllocatable to × IsWord number
 IsStep slots functions labels (StoreAt width object number from) = IsWord object × IsWord number × IsAllocatable from
+IsStep slots functions labels (LoadNear width object to index word) = IsWord object × IsAllocatable to × IsAllocatable index × IsWord word
+IsStep slots functions labels (StoreNear width object index word from) = IsWord object × IsAllocatable index × IsWord word × IsAllocatable from
 IsStep slots functions labels (Branch operator nonzero left right to) = (is_comparison operator ≡ true) × IsAllocatable left × IsAllocatable right × Contains labels to
 IsStep slots functions labels (BranchImmediate operator nonzero from word to) =
     (is_comparison (operator_of operator) ≡ true) × IsAllocatable from × IsWord word × (has_word operator word ≡ true) × Contains labels to
@@ -98,6 +101,10 @@ does arity code (LoadAt width object to number ∷ steps) at world words =
     tried (element world width object number) (λ word. Goes (at_steps steps (put (Register to) word at) world words))
 does arity code (StoreAt width object number from ∷ steps) at world words =
     tried (stored world width object number (at (Register from))) (λ changed. Goes (at_steps steps at changed words))
+does arity code (LoadNear width object to index word ∷ steps) at world words =
+    tried (element world width object (add (at (Register index)) word)) (λ word. Goes (at_steps steps (put (Register to) word at) world words))
+does arity code (StoreNear width object index word from ∷ steps) at world words =
+    tried (stored world width object (add (at (Register index)) word) (at (Register from))) (λ changed. Goes (at_steps steps at changed words))
 does arity code (Branch operator nonzero left right to ∷ steps) at world words =
     tried (apply_binary operator (at (Register left)) (at (Register right))) (λ word. Goes (at_steps (led nonzero word steps (place code to)) at world words))
 does arity code (BranchImmediate operator nonzero from word to ∷ steps) at world words =

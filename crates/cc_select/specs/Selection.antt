@@ -1,7 +1,7 @@
 -- The steps of a function: tests go before labels and into jumps (Threading), and constants known from label to label into the operations that
 -- read them (Known); then the constants go that nobody reads, and a comparison and the test of its truth value directly behind it are one, if
 -- nobody else reads that value.
-use Rattle.std.specs.Prelude.{ℕ, Bool, true, false, not, ◌&&◌, ◌==◌, if◌then◌else◌, Option, Some, None, List, [], ◌∷◌}
+use Rattle.std.specs.Prelude.{ℕ, Bool, true, false, not, ◌&&◌, ◌||◌, ◌==◌, if◌then◌else◌, Option, Some, None, List, [], ◌∷◌}
 use Rattle.cc_words.specs.declared.operators.Unary.TheVariants.{IsZero}
 use Rattle.cc_words.specs.declared.operators.Binary.TheVariants.{Xor, Ne}
 use Rattle.cc_linear_language.specs.declared.item.LinearItem.{LinearItem}
@@ -10,15 +10,18 @@ use Rattle.cc_select.specs.declared.step.Step.{Step}
 use Rattle.cc_select.specs.declared.step.Step.TheVariants.{One, Immediate, Branch, BranchImmediate}
 use Rattle.cc_select.specs.Immediates.{is_comparison, gains}
 use Rattle.cc_select.specs.Known.{unknown, chosen}
+use Rattle.cc_select.specs.Near.{nearer}
 use Rattle.cc_select.specs.Threading.{threaded}
 use Rattle.cc_select.specs.Live.{Registers, live}
 use Rattle.cc_select.specs.Table.{table}
 
--- ---- without the constants that nobody reads
+-- ---- without the constants and the sums that nobody reads
 
 abbrev pub lean : (at_label : ℕ → Registers) → List Step → List Step
 lean at [] = []
 lean at (One (Const to word) ∷ steps) = if live at steps to then One (Const to word) ∷ lean at steps else lean at steps
+-- an operator with a word, whose register is read behind it in any case: so what is live before it stays so
+lean at (Immediate operator to from word ∷ steps) = if live at steps to || not (live at steps from) then Immediate operator to from word ∷ lean at steps else lean at steps
 lean at (step ∷ steps) = step ∷ lean at steps
 
 -- ---- comparisons and tests as one
@@ -79,4 +82,4 @@ trimmed steps = fused (table steps) (lean (table steps) steps)
 
 -- the steps of a function's items
 abbrev pub selected : List LinearItem → List Step
-selected items = trimmed (chosen unknown (threaded items))
+selected items = trimmed (nearer None (chosen unknown (threaded items)))

@@ -25,6 +25,9 @@ fn stays(step: &Step, behind: Registers) -> bool
 {
     match step {
         Step::One(LinearItem::Const { to, .. }) => behind.has(to.number()),
+        Step::Immediate { to, from, .. } => {
+            behind.has(to.number()) || !behind.has(from.number())
+        }
         _ => true,
     }
 }

@@ -2,11 +2,11 @@
 //!
 //! `step` has the steps, `pair` the type that keeps that a function's steps do what the function does. What one step does is defined in
 //! `specs/Selected.antt`, and which steps stand for a function's items in `specs/Selection.antt`: tests go before labels and into jumps,
-//! constants that are known within a straight piece go into the operations that read them, the constants go that nobody reads then, and a
-//! comparison and the branch on its truth value are one.
+//! constants that are known within a straight piece go into the operations that read them, sums of a register and a word into the accesses
+//! of which they are the numbers, what nobody reads then goes, and a comparison and the branch on its truth value are one.
 //!
 //! `selection` is the whole. `immediate` says which operators have a word, `known` which words are known, and `threading` walks over the items
-//! with them; `registers` has sets of registers, `live` which are live before a step, `table` those at labels, and `constants` and `fuse` are the two
+//! with them; `near` has accesses by sums; `registers` has sets of registers, `live` which are live before a step, `table` those at labels, and `constants` and `fuse` are the two
 //! passes that need them.
 #![tactic(auto)]
 
@@ -15,6 +15,7 @@ mod fuse;
 mod immediate;
 mod known;
 mod live;
+mod near;
 mod pair;
 mod registers;
 mod selection;

@@ -116,6 +116,8 @@ pub(crate) fn live_before(step: &Step, table: &LiveTable, behind: Registers) -> 
         Step::Immediate { to, from, .. } => behind.without(to.number()).with(from.number()),
         Step::LoadAt { to, .. } => behind.without(to.number()),
         Step::StoreAt { from, .. } => behind.with(from.number()),
+        Step::LoadNear { to, index, .. } => behind.without(to.number()).with(index.number()),
+        Step::StoreNear { index, from, .. } => behind.with(from.number()).with(index.number()),
         Step::Branch {
             left,
             right,

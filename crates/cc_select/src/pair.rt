@@ -11,6 +11,7 @@ ghost use Rattle.cc_select.specs.Selected.{IsSelected};
 ghost use Rattle.cc_select.specs.Pair.{Pair, tree_of, KeepsUp, IsPair};
 
 use crate::step::Step;
+use cc_c_laws::Mode;
 use cc_ltl::Ltl;
 use cc_types::TypedUnit;
 use std::marker::Model;
@@ -20,6 +21,7 @@ use std::sync::Arc;
 /// up with the function, whatever words nobody knows, belongs to the type, so nobody holds a pair of which it is not true.
 #[derive(Drop)]
 pub struct SelectedPair {
+    mode: Mode,
     unit: Arc<TypedUnit>,
     function: usize,
     ltl: Ltl,
@@ -30,34 +32,44 @@ impl Model for SelectedPair {
     ghost use Rattle.std.specs.Arc.{arc_value};
     ghost use Rattle.std.specs.Coded.{codes};
     ghost use Rattle.cc_ast.specs.contracts.unit.Unit as parsed;
+    ghost use Rattle.cc_c_laws.specs.contracts.mode.Mode as modes;
     ghost use Rattle.cc_select.specs.Pair.{Pair, IsPair};
 
     ghost Value = { Pair };
 
-    ghost coded = { Prim.hlevel (codes, parsed.the_row.coded) };
+    ghost coded = { Prim.hlevel (codes, modes.the_row.coded, parsed.the_row.coded) };
 
-    ghost view = { λ p. record { unit = arc_value p.unit; function = p.function; ltl = p.ltl; code = p.code.items } };
+    ghost view = { λ p. record { mode = p.mode; unit = arc_value p.unit; function = p.function; ltl = p.ltl; code = p.code.items } };
 
-    ghost invariant = { λ p. IsPair (record { unit = arc_value p.unit; function = p.function; ltl = p.ltl; code = p.code.items }) };
+    ghost invariant = { λ p. IsPair (record { mode = p.mode; unit = arc_value p.unit; function = p.function; ltl = p.ltl; code = p.code.items }) };
 }
 
 impl SelectedPair {
     // The one place where a pair is made.
     pub(crate) fn new(
+        mode: Mode,
         unit: Arc<TypedUnit>,
         function: usize,
         ltl: Ltl,
         code: Vec<Step>,
     ) -> SelectedPair
-        requires { IsPair (record { unit = arc_value unit; function = function; ltl = ltl; code = code.items }) }
-        ensures { result ≡ record { unit = arc_value unit; function = function; ltl = ltl; code = code.items } }
+        requires { IsPair (record { mode = mode; unit = arc_value unit; function = function; ltl = ltl; code = code.items }) }
+        ensures { result ≡ record { mode = mode; unit = arc_value unit; function = function; ltl = ltl; code = code.items } }
     {
         SelectedPair {
+            mode,
             unit,
             function,
             ltl,
             code,
         }
+    }
+
+    /// What the code owes if the function goes wrong.
+    pub fn mode(&self) -> Mode
+        ensures answer { result ≡ self.now.mode }
+    {
+        self.mode
     }
 
     /// The unit.
@@ -90,7 +102,7 @@ impl SelectedPair {
         ensures code { result.now ≡ self.now.code }
         ensures typed { IsTyped (tree_of self.now) }
         ensures selected { IsSelected self.now.ltl.slots (length (functions (tree_of self.now))) self.now.code }
-        ensures keeps_up { KeepsUp (tree_of self.now) self.now.function self.now.ltl.slots self.now.code }
+        ensures keeps_up { KeepsUp self.now.mode (tree_of self.now) self.now.function self.now.ltl.slots self.now.code }
     {
         self.code.as_slice()
     }
@@ -101,9 +113,10 @@ impl SelectedPair {
         ensures ltl { result.1 ≡ self.ltl }
         ensures is_ltl { IsLtl self.ltl }
         ensures few { length self.ltl.blocks ≤ most_blocks }
-        ensures keeps_up { LtlKeepsUp (tree_of self) self.function self.ltl }
+        ensures keeps_up { LtlKeepsUp self.mode (tree_of self) self.function self.ltl }
     {
         let SelectedPair {
+            mode: _,
             unit,
             function: _,
             ltl,

@@ -7,6 +7,7 @@ ghost use Rattle.cc_select.specs.Selection.{trimmed, selected};
 
 use crate::constants::without_unread;
 use crate::fuse::fused;
+use crate::near::nearer;
 use crate::pair::SelectedPair;
 use crate::step::Step;
 use crate::table::settle;
@@ -33,7 +34,8 @@ fn trimmed(alloc: Global, steps: &[Step]) -> Result<Vec<Step>, AllocError>
 fn selected(alloc: Global, items: &[LinearItem]) -> Result<Vec<Step>, AllocError>
     ensures { IfOk result (λ made. made.items ≡ selected items.now) }
 {
-    let steps = chosen(alloc, items)?;
+    let plain = chosen(alloc, items)?;
+    let steps = nearer(alloc, plain.as_slice())?;
     trimmed(alloc, steps.as_slice())
 }
 
@@ -49,6 +51,7 @@ fn is_within_limits(unit: &TypedUnit)
 ///
 /// It fails only for lack of memory (40); the pair is gone then.
 pub fn select(alloc: Global, pair: LinearPair) -> Result<SelectedPair, AllocError>
+    ensures mode { IfOk result (λ made. made.mode ≡ pair.mode) }
     ensures unit { IfOk result (λ made. made.unit ≡ pair.unit) }
     ensures function { IfOk result (λ made. made.function ≡ pair.function) }
     ensures ltl { IfOk result (λ made. made.ltl ≡ pair.ltl) }
@@ -56,7 +59,8 @@ pub fn select(alloc: Global, pair: LinearPair) -> Result<SelectedPair, AllocErro
 {
     let steps = selected(alloc, pair.code())?;
     is_within_limits(pair.unit());
+    let mode = pair.mode();
     let function = pair.function();
     let (unit, ltl) = pair.into_parts();
-    Ok(SelectedPair::new(unit, function, ltl, steps))
+    Ok(SelectedPair::new(mode, unit, function, ltl, steps))
 }

@@ -56,6 +56,22 @@ pub enum Step {
         number: u32,
         from: Register,
     },
+    /// A load of the element whose number is a register's word plus a word.
+    LoadNear {
+        width: Width,
+        object: u32,
+        to: Register,
+        index: Register,
+        word: u32,
+    },
+    /// A store into that element.
+    StoreNear {
+        width: Width,
+        object: u32,
+        index: Register,
+        word: u32,
+        from: Register,
+    },
     /// On at a label where a comparison of two registers gives 1 (`nonzero`) or 0 (not `nonzero`), else at the next step.
     Branch {
         operator: Binary,

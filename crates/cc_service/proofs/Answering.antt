@@ -16,6 +16,7 @@ use Rattle.cc_history.specs.declared.reply.Reply.TheVariants as reply
 use Rattle.cc_history.specs.History.{Chronicle, MemberView, IsAnswered, IsRecorded}
 use Rattle.cc_recorded.specs.Answers.{CommitAnswers, LookAnswers}
 use Rattle.cc_recorded.specs.Book.{BookView, chronicle_of}
+use Rattle.cc_c_laws.specs.declared.mode.Mode.{Mode}
 use Rattle.cc_service.specs.Compiling.{IsCompileRefusal, IsNotPrepared, IsPastText, IsProgram}
 use Rattle.cc_service.specs.Serving.{IsEntered, IsTurnedDown, PutAnswers, refusal_of}
 use Rattle.cc_service.specs.internal.Under.{IsSeen, MakesAnswers}
@@ -99,17 +100,17 @@ module _ (Asks : Command → Type 0) (command : Command) (asked : Asks command) 
   turned_as book.Closed e = e
   turned_as book.OutOfMemory e = e
 
-  pub put : (name source : List ℕ) → IsTrue (is_name name) → IsProgram source → (result : Result Receipt ServiceFault) → MakesAnswers command old new result → PutAnswers Asks name source old new result
-  put name source named program (Ok receipt) e = (named, program, entered_as reply.Done receipt e)
-  put name source named program (Err (Book f)) e = (named, program, turned_as f e)
-  put name source named program (Err (Opening f)) none = none
-  put name source named program (Err TooManyClients) none = none
-  put name source named program (Err BadName) none = absurd none
-  put name source named program (Err (Text f)) none = absurd none
-  put name source named program (Err (Piece function f)) none = absurd none
-  put name source named program (Err WorkersGone) none = absurd none
-  put name source named program (Err ImageTooLarge) none = absurd none
-  put name source named program (Err OutOfMemory) none = absurd none
+  pub put : (mode : Mode) (name source : List ℕ) → IsTrue (is_name name) → IsProgram source → (result : Result Receipt ServiceFault) → MakesAnswers command old new result → PutAnswers mode Asks name source old new result
+  put mode name source named program (Ok receipt) e = (named, program, entered_as reply.Done receipt e)
+  put mode name source named program (Err (Book f)) e = (named, program, turned_as f e)
+  put mode name source named program (Err (Opening f)) none = none
+  put mode name source named program (Err TooManyClients) none = none
+  put mode name source named program (Err BadName) none = absurd none
+  put mode name source named program (Err (Text f)) none = absurd none
+  put mode name source named program (Err (Piece function f)) none = absurd none
+  put mode name source named program (Err WorkersGone) none = absurd none
+  put mode name source named program (Err ImageTooLarge) none = absurd none
+  put mode name source named program (Err OutOfMemory) none = absurd none
 
 -- what the book answers is no refusal of a text
 pub past_text : (command : Command) (old new : MemberView) (result : Result Receipt ServiceFault) → MakesAnswers command old new result → IfErr result (λ fault. IsPastText fault)
@@ -125,25 +126,25 @@ past_text command old new (Err ImageTooLarge) none = tt
 past_text command old new (Err OutOfMemory) none = tt
 
 -- why a text is not handed in is a reason for which it is not compiled
-pub not_prepared : (text : List ℕ) (fault : ServiceFault) → IsNotPrepared text fault → IsCompileRefusal text fault
-not_prepared text (Text f) e = e
-not_prepared text WorkersGone e = e
-not_prepared text OutOfMemory e = e
-not_prepared text (Piece function f) none = absurd none
-not_prepared text ImageTooLarge none = absurd none
-not_prepared text (Opening f) none = none
-not_prepared text TooManyClients none = none
-not_prepared text BadName none = none
-not_prepared text (Book f) none = none
+pub not_prepared : (mode : Mode) (text : List ℕ) (fault : ServiceFault) → IsNotPrepared text fault → IsCompileRefusal mode text fault
+not_prepared mode text (Text f) e = e
+not_prepared mode text WorkersGone e = e
+not_prepared mode text OutOfMemory e = e
+not_prepared mode text (Piece function f) none = absurd none
+not_prepared mode text ImageTooLarge none = absurd none
+not_prepared mode text (Opening f) none = none
+not_prepared mode text TooManyClients none = none
+not_prepared mode text BadName none = none
+not_prepared mode text (Book f) none = none
 
 -- of a text that was not compiled
-pub not_put : (Asks : Command → Type 0) (name source : List ℕ) (old new : MemberView) → IsTrue (is_name name) → new ≡ old → (fault : ServiceFault) → IsCompileRefusal source fault → PutAnswers Asks name source old new (Err fault)
-not_put Asks name source old new named same (Text f) e = (named, e, same)
-not_put Asks name source old new named same (Piece function f) e = (named, e, same)
-not_put Asks name source old new named same WorkersGone e = (named, e, same)
-not_put Asks name source old new named same ImageTooLarge e = (named, e, same)
-not_put Asks name source old new named same OutOfMemory e = (named, same)
-not_put Asks name source old new named same (Book f) none = absurd none
-not_put Asks name source old new named same (Opening f) none = none
-not_put Asks name source old new named same TooManyClients none = none
-not_put Asks name source old new named same BadName none = absurd none
+pub not_put : (mode : Mode) (Asks : Command → Type 0) (name source : List ℕ) (old new : MemberView) → IsTrue (is_name name) → new ≡ old → (fault : ServiceFault) → IsCompileRefusal mode source fault → PutAnswers mode Asks name source old new (Err fault)
+not_put mode Asks name source old new named same (Text f) e = (named, e, same)
+not_put mode Asks name source old new named same (Piece function f) e = (named, e, same)
+not_put mode Asks name source old new named same WorkersGone e = (named, e, same)
+not_put mode Asks name source old new named same ImageTooLarge e = (named, e, same)
+not_put mode Asks name source old new named same OutOfMemory e = (named, same)
+not_put mode Asks name source old new named same (Book f) none = absurd none
+not_put mode Asks name source old new named same (Opening f) none = none
+not_put mode Asks name source old new named same TooManyClients none = none
+not_put mode Asks name source old new named same BadName none = absurd none

@@ -2,7 +2,8 @@
 use Rattle.std.specs.Prelude.{◌≡◌, ◌⊎◌, ◌++◌, ℕ, List, length}
 use Rattle.cc_ast.specs.Tree.{External}
 use Rattle.cc_link.specs.Meaning.{functions}
-use Rattle.cc_link.specs.Compile.{IsTooLarge}
+use Rattle.cc_c_laws.specs.declared.mode.Mode.{Mode}
+use Rattle.cc_link.specs.Compile.{IsTooLargeIn}
 use Rattle.cc_link.specs.Text.{IsProgramText, IsTextRefusal}
 use Rattle.cc_pool.specs.Fault.{IsJobRefusal}
 use Rattle.cc_pool.specs.Shared.{HasSentSome, pieces_of}
@@ -10,6 +11,11 @@ use Rattle.cc_pool.specs.declared.item.Item.{Item}
 use Rattle.cc_pool.specs.declared.fault.PoolFault.TheVariants as pool
 use Rattle.cc_service.specs.declared.fault.ServiceFault.{ServiceFault}
 use Rattle.cc_service.specs.declared.fault.ServiceFault.TheVariants.{Opening, TooManyClients, BadName, Text, Piece, WorkersGone, ImageTooLarge, Book, OutOfMemory}
+
+-- a text that was handed in for code in a mode
+pub record Handed : Type 0 where
+  pub mode : Mode
+  pub text : List ℕ
 
 -- the text spells a tree that breaks no rule and passes no limit
 pub record IsProgram (text : List ℕ) : Type 0 where
@@ -40,18 +46,18 @@ IsNotPrepared text (Piece function f) = ⊥
 IsNotPrepared text ImageTooLarge = ⊥
 IsNotPrepared text (Book f) = ⊥
 
--- A text that is no program's is refused as one. Only a program has another fault: 22 or 24 of the first function that has no piece; 41;
--- 25 where linking refuses pieces of all functions so.
-abbrev pub IsCompileRefusal : List ℕ → ServiceFault → Type 0
-IsCompileRefusal text (Text f) = IsTextRefusal text f
-IsCompileRefusal text (Piece function f) = IsProgram text × IsJobRefusal text (pool.Piece function f)
-IsCompileRefusal text WorkersGone = IsProgram text
-IsCompileRefusal text ImageTooLarge = IsTooLarge text
-IsCompileRefusal text OutOfMemory = Unit {0}
-IsCompileRefusal text (Opening f) = ⊥
-IsCompileRefusal text TooManyClients = ⊥
-IsCompileRefusal text BadName = ⊥
-IsCompileRefusal text (Book f) = ⊥
+-- A text that is no program's is refused as one. Only a program has another fault: 22 or 24 of the first function that has no piece in the
+-- mode; 41; 25 where linking refuses pieces of all functions so.
+abbrev pub IsCompileRefusal : Mode → List ℕ → ServiceFault → Type 0
+IsCompileRefusal mode text (Text f) = IsTextRefusal text f
+IsCompileRefusal mode text (Piece function f) = IsProgram text × IsJobRefusal mode text (pool.Piece function f)
+IsCompileRefusal mode text WorkersGone = IsProgram text
+IsCompileRefusal mode text ImageTooLarge = IsTooLargeIn mode text
+IsCompileRefusal mode text OutOfMemory = Unit {0}
+IsCompileRefusal mode text (Opening f) = ⊥
+IsCompileRefusal mode text TooManyClients = ⊥
+IsCompileRefusal mode text BadName = ⊥
+IsCompileRefusal mode text (Book f) = ⊥
 
 -- it is no refusal of a text
 abbrev pub IsPastText : ServiceFault → Type 0

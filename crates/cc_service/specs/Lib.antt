@@ -9,6 +9,8 @@ pub mod Client
 pub mod Compiling
 -- what a service's calls answer, as their clients see it
 pub mod Serving
+-- what a change that was answered has done to the book
+pub mod Stored
 -- what serves private contracts
 pub mod internal
 -- Pages of crates below that clauses here cite, handed on.

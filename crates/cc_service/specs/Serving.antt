@@ -1,8 +1,9 @@
 -- What a call of a service answers, as its client sees it. The value of the lock at that moment is no client's to name: what becomes of
 -- it is said of the book's calls.
-use Rattle.std.specs.Prelude.{◌≡◌, ◌≢◌, ◌⊎◌, ℕ, ◌-◌, Bool, IsTrue, List, length, Option, Some, slice_get, Result, Ok, Err}
+use Rattle.std.specs.Prelude.{◌≡◌, ◌≢◌, ℕ, ◌-◌, Bool, IsTrue, List, length, Option, Some, slice_get, Result, Ok, Err}
 use Rattle.cc_library.specs.unit.StoredUnit.{StoredUnit}
-use Rattle.cc_link.specs.Agree.{Agree}
+use Rattle.cc_c_laws.specs.declared.mode.Mode.{Mode}
+use Rattle.cc_link.specs.Agree.{Agree, AgreeIn}
 use Rattle.cc_library.specs.Name.{is_name}
 use Rattle.cc_library.specs.Answers.{OpenFaults}
 use Rattle.cc_library.specs.Apply.{Units}
@@ -26,22 +27,22 @@ use Rattle.cc_service.specs.declared.fault.ServiceFault.TheVariants.{Opening, Ba
 
 -- ---- what a call asks of the book
 
--- the unit was compiled from this source
-abbrev pub IsOf : (source : List ℕ) → StoredUnit → Type 0
-IsOf source unit = (unit.source ≡ source) × Agree unit.source unit.image
+-- the unit was compiled from this source in this mode: its image agrees with it, and follows on every input what the program shows in the mode
+abbrev pub IsOf : Mode → (source : List ℕ) → StoredUnit → Type 0
+IsOf mode source unit = (unit.source ≡ source) × Agree unit.source unit.image × AgreeIn mode unit.source unit.image
 
--- a unit of this source is added under this name
-abbrev pub Adds : (name source : List ℕ) → Command → Type 0
-Adds name source (Add n unit) = (n ≡ name) × IsOf source unit
-Adds name source _ = ⊥
+-- such a unit of this source is added under this name
+abbrev pub Adds : Mode → (name source : List ℕ) → Command → Type 0
+Adds mode name source (Add n unit) = (n ≡ name) × IsOf mode source unit
+Adds mode name source _ = ⊥
 
 -- it takes the place of the name's unit
-abbrev pub Replaces : (name source : List ℕ) → Command → Type 0
-Replaces name source (Replace n unit) = (n ≡ name) × IsOf source unit
-Replaces name source _ = ⊥
+abbrev pub Replaces : Mode → (name source : List ℕ) → Command → Type 0
+Replaces mode name source (Replace n unit) = (n ≡ name) × IsOf mode source unit
+Replaces mode name source _ = ⊥
 
 -- one or the other
-abbrev pub Puts : Put → (name source : List ℕ) → Command → Type 0
+abbrev pub Puts : Put → Mode → (name source : List ℕ) → Command → Type 0
 Puts put.Add = Adds
 Puts put.Replace = Replaces
 
@@ -83,16 +84,16 @@ IsTurnedDown Asks old new book.OutOfMemory = new ≡ old
 
 -- The answer to `add` or `replace`: 33 exactly where the bytes are no name; then, of a name, why the text is not compiled; then, of a
 -- program, what the book answers.
-abbrev pub PutAnswers : (Asks : Command → Type 0) (name source : List ℕ) (old new : MemberView) → Result Receipt ServiceFault → Type 0
-PutAnswers Asks name source old new (Ok receipt) = IsTrue (is_name name) × IsProgram source × IsEntered Asks old reply.Done new receipt
-PutAnswers Asks name source old new (Err BadName) = (¬ IsTrue (is_name name)) × (new ≡ old)
-PutAnswers Asks name source old new (Err (Text f)) = IsTrue (is_name name) × IsCompileRefusal source (Text f) × (new ≡ old)
-PutAnswers Asks name source old new (Err (Piece function f)) = IsTrue (is_name name) × IsCompileRefusal source (Piece function f) × (new ≡ old)
-PutAnswers Asks name source old new (Err WorkersGone) = IsTrue (is_name name) × IsCompileRefusal source WorkersGone × (new ≡ old)
-PutAnswers Asks name source old new (Err ImageTooLarge) = IsTrue (is_name name) × IsCompileRefusal source ImageTooLarge × (new ≡ old)
-PutAnswers Asks name source old new (Err OutOfMemory) = IsTrue (is_name name) × (new ≡ old)
-PutAnswers Asks name source old new (Err (Book f)) = IsTrue (is_name name) × IsProgram source × IsTurnedDown Asks old new f
-PutAnswers Asks name source old new (Err _) = ⊥
+abbrev pub PutAnswers : Mode → (Asks : Command → Type 0) (name source : List ℕ) (old new : MemberView) → Result Receipt ServiceFault → Type 0
+PutAnswers mode Asks name source old new (Ok receipt) = IsTrue (is_name name) × IsProgram source × IsEntered Asks old reply.Done new receipt
+PutAnswers mode Asks name source old new (Err BadName) = (¬ IsTrue (is_name name)) × (new ≡ old)
+PutAnswers mode Asks name source old new (Err (Text f)) = IsTrue (is_name name) × IsCompileRefusal mode source (Text f) × (new ≡ old)
+PutAnswers mode Asks name source old new (Err (Piece function f)) = IsTrue (is_name name) × IsCompileRefusal mode source (Piece function f) × (new ≡ old)
+PutAnswers mode Asks name source old new (Err WorkersGone) = IsTrue (is_name name) × IsCompileRefusal mode source WorkersGone × (new ≡ old)
+PutAnswers mode Asks name source old new (Err ImageTooLarge) = IsTrue (is_name name) × IsCompileRefusal mode source ImageTooLarge × (new ≡ old)
+PutAnswers mode Asks name source old new (Err OutOfMemory) = IsTrue (is_name name) × (new ≡ old)
+PutAnswers mode Asks name source old new (Err (Book f)) = IsTrue (is_name name) × IsProgram source × IsTurnedDown Asks old new f
+PutAnswers mode Asks name source old new (Err _) = ⊥
 
 -- the answer to `withdraw`: 33 exactly where the bytes are no name; else what the book answers
 abbrev pub WithdrawAnswers : (name : List ℕ) (old new : MemberView) → Result Receipt ServiceFault → Type 0

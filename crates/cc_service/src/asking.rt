@@ -1,8 +1,11 @@
 // What a client asks of a book.
 
-ghost use Rattle.std.specs.Prelude.{◌≡◌, IfErr, IfOk};
+ghost use Rattle.std.specs.Prelude.{◌≡◌, ◌⊎◌, ◌++◌, ◌∷◌, [], List, IfErr, IfOk};
 ghost use Rattle.cc_history.specs.declared.reply.Reply.TheVariants as reply;
 ghost use Rattle.cc_recorded.specs.Answers.{IsLook, LookAnswers};
+ghost use Rattle.cc_recorded.specs.Book.{BookView};
+ghost use Rattle.cc_recorded.specs.Changed.{AllRecover, ChangesAtOnce, IsBookChanged};
+ghost use Rattle.cc_recorded.specs.Compacting.{IsCompactedFor};
 ghost use Rattle.cc_service.specs.Serving.{IsEntered, IsTurnedDown};
 
 use crate::client::Client;
@@ -13,7 +16,8 @@ use cc_recorded::{Book, BookFault};
 use std::alloc::Global;
 
 impl<N: Named> Client<N> {
-    /// Makes a change of the book: `commit_compacting` of it where the client's changes compact, else `commit`.
+    /// Makes a change of the book: `commit_compacting` of it where the client's changes compact, else `commit`. What becomes of the book is as
+    /// these say.
     #[tactic(auto, using(crate::proofs::Answering::entered_where_ok, crate::proofs::Answering::turned_down_where_err, crate::proofs::Mending::compacting_entered, crate::proofs::Mending::compacting_turned_down))]
     pub fn change<D: Disk>(
         &mut self,
@@ -21,6 +25,11 @@ impl<N: Named> Client<N> {
         book: &mut Book<N, D>,
         command: Command,
     ) -> Result<Receipt, BookFault>
+        ensures answers { IsBookChanged D.Disk book.old.book self.old.member command book.new.book self.new.member result
+            ⊎ IsCompactedFor D.Disk book.old.book self.old.member command book.new.book self.new.member result }
+        ensures since { (book.new ≡ book.old) ⊎ ((between : List (BookView D)) × (book.new.since ≡ book.old.since ++ (between ++ book.new.book ∷ []))) }
+        ensures moments { ChangesAtOnce D.Disk command book.old.book book.new.book }
+        ensures kept { AllRecover D.Disk book.new.book }
         ensures ok { IfOk result (λ receipt. IsEntered (λ c. c ≡ command) self.old.member reply.Done self.new.member receipt) }
         ensures err { IfErr result (λ fault. IsTurnedDown (λ c. c ≡ command) self.old.member self.new.member fault) }
         ensures sent { self.new.sent ≡ self.old.sent }

@@ -6,12 +6,15 @@ ghost use Rattle.cc_library.specs.Apply.{Units};
 ghost use Rattle.cc_library.specs.Name.{is_name};
 ghost use Rattle.cc_library.specs.Recovered.{Recovers};
 ghost use Rattle.cc_history.specs.Closing.{AreOwn, IsClosed};
+ghost use Rattle.cc_c_laws.specs.declared.mode.Mode.{Mode};
+ghost use Rattle.cc_c_laws.specs.declared.mode.Mode.TheVariants.{Plain};
 ghost use Rattle.cc_service.specs.Client.{members};
 ghost use Rattle.cc_service.specs.Compiling.{HasHandedIn, HasSentFor, IsNotPrepared, IsPastText};
 ghost use Rattle.cc_recorded.specs.Opened.{IsOpened};
 ghost use Rattle.cc_recorded.specs.Promise.{IsGivenUp, IsSound};
 ghost use Rattle.cc_recorded.specs.Since.{IsPast};
 ghost use Rattle.cc_service.specs.Serving.{Adds, GetAnswers, IsNotCompacted, IsNotEnded, IsNotOpened, IsNotStarted, IsOf, IsTurnedAway, ListAnswers, PutAnswers, Puts, Replaces, WithdrawAnswers};
+ghost use Rattle.cc_service.specs.Stored.{IsStored};
 ghost use Rattle.cc_recorded.specs.Answers.{IsLook};
 ghost use Rattle.cc_service.specs.internal.Under.{IsSeen, MakesAnswers};
 ghost use Rattle.cc_recorded.specs.declared.fault.BookFault.{BookFault};
@@ -27,7 +30,7 @@ use crate::named::{Fresh, Named};
 use cc_disk::Disk;
 use cc_history::{Asked, Command, Receipt};
 use cc_library::{Library, Name};
-use cc_link::CompiledUnit;
+use cc_link::{CompiledUnit, Mode};
 use cc_pool::{Gate, Pool, PoolFault};
 use cc_recorded::{Book, BookFault};
 use std::alloc::Global;
@@ -46,7 +49,7 @@ pub enum Put {
 
 // The change that puts a unit under a name.
 fn change_of(put: Put, name: Name, unit: CompiledUnit) -> Command
-    ensures { (source : List ℕ) → IsOf source unit → Puts put name source result }
+    ensures { (mode : Mode) (source : List ℕ) → IsOf mode source unit → Puts put mode name source result }
 {
     match put {
         Put::Add => Command::Add(name, unit),
@@ -196,12 +199,7 @@ impl<N: Named + Send + Sync + 'static, D: Disk> Service<N, D> {
         }
     }
 
-    /// Compiles a text and puts its unit under a name: one that has none, or in place of the unit that it has.
-    ///
-    /// Refusals, in this order: 33; 7, 1 to 6, 11 to 21 of the text; of the first function of which no piece came 22 or 24, where a
-    /// worker refused it, else 41; 25; then under the lock 36, 39, 31 of `Add` and 32 of `Replace`, 34, 35. 40 where memory ran out. Of
-    /// these 31 and 32 have a receipt; the others leave number and receipts of the client as they were, and its pass may have sent some of
-    /// the functions.
+    /// Compiles a text to a plain image and puts its unit under a name: `put_in`.
     pub fn put<R: Wait>(
         &self,
         rt: &R,
@@ -211,23 +209,43 @@ impl<N: Named + Send + Sync + 'static, D: Disk> Service<N, D> {
         name: &[u8],
         source: &[u8],
     ) -> Result<Receipt, ServiceFault>
-        ensures answers { PutAnswers (Puts put name.now source.now) name.now source.now client.old.member client.new.member result }
+        ensures answers { PutAnswers Plain (Puts put Plain name.now source.now) name.now source.now client.old.member client.new.member result }
+        ensures stored { IfOk result (λ receipt. IsStored D.Disk N.base N.from N.left receipt) }
+        ensures sent { HasSentFor source.now client.old.sent client.new.sent }
+    {
+        self.put_in(rt, alloc, client, Mode::Plain, put, name, source)
+    }
+
+    /// Compiles a text in a mode and puts its unit under a name: one that has none, or in place of the unit that it has.
+    ///
+    /// Refusals, in this order: 33; 7, 1 to 6, 11 to 21 of the text; of the first function of which no piece came 22 or 24, where a
+    /// worker refused it, else 41; 25; then under the lock 36, 39, 31 of `Add` and 32 of `Replace`, 34, 35. 40 where memory ran out. Of
+    /// these 31 and 32 have a receipt; the others leave number and receipts of the client as they were, and its pass may have sent some of
+    /// the functions.
+    pub fn put_in<R: Wait>(
+        &self,
+        rt: &R,
+        alloc: Global,
+        client: &mut Client<N>,
+        mode: Mode,
+        put: Put,
+        name: &[u8],
+        source: &[u8],
+    ) -> Result<Receipt, ServiceFault>
+        ensures answers { PutAnswers mode (Puts put mode name.now source.now) name.now source.now client.old.member client.new.member result }
+        ensures stored { IfOk result (λ receipt. IsStored D.Disk N.base N.from N.left receipt) }
         ensures sent { HasSentFor source.now client.old.sent client.new.sent }
     {
         let Ok(name) = Name::new(name) else {
             return Err(ServiceFault::BadName);
         };
-        match begun(rt, alloc, &self.pool, &mut client.pass, source) {
+        match begun(rt, alloc, &self.pool, &mut client.pass, mode, source) {
             Ok(prepared) => self.put_counted(rt, alloc, client, put, name, prepared),
             Err(fault) => Err(fault),
         }
     }
 
-    /// Hands the functions of a text to the workers, for a `put_prepared` that follows, and waits for none of them: only while the queue
-    /// is full.
-    ///
-    /// Refusals, in this order: 7, 1 to 6, 11 to 21 of the text; 41. 40 where memory ran out. Each leaves number and receipts of the client
-    /// as they were, as an Ok does; after 40 and 41 its pass may have sent some of the functions.
+    /// Hands the functions of a text to the workers, for a `put_prepared` of a plain image: `prepare_in`.
     pub fn prepare<R: Wait>(
         &self,
         rt: &R,
@@ -235,16 +253,40 @@ impl<N: Named + Send + Sync + 'static, D: Disk> Service<N, D> {
         client: &mut Client<N>,
         source: &[u8],
     ) -> Result<Prepared<N>, ServiceFault>
-        ensures text { IfOk result (λ prepared. prepared ≡ source.now) }
+        ensures text { IfOk result (λ prepared. prepared.text ≡ source.now) }
+        ensures mode { IfOk result (λ prepared. prepared.mode ≡ Plain) }
         ensures handed { IfOk result (λ _. HasHandedIn source.now client.old.sent client.new.sent) }
         ensures refused { IfErr result (λ fault. IsNotPrepared source.now fault) }
         ensures member { client.new.member ≡ client.old.member }
         ensures sent { HasSentFor source.now client.old.sent client.new.sent }
     {
-        begun(rt, alloc, &self.pool, &mut client.pass, source)
+        self.prepare_in(rt, alloc, client, Mode::Plain, source)
     }
 
-    /// Waits for the functions of a text that was prepared, and puts its unit under a name, as `put` does.
+    /// Hands the functions of a text to the workers, for a `put_prepared` of an image in a mode, and waits for none of them: only while the
+    /// queue is full.
+    ///
+    /// Refusals, in this order: 7, 1 to 6, 11 to 21 of the text; 41. 40 where memory ran out. Each leaves number and receipts of the client
+    /// as they were, as an Ok does; after 40 and 41 its pass may have sent some of the functions.
+    pub fn prepare_in<R: Wait>(
+        &self,
+        rt: &R,
+        alloc: Global,
+        client: &mut Client<N>,
+        mode: Mode,
+        source: &[u8],
+    ) -> Result<Prepared<N>, ServiceFault>
+        ensures text { IfOk result (λ prepared. prepared.text ≡ source.now) }
+        ensures mode { IfOk result (λ prepared. prepared.mode ≡ mode) }
+        ensures handed { IfOk result (λ _. HasHandedIn source.now client.old.sent client.new.sent) }
+        ensures refused { IfErr result (λ fault. IsNotPrepared source.now fault) }
+        ensures member { client.new.member ≡ client.old.member }
+        ensures sent { HasSentFor source.now client.old.sent client.new.sent }
+    {
+        begun(rt, alloc, &self.pool, &mut client.pass, mode, source)
+    }
+
+    /// Waits for the functions of a text that was prepared, and puts its unit under a name, as `put_in` does in that mode.
     ///
     /// Refusals, in this order: 33; of the first function of which no piece came 22 or 24, where a worker refused it, else 41; 25; then
     /// under the lock as those of `put`. 40 where memory ran out. Of these 31 and 32 have a receipt; the others leave number and receipts
@@ -259,7 +301,8 @@ impl<N: Named + Send + Sync + 'static, D: Disk> Service<N, D> {
         prepared: Prepared<N>,
     ) -> Result<Receipt, ServiceFault>
         // Of a `put` of its text.
-        ensures answers { PutAnswers (Puts put name.now prepared) name.now prepared client.old.member client.new.member result }
+        ensures answers { PutAnswers prepared.mode (Puts put prepared.mode name.now prepared.text) name.now prepared.text client.old.member client.new.member result }
+        ensures stored { IfOk result (λ receipt. IsStored D.Disk N.base N.from N.left receipt) }
         ensures past_text { IfErr result (λ fault. IsPastText fault) }
         ensures sent { client.new.sent ≡ client.old.sent }
     {
@@ -281,7 +324,8 @@ impl<N: Named + Send + Sync + 'static, D: Disk> Service<N, D> {
         prepared: Prepared<N>,
     ) -> Result<Receipt, ServiceFault>
         requires named { IsTrue (is_name name) }
-        ensures answers { PutAnswers (Puts put name prepared) name prepared client.old.member client.new.member result }
+        ensures answers { PutAnswers prepared.mode (Puts put prepared.mode name prepared.text) name prepared.text client.old.member client.new.member result }
+        ensures stored { IfOk result (λ receipt. IsStored D.Disk N.base N.from N.left receipt) }
         ensures past_text { IfErr result (λ fault. IsPastText fault) }
         ensures sent { client.new.sent ≡ client.old.sent }
     {
@@ -302,7 +346,8 @@ impl<N: Named + Send + Sync + 'static, D: Disk> Service<N, D> {
         prepared: Prepared<N>,
     ) -> Result<Receipt, ServiceFault>
         requires named { IsTrue (is_name name) }
-        ensures answers { PutAnswers (Puts put name prepared) name prepared client.old.member client.new.member result }
+        ensures answers { PutAnswers prepared.mode (Puts put prepared.mode name prepared.text) name prepared.text client.old.member client.new.member result }
+        ensures stored { IfOk result (λ receipt. IsStored D.Disk N.base N.from N.left receipt) }
         ensures past_text { IfErr result (λ fault. IsPastText fault) }
         ensures sent { client.new.sent ≡ client.old.sent }
     {
@@ -327,7 +372,8 @@ impl<N: Named + Send + Sync + 'static, D: Disk> Service<N, D> {
         name: &[u8],
         source: &[u8],
     ) -> Result<Receipt, ServiceFault>
-        ensures answers { PutAnswers (Adds name.now source.now) name.now source.now client.old.member client.new.member result }
+        ensures answers { PutAnswers Plain (Adds Plain name.now source.now) name.now source.now client.old.member client.new.member result }
+        ensures stored { IfOk result (λ receipt. IsStored D.Disk N.base N.from N.left receipt) }
         ensures sent { HasSentFor source.now client.old.sent client.new.sent }
     {
         self.put(rt, alloc, client, Put::Add, name, source)
@@ -342,7 +388,8 @@ impl<N: Named + Send + Sync + 'static, D: Disk> Service<N, D> {
         name: &[u8],
         source: &[u8],
     ) -> Result<Receipt, ServiceFault>
-        ensures answers { PutAnswers (Replaces name.now source.now) name.now source.now client.old.member client.new.member result }
+        ensures answers { PutAnswers Plain (Replaces Plain name.now source.now) name.now source.now client.old.member client.new.member result }
+        ensures stored { IfOk result (λ receipt. IsStored D.Disk N.base N.from N.left receipt) }
         ensures sent { HasSentFor source.now client.old.sent client.new.sent }
     {
         self.put(rt, alloc, client, Put::Replace, name, source)
@@ -360,6 +407,7 @@ impl<N: Named + Send + Sync + 'static, D: Disk> Service<N, D> {
         name: &[u8],
     ) -> Result<Receipt, ServiceFault>
         ensures answers { WithdrawAnswers name.now client.old.member client.new.member result }
+        ensures stored { IfOk result (λ receipt. IsStored D.Disk N.base N.from N.left receipt) }
         ensures sent { client.new.sent ≡ client.old.sent }
     {
         let Ok(name) = Name::new(name) else {
@@ -377,9 +425,13 @@ impl<N: Named + Send + Sync + 'static, D: Disk> Service<N, D> {
         command: Command,
     ) -> Result<Receipt, ServiceFault>
         ensures answers { MakesAnswers command client.old.member client.new.member result }
+        ensures stored { IfOk result (λ receipt. IsStored D.Disk N.base N.from N.left receipt) }
         ensures sent { client.new.sent ≡ client.old.sent }
     {
-        let answer = client.change(alloc, &mut self.book.lock(rt), command);
+        let mut book = self.book.lock(rt);
+        let answer = client.change(alloc, &mut book, command);
+        book.survives();
+        drop(book);
         match answer {
             Ok(receipt) => Ok(receipt),
             Err(fault) => Err(ServiceFault::Book(fault)),

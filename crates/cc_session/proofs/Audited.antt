@@ -10,6 +10,7 @@ use Rattle.cc_script.specs.declared.fault.ScriptFault.TheVariants.{WriteFault}
 use Rattle.cc_history.specs.declared.entry.Receipt.{Receipt}
 use Rattle.cc_history.specs.declared.reply.Reply.TheVariants as reply
 use Rattle.cc_history.specs.History.{MemberView}
+use Rattle.cc_c_laws.specs.declared.mode.Mode.{Mode}
 use Rattle.cc_service.specs.Serving.{GetAnswers, ListAnswers}
 use Rattle.cc_service.specs.declared.fault.ServiceFault.{ServiceFault}
 use Rattle.cc_session.specs.Playing.{Audits, AuditsEach, CallsAndWrites, Talk, talk}
@@ -22,53 +23,53 @@ from_name : (names : List (List ℕ)) (i : ℕ) (name : List ℕ) → i < length
 from_name names i name within is = drop_more names i name within ∙ ap (λ (n : List ℕ). n ∷ drop (i + 1) names) (sym is)
 
 -- what is written of a unit that is not audited: why not
-not_audited : (name : List ℕ) (answer : Result Receipt ServiceFault) → (text : List ℕ) × SaysAudit name false answer text
-not_audited name (Ok receipt) = (no_memory_text, refl)
-not_audited name (Err fault) = (refusal_text [] fault, refl)
+not_audited : (mode : Mode) → (name : List ℕ) (answer : Result Receipt ServiceFault) → (text : List ℕ) × SaysAudit mode name false answer text
+not_audited mode name (Ok receipt) = (no_memory_text, refl)
+not_audited mode name (Err fault) = (refusal_text [] fault, refl)
 
 -- the audit of the name there is the last, and says nothing
-pub audited_last : (names : List (List ℕ)) (i : ℕ) (name bytes : List ℕ) → i < length names → name ≡ get_or names i name → bytes ≡ name → (old new : Talk)
-    → CallsAndWrites (GetAnswers bytes) (SaysAudit bytes false) old new → AuditsEach (drop i names) false old new
-audited_last names i name bytes within is same old new called =
-    subst (λ (l : List (List ℕ)). AuditsEach l false old new) (sym (from_name names i name within is))
-    (inl (refl, subst (λ (n : List ℕ). CallsAndWrites (GetAnswers n) (SaysAudit n false) old new) same called))
+pub audited_last : (mode : Mode) → (names : List (List ℕ)) (i : ℕ) (name bytes : List ℕ) → i < length names → name ≡ get_or names i name → bytes ≡ name → (old new : Talk)
+    → CallsAndWrites (GetAnswers bytes) (SaysAudit mode bytes false) old new → AuditsEach mode (drop i names) false old new
+audited_last mode names i name bytes within is same old new called =
+    subst (λ (l : List (List ℕ)). AuditsEach mode l false old new) (sym (from_name names i name within is))
+    (inl (refl, subst (λ (n : List ℕ). CallsAndWrites (GetAnswers n) (SaysAudit mode n false) old new) same called))
 
 -- so if it could not be written
-pub audited_unwritten : (names : List (List ℕ)) (i : ℕ) (name bytes : List ℕ) → i < length names → name ≡ get_or names i name → bytes ≡ name → (old new : Talk) (fault : ScriptFault)
-    → AuditsName bytes old new (let r : Result Bool ScriptFault = Err fault in r) → (fault ≡ WriteFault) × (written : Option (List ℕ)) × AuditsEach (drop i names) false old (talk new.client written)
-audited_unwritten names i name bytes within is same old new fault it =
-    let says = not_audited bytes it.0 in
+pub audited_unwritten : (mode : Mode) → (names : List (List ℕ)) (i : ℕ) (name bytes : List ℕ) → i < length names → name ≡ get_or names i name → bytes ≡ name → (old new : Talk) (fault : ScriptFault)
+    → AuditsName mode bytes old new (let r : Result Bool ScriptFault = Err fault in r) → (fault ≡ WriteFault) × (written : Option (List ℕ)) × AuditsEach mode (drop i names) false old (talk new.client written)
+audited_unwritten mode names i name bytes within is same old new fault it =
+    let says = not_audited mode bytes it.0 in
     let written = append_known old.written says.0 in
-    (it.2, written, audited_last names i name bytes within is same old (talk new.client written) (it.0, it.1, says.0, says.1, appended old.written says.0))
+    (it.2, written, audited_last mode names i name bytes within is same old (talk new.client written) (it.0, it.1, says.0, says.1, appended old.written says.0))
 
 -- the audit of the name there says something, and the units of those after it are audited
-pub audited_on : (names : List (List ℕ)) (i : ℕ) (name bytes : List ℕ) → i < length names → name ≡ get_or names i name → bytes ≡ name → (all : Bool) (old between new : Talk)
-    → CallsAndWrites (GetAnswers bytes) (SaysAudit bytes true) old between → AuditsEach (drop (i + 1) names) all between new → AuditsEach (drop i names) all old new
-audited_on names i name bytes within is same all old between new found behind =
-    subst (λ (l : List (List ℕ)). AuditsEach l all old new) (sym (from_name names i name within is))
-    (inr (between, subst (λ (n : List ℕ). CallsAndWrites (GetAnswers n) (SaysAudit n true) old between) same found, behind))
+pub audited_on : (mode : Mode) → (names : List (List ℕ)) (i : ℕ) (name bytes : List ℕ) → i < length names → name ≡ get_or names i name → bytes ≡ name → (all : Bool) (old between new : Talk)
+    → CallsAndWrites (GetAnswers bytes) (SaysAudit mode bytes true) old between → AuditsEach mode (drop (i + 1) names) all between new → AuditsEach mode (drop i names) all old new
+audited_on mode names i name bytes within is same all old between new found behind =
+    subst (λ (l : List (List ℕ)). AuditsEach mode l all old new) (sym (from_name names i name within is))
+    (inr (between, subst (λ (n : List ℕ). CallsAndWrites (GetAnswers n) (SaysAudit mode n true) old between) same found, behind))
 
 -- the names are listed, and all units are audited
-pub audits_all : {T : Type 0} (answer : Result T ScriptFault) (receipt : Receipt) (names : List (List ℕ)) (heard : MemberView) (old new : Talk) (last : Option (List ℕ))
-    → ListAnswers old.client heard (Ok receipt) → receipt.entry.reply ≡ reply.Names names → AuditsEach names true (talk heard old.written) (talk new.client last)
-    → Tells last new.written (line (codes "ok")) answer → DoesAndTells Audits old new answer
-audits_all (Ok done) receipt names heard old new last listed are each told =
+pub audits_all : (mode : Mode) → {T : Type 0} (answer : Result T ScriptFault) (receipt : Receipt) (names : List (List ℕ)) (heard : MemberView) (old new : Talk) (last : Option (List ℕ))
+    → ListAnswers old.client heard (Ok receipt) → receipt.entry.reply ≡ reply.Names names → AuditsEach mode names true (talk heard old.written) (talk new.client last)
+    → Tells last new.written (line (codes "ok")) answer → DoesAndTells (Audits mode) old new answer
+audits_all mode (Ok done) receipt names heard old new last listed are each told =
     inr (record { receipt = receipt; names = names; all = true; heard = heard; last = talk new.client last; listed = listed; names_are = are; audited = each; ended = (refl, told.1) })
-audits_all (Err fault) receipt names heard old new last listed are each told = (
+audits_all mode (Err fault) receipt names heard old new last listed are each told = (
   told.0,
   append_known last (line (codes "ok")),
   inr (record { receipt = receipt; names = names; all = true; heard = heard; last = talk new.client last; listed = listed; names_are = are; audited = each; ended = (refl, appended last (line (codes "ok"))) }),
 )
 
 -- some of them are not
-pub audits_some : (receipt : Receipt) (names : List (List ℕ)) (heard : MemberView) (old new : Talk)
-    → ListAnswers old.client heard (Ok receipt) → receipt.entry.reply ≡ reply.Names names → AuditsEach names false (talk heard old.written) new → Audits old new
-audits_some receipt names heard old new listed are each =
+pub audits_some : (mode : Mode) → (receipt : Receipt) (names : List (List ℕ)) (heard : MemberView) (old new : Talk)
+    → ListAnswers old.client heard (Ok receipt) → receipt.entry.reply ≡ reply.Names names → AuditsEach mode names false (talk heard old.written) new → Audits mode old new
+audits_some mode receipt names heard old new listed are each =
     inr (record { receipt = receipt; names = names; all = false; heard = heard; last = new; listed = listed; names_are = are; audited = each; ended = refl })
 
 -- the list is refused
-pub audits_none : {T : Type 0} (answer : Result T ScriptFault) (fault : ServiceFault) (old new : Talk) → ListAnswers old.client new.client (Err fault)
-    → Tells old.written new.written (refusal_text [] fault) answer → DoesAndTells Audits old new answer
-audits_none (Ok done) fault old new listed told = inl (Err fault, listed, refusal_text [] fault, refl, told.1)
-audits_none (Err unwritten) fault old new listed told =
+pub audits_none : (mode : Mode) → {T : Type 0} (answer : Result T ScriptFault) (fault : ServiceFault) (old new : Talk) → ListAnswers old.client new.client (Err fault)
+    → Tells old.written new.written (refusal_text [] fault) answer → DoesAndTells (Audits mode) old new answer
+audits_none mode (Ok done) fault old new listed told = inl (Err fault, listed, refusal_text [] fault, refl, told.1)
+audits_none mode (Err unwritten) fault old new listed told =
     (told.0, append_known old.written (refusal_text [] fault), inl (Err fault, listed, refusal_text [] fault, refl, appended old.written (refusal_text [] fault)))

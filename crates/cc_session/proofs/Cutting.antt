@@ -9,6 +9,7 @@ use Rattle.cc_script.specs.declared.fault.ScriptFault.{ScriptFault}
 use Rattle.cc_script.specs.declared.fault.ScriptFault.TheVariants.{BadLine, EndOfScript, ScriptTooLong, ReadFault, WriteFault, Stopped}
 use Rattle.cc_history.specs.declared.entry.Receipt.{Receipt}
 use Rattle.cc_history.specs.History.{MemberView}
+use Rattle.cc_c_laws.specs.declared.mode.Mode.{Mode}
 use Rattle.cc_service.specs.Serving.{GetAnswers}
 use Rattle.cc_service.specs.declared.fault.ServiceFault.{ServiceFault}
 use Rattle.cc_session.specs.Playing.{CutsLine, Grows, Obeys, Talk, talk}
@@ -74,25 +75,25 @@ run_refused (Err fault) most name steps why old new get told = refused_not fault
 
 -- ---- the line that asks for it
 
-obeyed_not : (fault : ScriptFault) (most : Option ℕ) (name : List ℕ) (steps : ℕ) (x : Ahead) (old new : Talk) → RunsNot most name steps old new fault
-    → IsObeyedNot most (Some (Run name steps)) x old new fault
-obeyed_not Stopped most name steps x old new it = it
-obeyed_not WriteFault most name steps x old new it =
-    known x.rest (λ b. (new.client ≡ old.client) ⊎ ((a : List ℕ) × (w : Option (List ℕ)) × Obeys (Some (Run name steps)) b a old (talk new.client w))) (λ b. inr (b, it.1, (refl, it.2)))
-obeyed_not BadLine most name steps x old new it = absurd (subst (λ (f : ScriptFault). IsOther f) it.0 tt)
-obeyed_not EndOfScript most name steps x old new it = absurd (subst (λ (f : ScriptFault). IsOther f) it.0 tt)
-obeyed_not ScriptTooLong most name steps x old new it = absurd (subst (λ (f : ScriptFault). IsOther f) it.0 tt)
-obeyed_not ReadFault most name steps x old new it = absurd (subst (λ (f : ScriptFault). IsOther f) it.0 tt)
+obeyed_not : (mode : Mode) → (fault : ScriptFault) (most : Option ℕ) (name : List ℕ) (steps : ℕ) (x : Ahead) (old new : Talk) → RunsNot most name steps old new fault
+    → IsObeyedNot mode most (Some (Run name steps)) x old new fault
+obeyed_not mode Stopped most name steps x old new it = it
+obeyed_not mode WriteFault most name steps x old new it =
+    known x.rest (λ b. (new.client ≡ old.client) ⊎ ((a : List ℕ) × (w : Option (List ℕ)) × Obeys mode (Some (Run name steps)) b a old (talk new.client w))) (λ b. inr (b, it.1, (refl, it.2)))
+obeyed_not mode BadLine most name steps x old new it = absurd (subst (λ (f : ScriptFault). IsOther f) it.0 tt)
+obeyed_not mode EndOfScript most name steps x old new it = absurd (subst (λ (f : ScriptFault). IsOther f) it.0 tt)
+obeyed_not mode ScriptTooLong most name steps x old new it = absurd (subst (λ (f : ScriptFault). IsOther f) it.0 tt)
+obeyed_not mode ReadFault most name steps x old new it = absurd (subst (λ (f : ScriptFault). IsOther f) it.0 tt)
 
-obeyed_by : {T : Type 0} (result : Result T ScriptFault) (most : Option ℕ) (name : List ℕ) (steps : ℕ) (x : Ahead) (old new : Talk) → RunsAndTells most name steps old new result
-    → IsObeyed most (Some (Run name steps)) x x old new result
-obeyed_by (Ok done) most name steps x old new it = between_none x (λ b a. Obeys (Some (Run name steps)) b a old new) (λ b. (refl, it))
-obeyed_by (Err fault) most name steps x old new it = obeyed_not fault most name steps x old new it
+obeyed_by : (mode : Mode) → {T : Type 0} (result : Result T ScriptFault) (most : Option ℕ) (name : List ℕ) (steps : ℕ) (x : Ahead) (old new : Talk) → RunsAndTells most name steps old new result
+    → IsObeyed mode most (Some (Run name steps)) x x old new result
+obeyed_by mode (Ok done) most name steps x old new it = between_none x (λ b a. Obeys mode (Some (Run name steps)) b a old new) (λ b. (refl, it))
+obeyed_by mode (Err fault) most name steps x old new it = obeyed_not mode fault most name steps x old new it
 
-pub obeyed_run : {T : Type 0} (result : Result T ScriptFault) (most : Option ℕ) (asked : Option ScriptRequest) (name : List ℕ) (steps : ℕ) (x : Ahead) (old new : Talk) → Some (Run name steps) ≡ asked
-    → RunsAndTells most name steps old new result → IsObeyed most asked x x old new result
-obeyed_run result most asked name steps x old new same it =
-    subst (λ (it : Option ScriptRequest). IsObeyed most it x x old new result) same (obeyed_by result most name steps x old new it)
+pub obeyed_run : (mode : Mode) → {T : Type 0} (result : Result T ScriptFault) (most : Option ℕ) (asked : Option ScriptRequest) (name : List ℕ) (steps : ℕ) (x : Ahead) (old new : Talk) → Some (Run name steps) ≡ asked
+    → RunsAndTells most name steps old new result → IsObeyed mode most asked x x old new result
+obeyed_run mode result most asked name steps x old new same it =
+    subst (λ (it : Option ScriptRequest). IsObeyed mode most it x x old new result) same (obeyed_by mode result most name steps x old new it)
 
 -- its client keeps its receipts
 grows_not : (fault : ScriptFault) (most : Option ℕ) (name : List ℕ) (steps : ℕ) (old new : Talk) → RunsNot most name steps old new fault → Grows old.client new.client
@@ -108,18 +109,18 @@ run_grows (Ok done) most name steps old new it = get_grows name old.client new.c
 run_grows (Err fault) most name steps old new it = grows_not fault most name steps old new it
 
 -- whoever called for a run that was cut, called for one whose answer was that memory ran out
-pub cut_obeyed : (asked : Option ScriptRequest) (rest : List ℕ) (old last new : Talk) → new.client ≡ last.client → CutsLine asked old last
-    → (w : Option (List ℕ)) × Obeys asked rest rest old (talk new.client w)
-cut_obeyed (Some (Run name steps)) rest old last new same (receipt, get, cut, written) = (
+pub cut_obeyed : (mode : Mode) → (asked : Option ScriptRequest) (rest : List ℕ) (old last new : Talk) → new.client ≡ last.client → CutsLine asked old last
+    → (w : Option (List ℕ)) × Obeys mode asked rest rest old (talk new.client w)
+cut_obeyed mode (Some (Run name steps)) rest old last new same (receipt, get, cut, written) = (
   append_known old.written no_memory_text,
   (refl, (Ok receipt, subst (λ (c : MemberView). GetAnswers name old.client c (Ok receipt)) (sym same) get, no_memory_text, inr refl, appended old.written no_memory_text)),
 )
-cut_obeyed None rest old last new same it = absurd it
-cut_obeyed (Some (Add name count)) rest old last new same it = absurd it
-cut_obeyed (Some (Replace name count)) rest old last new same it = absurd it
-cut_obeyed (Some (Withdraw name)) rest old last new same it = absurd it
-cut_obeyed (Some Names) rest old last new same it = absurd it
-cut_obeyed (Some Compact) rest old last new same it = absurd it
-cut_obeyed (Some Audit) rest old last new same it = absurd it
-cut_obeyed (Some (Image name)) rest old last new same it = absurd it
-cut_obeyed (Some (Source name)) rest old last new same it = absurd it
+cut_obeyed mode None rest old last new same it = absurd it
+cut_obeyed mode (Some (Add name count)) rest old last new same it = absurd it
+cut_obeyed mode (Some (Replace name count)) rest old last new same it = absurd it
+cut_obeyed mode (Some (Withdraw name)) rest old last new same it = absurd it
+cut_obeyed mode (Some Names) rest old last new same it = absurd it
+cut_obeyed mode (Some Compact) rest old last new same it = absurd it
+cut_obeyed mode (Some Audit) rest old last new same it = absurd it
+cut_obeyed mode (Some (Image name)) rest old last new same it = absurd it
+cut_obeyed mode (Some (Source name)) rest old last new same it = absurd it

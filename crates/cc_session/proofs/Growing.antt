@@ -9,6 +9,7 @@ use Rattle.cc_history.specs.declared.entry.Receipt.{Receipt}
 use Rattle.cc_history.specs.declared.reply.Reply.{Reply}
 use Rattle.cc_history.specs.declared.reply.Reply.TheVariants as reply
 use Rattle.cc_history.specs.History.{IsAnswered, MemberView}
+use Rattle.cc_c_laws.specs.declared.mode.Mode.{Mode}
 use Rattle.cc_service.specs.Serving.{GetAnswers, IsNotFound, IsTurnedAway, IsTurnedDown, ListAnswers, PutAnswers, WithdrawAnswers, Withdraws}
 use Rattle.cc_service.specs.book_fault.BookFault.{BookFault}
 use Rattle.cc_service.specs.book_fault.BookFault.TheVariants as book
@@ -43,17 +44,17 @@ turned_down Asks old new book.DiskFault it = grows_same old new it
 turned_down Asks old new book.Closed it = grows_same old new it
 turned_down Asks old new book.OutOfMemory it = grows_same old new it
 
-pub put_grows : (Asks : Command → Type 0) (name source : List ℕ) (old new : MemberView) (answer : Result Receipt ServiceFault) → PutAnswers Asks name source old new answer → Grows old new
-put_grows Asks name source old new (Ok receipt) it = grows_answered old (Change it.2.command) reply.Done new receipt it.2.answered
-put_grows Asks name source old new (Err service.BadName) it = grows_same old new it.1
-put_grows Asks name source old new (Err (service.Text f)) it = grows_same old new it.2
-put_grows Asks name source old new (Err (service.Piece function f)) it = grows_same old new it.2
-put_grows Asks name source old new (Err service.WorkersGone) it = grows_same old new it.2
-put_grows Asks name source old new (Err service.ImageTooLarge) it = grows_same old new it.2
-put_grows Asks name source old new (Err service.OutOfMemory) it = grows_same old new it.1
-put_grows Asks name source old new (Err (service.Book f)) it = turned_down Asks old new f it.2
-put_grows Asks name source old new (Err (service.Opening f)) it = absurd it
-put_grows Asks name source old new (Err service.TooManyClients) it = absurd it
+pub put_grows : (mode : Mode) → (Asks : Command → Type 0) (name source : List ℕ) (old new : MemberView) (answer : Result Receipt ServiceFault) → PutAnswers mode Asks name source old new answer → Grows old new
+put_grows mode Asks name source old new (Ok receipt) it = grows_answered old (Change it.2.command) reply.Done new receipt it.2.answered
+put_grows mode Asks name source old new (Err service.BadName) it = grows_same old new it.1
+put_grows mode Asks name source old new (Err (service.Text f)) it = grows_same old new it.2
+put_grows mode Asks name source old new (Err (service.Piece function f)) it = grows_same old new it.2
+put_grows mode Asks name source old new (Err service.WorkersGone) it = grows_same old new it.2
+put_grows mode Asks name source old new (Err service.ImageTooLarge) it = grows_same old new it.2
+put_grows mode Asks name source old new (Err service.OutOfMemory) it = grows_same old new it.1
+put_grows mode Asks name source old new (Err (service.Book f)) it = turned_down Asks old new f it.2
+put_grows mode Asks name source old new (Err (service.Opening f)) it = absurd it
+put_grows mode Asks name source old new (Err service.TooManyClients) it = absurd it
 
 pub withdraw_grows : (name : List ℕ) (old new : MemberView) (answer : Result Receipt ServiceFault) → WithdrawAnswers name old new answer → Grows old new
 withdraw_grows name old new (Ok receipt) it = grows_answered old (Change it.1.command) reply.Done new receipt it.1.answered
@@ -111,23 +112,23 @@ list_grows old new (Err service.TooManyClients) it = absurd it
 
 -- ---- an audit
 
-audited_grows : (names : List (List ℕ)) (all : Bool) (old new : Talk) → AuditsEach names all old new → Grows old.client new.client
-audited_grows [] true old new it = grows_same old.client new.client (ap (λ (t : Talk). t.client) it)
-audited_grows [] false old new it = absurd it
-audited_grows (name ∷ names) all old new (inl last) = get_grows name old.client new.client last.1.0 last.1.1
-audited_grows (name ∷ names) all old new (inr on) =
-    grows_on old.client on.0.client new.client (get_grows name old.client on.0.client on.1.0 on.1.1) (audited_grows names all on.0 new on.2)
+audited_grows : (mode : Mode) → (names : List (List ℕ)) (all : Bool) (old new : Talk) → AuditsEach mode names all old new → Grows old.client new.client
+audited_grows mode [] true old new it = grows_same old.client new.client (ap (λ (t : Talk). t.client) it)
+audited_grows mode [] false old new it = absurd it
+audited_grows mode (name ∷ names) all old new (inl last) = get_grows name old.client new.client last.1.0 last.1.1
+audited_grows mode (name ∷ names) all old new (inr on) =
+    grows_on old.client on.0.client new.client (get_grows name old.client on.0.client on.1.0 on.1.1) (audited_grows mode names all on.0 new on.2)
 
 ended_grows : (all : Bool) (old new : Talk) → EndsAudit all old new → Grows old.client new.client
 ended_grows true old new it = grows_same old.client new.client it.0
 ended_grows false old new it = grows_same old.client new.client (ap (λ (t : Talk). t.client) it)
 
-audits_grow : (old new : Talk) → Audits old new → Grows old.client new.client
-audits_grow old new (inl refused) = list_grows old.client new.client refused.0 refused.1
-audits_grow old new (inr it) =
+audits_grow : (mode : Mode) → (old new : Talk) → Audits mode old new → Grows old.client new.client
+audits_grow mode old new (inl refused) = list_grows old.client new.client refused.0 refused.1
+audits_grow mode old new (inr it) =
     grows_on old.client it.heard new.client (list_grows old.client it.heard (Ok it.receipt) it.listed)
-    (grows_on it.heard it.last.client new.client (audited_grows it.names it.all (talk it.heard old.written) it.last it.audited) (ended_grows it.all it.last new it.ended))
+    (grows_on it.heard it.last.client new.client (audited_grows mode it.names it.all (talk it.heard old.written) it.last it.audited) (ended_grows it.all it.last new it.ended))
 
-pub audit_grows : {T : Type 0} (answer : Result T ScriptFault) (old new : Talk) → DoesAndTells Audits old new answer → Grows old.client new.client
-audit_grows (Ok done) old new it = audits_grow old new it
-audit_grows (Err fault) old new it = audits_grow old (talk new.client it.1) it.2
+pub audit_grows : (mode : Mode) → {T : Type 0} (answer : Result T ScriptFault) (old new : Talk) → DoesAndTells (Audits mode) old new answer → Grows old.client new.client
+audit_grows mode (Ok done) old new it = audits_grow mode old new it
+audit_grows mode (Err fault) old new it = audits_grow mode old (talk new.client it.1) it.2

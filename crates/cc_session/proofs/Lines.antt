@@ -12,6 +12,7 @@ use Rattle.cc_script.specs.declared.fault.ScriptFault.TheVariants.{BadLine, EndO
 use Rattle.cc_script.specs.declared.script.NextLine.TheVariants.{End, Line, TooLong}
 use Rattle.cc_answers.specs.Telling.{script_fault_text}
 use Rattle.cc_history.specs.History.{MemberView}
+use Rattle.cc_c_laws.specs.declared.mode.Mode.{Mode}
 use Rattle.cc_session.specs.Playing.{BeginsBad, CutsLine, CutsNext, HasUnended, IsBegun, IsBounded, IsCutIn, IsCutShort, IsEnding, IsEndedBy, IsLight, IsPlayed, IsPlayedInPart, IsPlayedTill, IsPlayedUpTo, IsStep, IsStopped, IsStoppedBy, IsTooLong, IsWithin, Obeys, Plays, Talk, Turn, Writes, asked_by_line, talk}
 use Rattle.cc_session.specs.internal.Steps.{EndsBehind, IsLimit, IsNoLine, IsNotDone, IsObeyedNot, MayGoOn}
 use Rattle.cc_session.proofs.Cutting.{cut_obeyed}
@@ -20,12 +21,12 @@ use Rattle.cc_session.proofs.Playing.{asks_short, between_none, between_on, know
 -- ---- lines that are done
 
 -- what has been played so far, by so many lines, from this client on
-pub record Played (dialect : Dialect) (most : Option ℕ) (count : ℕ) (start now : Talk) (b a : List ℕ) : Type 0 where
+pub record Played (mode : Mode) (dialect : Dialect) (most : Option ℕ) (count : ℕ) (start now : Talk) (b a : List ℕ) : Type 0 where
   pub takes : count + length a ≤ length b
   pub few : IsWithin most count
   pub turns : List Turn
   pub many : length turns ≡ count
-  pub plays : Plays dialect (IsLight most start.client) b start turns a now
+  pub plays : Plays mode dialect (IsLight most start.client) b start turns a now
 
 within_none : (most : Option ℕ) → IsWithin most 0
 within_none None = tt
@@ -38,16 +39,16 @@ within_more (Some most) count few more =
     let apart : most ≢ count = λ same. more (ap (λ (n : ℕ). Some n) same) in
     omega (arith, few, apart)
 
-few_of : (dialect : Dialect) (most : Option ℕ) (count : ℕ) (start now : Talk) (b a : List ℕ) (it : Played dialect most count start now b a) → IsWithin most (length it.turns)
-few_of dialect most count start now b a it = subst (λ (n : ℕ). IsWithin most n) (sym it.many) it.few
+few_of : (mode : Mode) → (dialect : Dialect) (most : Option ℕ) (count : ℕ) (start now : Talk) (b a : List ℕ) (it : Played mode dialect most count start now b a) → IsWithin most (length it.turns)
+few_of mode dialect most count start now b a it = subst (λ (n : ℕ). IsWithin most n) (sym it.many) it.few
 
 -- nothing has been played
-pub begins : (dialect : Dialect) (most : Option ℕ) (x : Ahead) (now : Talk) → Between x x (Played dialect most 0 now now)
-begins dialect most x now = between_none x (Played dialect most 0 now now) (λ b. record { takes = omega arith; few = within_none most; turns = []; many = refl; plays = (refl, refl) })
+pub begins : (mode : Mode) → (dialect : Dialect) (most : Option ℕ) (x : Ahead) (now : Talk) → Between x x (Played mode dialect most 0 now now)
+begins mode dialect most x now = between_none x (Played mode dialect most 0 now now) (λ b. record { takes = omega arith; few = within_none most; turns = []; many = refl; plays = (refl, refl) })
 
 -- a step that takes a byte
-abbrev pub Steps : (dialect : Dialect) (old new : Talk) → List ℕ → List ℕ → Type 0
-Steps dialect old new b a = (length a < length b) × IsStep dialect b a old new
+abbrev pub Steps : (mode : Mode) → (dialect : Dialect) (old new : Talk) → List ℕ → List ℕ → Type 0
+Steps mode dialect old new b a = (length a < length b) × IsStep mode dialect b a old new
 
 some_length : (bytes : List ℕ) → bytes ≢ [] → 0 < length bytes
 some_length [] some = absurd (some refl)
@@ -67,10 +68,10 @@ line_takes before line after some is = elim is.ends [
 ]
 
 -- one step more
-pub step_on : (dialect : Dialect) (most : Option ℕ) (x y z : Ahead) (count : ℕ) (start old new : Talk) → MayGoOn most start.client count old.client → Between x y (Played dialect most count start old) → Between y z (Steps dialect old new)
-    → Between x z (Played dialect most (count + 1) start new)
-step_on dialect most x y z count start old new more one two =
-    between_on x y z (Played dialect most count start old) (Steps dialect old new) (Played dialect most (count + 1) start new) one two
+pub step_on : (mode : Mode) → (dialect : Dialect) (most : Option ℕ) (x y z : Ahead) (count : ℕ) (start old new : Talk) → MayGoOn most start.client count old.client → Between x y (Played mode dialect most count start old) → Between y z (Steps mode dialect old new)
+    → Between x z (Played mode dialect most (count + 1) start new)
+step_on mode dialect most x y z count start old new more one two =
+    between_on x y z (Played mode dialect most count start old) (Steps mode dialect old new) (Played mode dialect most (count + 1) start new) one two
     (λ b m a first second it step.
     let turn : Turn = record { rest = a; talk = new } in
     let both = length-append it.turns (turn ∷ []) in
@@ -79,55 +80,55 @@ step_on dialect most x y z count start old new more one two =
       few = within_more most count it.few more.0;
       turns = it.turns ++ turn ∷ [];
       many = omega (arith, both, it.many);
-      plays = plays_on dialect (IsLight most start.client) b start it.turns m old a new it.plays more.1 step.1;
+      plays = plays_on mode dialect (IsLight most start.client) b start it.turns m old a new it.plays more.1 step.1;
     })
 
 short : (n : ℕ) (line : List ℕ) → n ≤ 128 → length (take n line) ≤ 128
 short n line few = let most = length-take n line in omega (arith, most, few)
 
 -- a line is obeyed
-pub line_on : (dialect : Dialect) (most : Option ℕ) (x y m z : Ahead) (count : ℕ) (start old new : Talk) (n : ℕ) (line : List ℕ) → n ≤ 128 → MayGoOn most start.client count old.client → Between x y (Played dialect most count start old)
-    → Between y m (λ b a. IsNext b (Line n) line a) → Between m z (λ b a. Obeys (asked_of dialect (take n line)) b a old new) → Between x z (Played dialect most (count + 1) start new)
-line_on dialect most x y m z count start old new n line few more one next obeyed =
-    step_on dialect most x y z count start old new more one
-    (between_on y m z (λ b a. IsNext b (Line n) line a) (λ b a. Obeys (asked_of dialect (take n line)) b a old new) (Steps dialect old new) next obeyed
+pub line_on : (mode : Mode) → (dialect : Dialect) (most : Option ℕ) (x y m z : Ahead) (count : ℕ) (start old new : Talk) (n : ℕ) (line : List ℕ) → n ≤ 128 → MayGoOn most start.client count old.client → Between x y (Played mode dialect most count start old)
+    → Between y m (λ b a. IsNext b (Line n) line a) → Between m z (λ b a. Obeys mode (asked_of dialect (take n line)) b a old new) → Between x z (Played mode dialect most (count + 1) start new)
+line_on mode dialect most x y m z count start old new n line few more one next obeyed =
+    step_on mode dialect most x y z count start old new more one
+    (between_on y m z (λ b a. IsNext b (Line n) line a) (λ b a. Obeys mode (asked_of dialect (take n line)) b a old new) (Steps mode dialect old new) next obeyed
     (λ b k a first second is does.
     let less = line_takes b (take n line) k is.0 is.1 in
-    (omega (arith, less, second), obeyed_step dialect b k a (take n line) old new (short n line few) is.1 does)))
+    (omega (arith, less, second), obeyed_step mode dialect b k a (take n line) old new (short n line few) is.1 does)))
 
 -- a line that is too long is skipped
-pub skip_on : (dialect : Dialect) (most : Option ℕ) (x y m z : Ahead) (count : ℕ) (start old new : Talk) (line : List ℕ) → MayGoOn most start.client count old.client → Between x y (Played dialect most count start old)
+pub skip_on : (mode : Mode) → (dialect : Dialect) (most : Option ℕ) (x y m z : Ahead) (count : ℕ) (start old new : Talk) (line : List ℕ) → MayGoOn most start.client count old.client → Between x y (Played mode dialect most count start old)
     → Between y m (λ b a. IsNext b TooLong line a) → Between m z (λ b a. (rest : List ℕ) × IsLine b rest a) → Writes (script_fault_text BadLine) old new
-    → Between x z (Played dialect most (count + 1) start new)
-skip_on dialect most x y m z count start old new line more one next skipped wrote =
-    step_on dialect most x y z count start old new more one
-    (between_on y m z (λ b a. IsNext b TooLong line a) (λ b a. (rest : List ℕ) × IsLine b rest a) (Steps dialect old new) next skipped
+    → Between x z (Played mode dialect most (count + 1) start new)
+skip_on mode dialect most x y m z count start old new line more one next skipped wrote =
+    step_on mode dialect most x y z count start old new more one
+    (between_on y m z (λ b a. IsNext b TooLong line a) (λ b a. (rest : List ℕ) × IsLine b rest a) (Steps mode dialect old new) next skipped
     (λ b k a first second is rest.
     let both = length-append is.0 k in
     let whole = ap (λ (l : List ℕ). length l) is.1 in
-    (omega (arith, both, whole, is.2, second), too_long_step dialect b k a line old new is rest wrote)))
+    (omega (arith, both, whole, is.2, second), too_long_step mode dialect b k a line old new is rest wrote)))
 
 -- ---- scripts that end
 
 -- the whole script
-pub script_ends : (dialect : Dialect) (most : Option ℕ) (x y z : Ahead) (count : ℕ) (start now : Talk) (line : List ℕ) → Between x y (Played dialect most count start now)
-    → Between y z (λ b a. IsNext b End line a) → IfSome x.rest (λ b. IsPlayed dialect most b start now)
-script_ends dialect most x y z count start now line one next =
-    known_then x y (Played dialect most count start now) (λ b. b ≡ []) (λ b. IsPlayed dialect most b start now) one (known_by y z (λ b a. IsNext b End line a) (λ b. b ≡ []) next (λ b a none. none))
-    (λ b m it none. played dialect most b start it.turns m now (few_of dialect most count start now b m it) it.plays none)
+pub script_ends : (mode : Mode) → (dialect : Dialect) (most : Option ℕ) (x y z : Ahead) (count : ℕ) (start now : Talk) (line : List ℕ) → Between x y (Played mode dialect most count start now)
+    → Between y z (λ b a. IsNext b End line a) → IfSome x.rest (λ b. IsPlayed mode dialect most b start now)
+script_ends mode dialect most x y z count start now line one next =
+    known_then x y (Played mode dialect most count start now) (λ b. b ≡ []) (λ b. IsPlayed mode dialect most b start now) one (known_by y z (λ b a. IsNext b End line a) (λ b. b ≡ []) next (λ b a none. none))
+    (λ b m it none. played mode dialect most b start it.turns m now (few_of mode dialect most count start now b m it) it.plays none)
 
 -- why it stopped after the lines so far: of what is left, whether a line of it was begun, and `Stops`
 abbrev pub Halts : (dialect : Dialect) (most : Option ℕ) (count : ℕ) (now last : Talk) (Stops : List ℕ → ℕ → List ℕ → MemberView → Type 0) (rest : List ℕ) → Type 0
 Halts dialect most count now last Stops rest = IsBegun (BeginsBad dialect rest) now last × ((script : List ℕ) → IsWithin most count → Stops script count rest now.client)
 
 -- it stopped after the lines so far
-up_to : (dialect : Dialect) (most : Option ℕ) (x y : Ahead) (count : ℕ) (start now last : Talk) (Stops : List ℕ → ℕ → List ℕ → MemberView → Type 0) → Between x y (Played dialect most count start now)
-    → IfSome y.rest (Halts dialect most count now last Stops) → IfSome x.rest (λ b. IsPlayedUpTo dialect most b (Stops b) start last)
-up_to dialect most x y count start now last Stops one stops =
-    known_then x y (Played dialect most count start now) (Halts dialect most count now last Stops) (λ b. IsPlayedUpTo dialect most b (Stops b) start last) one stops
+up_to : (mode : Mode) → (dialect : Dialect) (most : Option ℕ) (x y : Ahead) (count : ℕ) (start now last : Talk) (Stops : List ℕ → ℕ → List ℕ → MemberView → Type 0) → Between x y (Played mode dialect most count start now)
+    → IfSome y.rest (Halts dialect most count now last Stops) → IfSome x.rest (λ b. IsPlayedUpTo mode dialect most b (Stops b) start last)
+up_to mode dialect most x y count start now last Stops one stops =
+    known_then x y (Played mode dialect most count start now) (Halts dialect most count now last Stops) (λ b. IsPlayedUpTo mode dialect most b (Stops b) start last) one stops
     (λ b m it why. record {
       turns = it.turns;
-      few = few_of dialect most count start now b m it;
+      few = few_of mode dialect most count start now b m it;
       rest = m;
       between = now;
       plays = it.plays;
@@ -135,10 +136,10 @@ up_to dialect most x y count start now last Stops one stops =
       stops = subst (λ (n : ℕ). Stops b n m now.client) (sym it.many) (why.1 b it.few);
     })
 
-anywhere : (dialect : Dialect) (most : Option ℕ) (x y : Ahead) (count : ℕ) (start now last : Talk) → Between x y (Played dialect most count start now)
-    → IfSome y.rest (λ rest. IsBegun (BeginsBad dialect rest) now last) → IfSome x.rest (λ b. IsPlayedUpTo dialect most b (λ lines rest client. Unit {0}) start last)
-anywhere dialect most x y count start now last one begun =
-    up_to dialect most x y count start now last (λ script lines rest client. Unit {0}) one
+anywhere : (mode : Mode) → (dialect : Dialect) (most : Option ℕ) (x y : Ahead) (count : ℕ) (start now last : Talk) → Between x y (Played mode dialect most count start now)
+    → IfSome y.rest (λ rest. IsBegun (BeginsBad dialect rest) now last) → IfSome x.rest (λ b. IsPlayedUpTo mode dialect most b (λ lines rest client. Unit {0}) start last)
+anywhere mode dialect most x y count start now last one begun =
+    up_to mode dialect most x y count start now last (λ script lines rest client. Unit {0}) one
     (known_map y.rest (λ rest. IsBegun (BeginsBad dialect rest) now last) (Halts dialect most count now last (λ script lines rest client. Unit {0})) begun (λ rest it. (it, λ script few. tt)))
 
 -- nothing of the next line was done
@@ -150,13 +151,13 @@ by_bytes : (most : Option ℕ) (script : List ℕ) (first : MemberView) (lines :
 by_bytes None script first lines rest now long = long
 by_bytes (Some most) script first lines rest now long = inl long
 
-too_long_there : (dialect : Dialect) (most : Option ℕ) (x y : Ahead) (count : ℕ) (start now last : Talk) → x.left ≡ 16777216 → Between x y (Played dialect most count start now) → HasMore y
-    → IfSome y.rest (λ rest. IsBegun (BeginsBad dialect rest) now last) → IfSome x.rest (λ b. IsPlayedUpTo dialect most b (IsTooLong most b start.client) start last)
-too_long_there dialect most x y count start now last whole one more begun =
-    let long = too_long x whole (more_before x y (Played dialect most count start now) one more) in
-    let there = anywhere dialect most x y count start now last one begun in
-    known_map x.rest (λ b. (16777216 < length b) × IsPlayedUpTo dialect most b (λ lines rest client. Unit {0}) start last) (λ b. IsPlayedUpTo dialect most b (IsTooLong most b start.client) start last)
-    (known_both x.rest (λ b. 16777216 < length b) (λ b. IsPlayedUpTo dialect most b (λ lines rest client. Unit {0}) start last) long there)
+too_long_there : (mode : Mode) → (dialect : Dialect) (most : Option ℕ) (x y : Ahead) (count : ℕ) (start now last : Talk) → x.left ≡ 16777216 → Between x y (Played mode dialect most count start now) → HasMore y
+    → IfSome y.rest (λ rest. IsBegun (BeginsBad dialect rest) now last) → IfSome x.rest (λ b. IsPlayedUpTo mode dialect most b (IsTooLong most b start.client) start last)
+too_long_there mode dialect most x y count start now last whole one more begun =
+    let long = too_long x whole (more_before x y (Played mode dialect most count start now) one more) in
+    let there = anywhere mode dialect most x y count start now last one begun in
+    known_map x.rest (λ b. (16777216 < length b) × IsPlayedUpTo mode dialect most b (λ lines rest client. Unit {0}) start last) (λ b. IsPlayedUpTo mode dialect most b (IsTooLong most b start.client) start last)
+    (known_both x.rest (λ b. 16777216 < length b) (λ b. IsPlayedUpTo mode dialect most b (λ lines rest client. Unit {0}) start last) long there)
     (λ b it. record {
       turns = it.1.turns;
       few = it.1.few;
@@ -173,37 +174,37 @@ at_bound : (most : Option ℕ) (script : List ℕ) (first : MemberView) (lines :
 at_bound most script first lines rest now bound some = subst (λ (o : Option ℕ). IsTooLong o script first lines rest now) (sym bound.1) (inr (some, bound.2))
 
 -- a fault ended it
-abbrev pub IsHaltedBy : Dialect → (most : Option ℕ) → (script : Option (List ℕ)) (first last : Talk) → ScriptFault → Type 0
-IsHaltedBy dialect most script first last fault = IsEnding most fault × IfSome script (λ b. IsStoppedBy dialect most fault b first last)
+abbrev pub IsHaltedBy : (mode : Mode) → Dialect → (most : Option ℕ) → (script : Option (List ℕ)) (first last : Talk) → ScriptFault → Type 0
+IsHaltedBy mode dialect most script first last fault = IsEnding most fault × IfSome script (λ b. IsStoppedBy mode dialect most fault b first last)
 
 -- the next line could not be read, or not to its end
-unread_ends : (dialect : Dialect) (most : Option ℕ) (x y : Ahead) (count : ℕ) (start now last : Talk) (left : ℕ) (fault : ScriptFault) → x.left ≡ 16777216 → Between x y (Played dialect most count start now)
-    → IfSome y.rest (λ rest. IsBegun (BeginsBad dialect rest) now last) → IsNotRead y left fault → IsHaltedBy dialect most x.rest start last fault
-unread_ends dialect most x y count start now last left BadLine whole one begun why = absurd why
-unread_ends dialect most x y count start now last left EndOfScript whole one begun why = absurd why
-unread_ends dialect most x y count start now last left ScriptTooLong whole one begun why = (tt, too_long_there dialect most x y count start now last whole one why.1 begun)
-unread_ends dialect most x y count start now last left ReadFault whole one begun why = (tt, anywhere dialect most x y count start now last one begun)
-unread_ends dialect most x y count start now last left WriteFault whole one begun why = absurd why
-unread_ends dialect most x y count start now last left Stopped whole one begun why = absurd why
+unread_ends : (mode : Mode) → (dialect : Dialect) (most : Option ℕ) (x y : Ahead) (count : ℕ) (start now last : Talk) (left : ℕ) (fault : ScriptFault) → x.left ≡ 16777216 → Between x y (Played mode dialect most count start now)
+    → IfSome y.rest (λ rest. IsBegun (BeginsBad dialect rest) now last) → IsNotRead y left fault → IsHaltedBy mode dialect most x.rest start last fault
+unread_ends mode dialect most x y count start now last left BadLine whole one begun why = absurd why
+unread_ends mode dialect most x y count start now last left EndOfScript whole one begun why = absurd why
+unread_ends mode dialect most x y count start now last left ScriptTooLong whole one begun why = (tt, too_long_there mode dialect most x y count start now last whole one why.1 begun)
+unread_ends mode dialect most x y count start now last left ReadFault whole one begun why = (tt, anywhere mode dialect most x y count start now last one begun)
+unread_ends mode dialect most x y count start now last left WriteFault whole one begun why = absurd why
+unread_ends mode dialect most x y count start now last left Stopped whole one begun why = absurd why
 
 -- more of it is left, which is to be ended so
-limit_ends : (dialect : Dialect) (most : Option ℕ) (x y : Ahead) (count : ℕ) (start now : Talk) (fault : ScriptFault) → Between x y (Played dialect most count start now)
-    → EndsBehind most start.client count now.client fault → IfSome y.rest (λ b. b ≢ []) → IsHaltedBy dialect most x.rest start now fault
-limit_ends dialect most x y count start now BadLine one bound some = absurd bound
-limit_ends dialect most x y count start now EndOfScript one bound some = absurd bound
-limit_ends dialect most x y count start now ScriptTooLong one bound some = (
+limit_ends : (mode : Mode) → (dialect : Dialect) (most : Option ℕ) (x y : Ahead) (count : ℕ) (start now : Talk) (fault : ScriptFault) → Between x y (Played mode dialect most count start now)
+    → EndsBehind most start.client count now.client fault → IfSome y.rest (λ b. b ≢ []) → IsHaltedBy mode dialect most x.rest start now fault
+limit_ends mode dialect most x y count start now BadLine one bound some = absurd bound
+limit_ends mode dialect most x y count start now EndOfScript one bound some = absurd bound
+limit_ends mode dialect most x y count start now ScriptTooLong one bound some = (
   tt,
-  up_to dialect most x y count start now now (λ b. IsTooLong most b start.client) one
+  up_to mode dialect most x y count start now now (λ b. IsTooLong most b start.client) one
       (known_map y.rest (λ b. b ≢ []) (Halts dialect most count now now (λ b. IsTooLong most b start.client)) some
       (λ b left. (inl refl, λ script few. at_bound most script start.client count b now.client bound left))),
 )
-limit_ends dialect most x y count start now ReadFault one bound some = absurd bound
-limit_ends dialect most x y count start now WriteFault one bound some = absurd bound
-limit_ends dialect most x y count start now Stopped one bound some = (
+limit_ends mode dialect most x y count start now ReadFault one bound some = absurd bound
+limit_ends mode dialect most x y count start now WriteFault one bound some = absurd bound
+limit_ends mode dialect most x y count start now Stopped one bound some = (
   bound,
-  known_then x y (Played dialect most count start now) (λ b. b ≢ []) (λ b. IsPlayedTill dialect most b start now) one some (λ b m it left. record {
+  known_then x y (Played mode dialect most count start now) (λ b. b ≢ []) (λ b. IsPlayedTill mode dialect most b start now) one some (λ b m it left. record {
     turns = it.turns;
-    few = few_of dialect most count start now b m it;
+    few = few_of mode dialect most count start now b m it;
     rest = m;
     between = now;
     plays = it.plays;
@@ -213,29 +214,29 @@ limit_ends dialect most x y count start now Stopped one bound some = (
 )
 
 -- none came, for that reason, or since it can't be read
-pub no_line_ends : (dialect : Dialect) (most : Option ℕ) (x y : Ahead) (count : ℕ) (start now : Talk) (left : ℕ) (limit : Option ScriptFault) (fault : ScriptFault) → x.left ≡ 16777216
-    → Between x y (Played dialect most count start now) → IsLimit most start.client count now.client limit → IsNoLine limit y left fault → IsHaltedBy dialect most x.rest start now fault
-no_line_ends dialect most x y count start now left limit fault whole one bound (inl why) =
-    unread_ends dialect most x y count start now now left fault whole one (unbegun dialect y.rest now) why
-no_line_ends dialect most x y count start now left limit fault whole one bound (inr (is, some)) =
-    limit_ends dialect most x y count start now fault one (subst (λ (o : Option ScriptFault). IsLimit most start.client count now.client o) is bound) some
+pub no_line_ends : (mode : Mode) → (dialect : Dialect) (most : Option ℕ) (x y : Ahead) (count : ℕ) (start now : Talk) (left : ℕ) (limit : Option ScriptFault) (fault : ScriptFault) → x.left ≡ 16777216
+    → Between x y (Played mode dialect most count start now) → IsLimit most start.client count now.client limit → IsNoLine limit y left fault → IsHaltedBy mode dialect most x.rest start now fault
+no_line_ends mode dialect most x y count start now left limit fault whole one bound (inl why) =
+    unread_ends mode dialect most x y count start now now left fault whole one (unbegun dialect y.rest now) why
+no_line_ends mode dialect most x y count start now left limit fault whole one bound (inr (is, some)) =
+    limit_ends mode dialect most x y count start now fault one (subst (λ (o : Option ScriptFault). IsLimit most start.client count now.client o) is bound) some
 
 -- one came, so it may be done
 pub line_follows : (most : Option ℕ) (first : MemberView) (lines : ℕ) (now : MemberView) (limit : Option ScriptFault) → IsLimit most first lines now limit → limit ≡ None → MayGoOn most first lines now
 line_follows most first lines now limit bound none = subst (λ (o : Option ScriptFault). IsLimit most first lines now o) none bound
 
 -- a line that is too long was refused, which could not be written; or it could not be skipped
-pub skip_ends : (dialect : Dialect) (most : Option ℕ) (x y m : Ahead) (count : ℕ) (start old new : Talk) (line : List ℕ) (left : ℕ) (fault : ScriptFault) → x.left ≡ 16777216 → new.client ≡ old.client
-    → Between x y (Played dialect most count start old) → Between y m (λ b a. IsNext b TooLong line a)
-    → (fault ≡ WriteFault) ⊎ (Appends old.written new.written (script_fault_text BadLine) × IsNotRead m left fault) → IsHaltedBy dialect most x.rest start new fault
-skip_ends dialect most x y m count start old new line left fault whole same one next (inl unwritten) =
-    subst (λ (f : ScriptFault). IsHaltedBy dialect most x.rest start new f) (sym unwritten) (
+pub skip_ends : (mode : Mode) → (dialect : Dialect) (most : Option ℕ) (x y m : Ahead) (count : ℕ) (start old new : Talk) (line : List ℕ) (left : ℕ) (fault : ScriptFault) → x.left ≡ 16777216 → new.client ≡ old.client
+    → Between x y (Played mode dialect most count start old) → Between y m (λ b a. IsNext b TooLong line a)
+    → (fault ≡ WriteFault) ⊎ (Appends old.written new.written (script_fault_text BadLine) × IsNotRead m left fault) → IsHaltedBy mode dialect most x.rest start new fault
+skip_ends mode dialect most x y m count start old new line left fault whole same one next (inl unwritten) =
+    subst (λ (f : ScriptFault). IsHaltedBy mode dialect most x.rest start new f) (sym unwritten) (
       tt,
-      known_by x y (Played dialect most count start old) (λ b. IsPlayedInPart dialect most b start new) one
-          (λ b a it. played_up_to dialect most b start it.turns a old new (few_of dialect most count start old b a it) it.plays (inl same)),
+      known_by x y (Played mode dialect most count start old) (λ b. IsPlayedInPart mode dialect most b start new) one
+          (λ b a it. played_up_to mode dialect most b start it.turns a old new (few_of mode dialect most count start old b a it) it.plays (inl same)),
     )
-skip_ends dialect most x y m count start old new line left fault whole same one next (inr why) =
-    unread_ends dialect most x y count start old new left fault whole one
+skip_ends mode dialect most x y m count start old new line left fault whole same one next (inr why) =
+    unread_ends mode dialect most x y count start old new left fault whole one
     (known_by y m (λ b a. IsNext b TooLong line a) (λ b. IsBegun (BeginsBad dialect b) old new) next (λ b a is. inr (inl (is.0, a, is.1, is.2, is.3), (same, why.0))))
     (unread_before y m (λ b a. IsNext b TooLong line a) left fault next why.1)
 
@@ -256,13 +257,13 @@ bad_line dialect y m old new n line few next (inr (bad, wrote)) =
     ))
 
 -- a line that was not obeyed, or whose answer could not be written
-line_ends : (dialect : Dialect) (most : Option ℕ) (x y m : Ahead) (count : ℕ) (start old new : Talk) (n : ℕ) (line : List ℕ) (fault : ScriptFault) → n ≤ 128 → MayGoOn most start.client count old.client → x.left ≡ 16777216
-    → Between x y (Played dialect most count start old) → Between y m (λ b a. IsNext b (Line n) line a)
-    → IsNotDone (λ b a o w. Obeys (asked_of dialect (take n line)) b a o w) (λ rest. IsCutShort (asked_of dialect (take n line)) rest) (λ rest. HasUnended (asked_of dialect (take n line)) rest) m old new fault
-    → IsHaltedBy dialect most x.rest start new fault
-line_ends dialect most x y m count start old new n line BadLine few more whole one next ended = absurd ended
-line_ends dialect most x y m count start old new n line Stopped few more whole one next ended = absurd ended
-line_ends dialect most x y m count start old new n line EndOfScript few more whole one next ended =
+line_ends : (mode : Mode) → (dialect : Dialect) (most : Option ℕ) (x y m : Ahead) (count : ℕ) (start old new : Talk) (n : ℕ) (line : List ℕ) (fault : ScriptFault) → n ≤ 128 → MayGoOn most start.client count old.client → x.left ≡ 16777216
+    → Between x y (Played mode dialect most count start old) → Between y m (λ b a. IsNext b (Line n) line a)
+    → IsNotDone (λ b a o w. Obeys mode (asked_of dialect (take n line)) b a o w) (λ rest. IsCutShort (asked_of dialect (take n line)) rest) (λ rest. HasUnended (asked_of dialect (take n line)) rest) m old new fault
+    → IsHaltedBy mode dialect most x.rest start new fault
+line_ends mode dialect most x y m count start old new n line BadLine few more whole one next ended = absurd ended
+line_ends mode dialect most x y m count start old new n line Stopped few more whole one next ended = absurd ended
+line_ends mode dialect most x y m count start old new n line EndOfScript few more whole one next ended =
     let stops = known_then y m (λ b a. IsNext b (Line n) line a) (λ rest. IsCutShort (asked_of dialect (take n line)) rest)
     (Halts dialect most count old old (λ script. IsCutIn dialect most start.client))
     next ended.1 (λ b k is cut. (
@@ -279,36 +280,36 @@ line_ends dialect most x y m count start old new n line EndOfScript few more who
       ),
     )) in (
       tt,
-      subst (λ (h : Talk). IfSome x.rest (λ b. IsPlayedUpTo dialect most b (IsCutIn dialect most start.client) start h)) (sym ended.0)
-          (up_to dialect most x y count start old old (λ script. IsCutIn dialect most start.client) one stops),
+      subst (λ (h : Talk). IfSome x.rest (λ b. IsPlayedUpTo mode dialect most b (IsCutIn dialect most start.client) start h)) (sym ended.0)
+          (up_to mode dialect most x y count start old old (λ script. IsCutIn dialect most start.client) one stops),
     )
-line_ends dialect most x y m count start old new n line ScriptTooLong few more whole one next ended = (
+line_ends mode dialect most x y m count start old new n line ScriptTooLong few more whole one next ended = (
   tt,
-  too_long_there dialect most x y count start old new whole one (more_before y m (λ b a. IsNext b (Line n) line a) next ended.1) (bad_line dialect y m old new n line few next ended.0),
+  too_long_there mode dialect most x y count start old new whole one (more_before y m (λ b a. IsNext b (Line n) line a) next ended.1) (bad_line dialect y m old new n line few next ended.0),
 )
-line_ends dialect most x y m count start old new n line ReadFault few more whole one next ended =
-    (tt, anywhere dialect most x y count start old new one (bad_line dialect y m old new n line few next ended))
-line_ends dialect most x y m count start old new n line WriteFault few more whole one next ended =
+line_ends mode dialect most x y m count start old new n line ReadFault few more whole one next ended =
+    (tt, anywhere mode dialect most x y count start old new one (bad_line dialect y m old new n line few next ended))
+line_ends mode dialect most x y m count start old new n line WriteFault few more whole one next ended =
     let last = known_then y m (λ b a. IsNext b (Line n) line a)
-    (λ b. (new.client ≡ old.client) ⊎ ((a : List ℕ) × (w : Option (List ℕ)) × Obeys (asked_of dialect (take n line)) b a old (talk new.client w)))
-    (λ b. (new.client ≡ old.client) ⊎ ((a : List ℕ) × (w : Option (List ℕ)) × IsStep dialect b a old (talk new.client w))) next ended (λ b k is how. elim how [
+    (λ b. (new.client ≡ old.client) ⊎ ((a : List ℕ) × (w : Option (List ℕ)) × Obeys mode (asked_of dialect (take n line)) b a old (talk new.client w)))
+    (λ b. (new.client ≡ old.client) ⊎ ((a : List ℕ) × (w : Option (List ℕ)) × IsStep mode dialect b a old (talk new.client w))) next ended (λ b k is how. elim how [
       | inl same ↦ inl same
-      | inr it ↦ inr (it.0, it.1, obeyed_step dialect b k it.0 (take n line) old (talk new.client it.1) (short n line few) is.1 it.2)
+      | inr it ↦ inr (it.0, it.1, obeyed_step mode dialect b k it.0 (take n line) old (talk new.client it.1) (short n line few) is.1 it.2)
     ]) in (
       tt,
-      known_then x y (Played dialect most count start old) (λ b. (new.client ≡ old.client) ⊎ ((a : List ℕ) × (w : Option (List ℕ)) × IsStep dialect b a old (talk new.client w)))
-          (λ b. IsPlayedInPart dialect most b start new) one last
-          (λ b k it how. played_up_to dialect most b start it.turns k old new (few_of dialect most count start old b k it) it.plays (elim how [
+      known_then x y (Played mode dialect most count start old) (λ b. (new.client ≡ old.client) ⊎ ((a : List ℕ) × (w : Option (List ℕ)) × IsStep mode dialect b a old (talk new.client w)))
+          (λ b. IsPlayedInPart mode dialect most b start new) one last
+          (λ b k it how. played_up_to mode dialect most b start it.turns k old new (few_of mode dialect most count start old b k it) it.plays (elim how [
             | inl same ↦ inl same
             | inr step ↦ inr (subst (λ (l : ℕ). IsWithin most (l + 1)) (sym it.many) (within_more most count it.few more.0), more.1, step.0, step.1, step.2)
           ])),
     )
 
 -- a `run` was cut
-cut_ends : (dialect : Dialect) (most : Option ℕ) (x y m : Ahead) (count : ℕ) (start old new : Talk) (n : ℕ) (line : List ℕ) → n ≤ 128 → MayGoOn most start.client count old.client
-    → Between x y (Played dialect most count start old) → Between y m (λ b a. IsNext b (Line n) line a) → IsBounded most → CutsLine (asked_of dialect (take n line)) old new
-    → IsHaltedBy dialect most x.rest start new Stopped
-cut_ends dialect most x y m count start old new n line few more one next bounded cut =
+cut_ends : (mode : Mode) → (dialect : Dialect) (most : Option ℕ) (x y m : Ahead) (count : ℕ) (start old new : Talk) (n : ℕ) (line : List ℕ) → n ≤ 128 → MayGoOn most start.client count old.client
+    → Between x y (Played mode dialect most count start old) → Between y m (λ b a. IsNext b (Line n) line a) → IsBounded most → CutsLine (asked_of dialect (take n line)) old new
+    → IsHaltedBy mode dialect most x.rest start new Stopped
+cut_ends mode dialect most x y m count start old new n line few more one next bounded cut =
     let there = known_by y m (λ b a. IsNext b (Line n) line a) (λ b. (b ≢ []) × CutsNext dialect b old new) next (λ b k is. (
       is.0,
       record {
@@ -319,9 +320,9 @@ cut_ends dialect most x y m count start old new n line few more one next bounded
       },
     )) in (
       bounded,
-      known_then x y (Played dialect most count start old) (λ b. (b ≢ []) × CutsNext dialect b old new) (λ b. IsPlayedTill dialect most b start new) one there (λ b k it cuts. record {
+      known_then x y (Played mode dialect most count start old) (λ b. (b ≢ []) × CutsNext dialect b old new) (λ b. IsPlayedTill mode dialect most b start new) one there (λ b k it cuts. record {
         turns = it.turns;
-        few = few_of dialect most count start old b k it;
+        few = few_of mode dialect most count start old b k it;
         rest = k;
         between = old;
         plays = it.plays;
@@ -331,25 +332,25 @@ cut_ends dialect most x y m count start old new n line few more one next bounded
     )
 
 -- a line was not obeyed
-pub obey_ends : (dialect : Dialect) (most : Option ℕ) (x y m : Ahead) (count : ℕ) (start old new : Talk) (n : ℕ) (line : List ℕ) (fault : ScriptFault) → n ≤ 128 → MayGoOn most start.client count old.client → x.left ≡ 16777216
-    → Between x y (Played dialect most count start old) → Between y m (λ b a. IsNext b (Line n) line a) → IsObeyedNot most (asked_of dialect (take n line)) m old new fault
-    → IsHaltedBy dialect most x.rest start new fault
-obey_ends dialect most x y m count start old new n line BadLine few more whole one next ended = line_ends dialect most x y m count start old new n line BadLine few more whole one next ended
-obey_ends dialect most x y m count start old new n line EndOfScript few more whole one next ended = line_ends dialect most x y m count start old new n line EndOfScript few more whole one next ended
-obey_ends dialect most x y m count start old new n line ScriptTooLong few more whole one next ended = line_ends dialect most x y m count start old new n line ScriptTooLong few more whole one next ended
-obey_ends dialect most x y m count start old new n line ReadFault few more whole one next ended = line_ends dialect most x y m count start old new n line ReadFault few more whole one next ended
-obey_ends dialect most x y m count start old new n line WriteFault few more whole one next ended = line_ends dialect most x y m count start old new n line WriteFault few more whole one next ended
-obey_ends dialect most x y m count start old new n line Stopped few more whole one next ended = cut_ends dialect most x y m count start old new n line few more one next ended.0 ended.1
+pub obey_ends : (mode : Mode) → (dialect : Dialect) (most : Option ℕ) (x y m : Ahead) (count : ℕ) (start old new : Talk) (n : ℕ) (line : List ℕ) (fault : ScriptFault) → n ≤ 128 → MayGoOn most start.client count old.client → x.left ≡ 16777216
+    → Between x y (Played mode dialect most count start old) → Between y m (λ b a. IsNext b (Line n) line a) → IsObeyedNot mode most (asked_of dialect (take n line)) m old new fault
+    → IsHaltedBy mode dialect most x.rest start new fault
+obey_ends mode dialect most x y m count start old new n line BadLine few more whole one next ended = line_ends mode dialect most x y m count start old new n line BadLine few more whole one next ended
+obey_ends mode dialect most x y m count start old new n line EndOfScript few more whole one next ended = line_ends mode dialect most x y m count start old new n line EndOfScript few more whole one next ended
+obey_ends mode dialect most x y m count start old new n line ScriptTooLong few more whole one next ended = line_ends mode dialect most x y m count start old new n line ScriptTooLong few more whole one next ended
+obey_ends mode dialect most x y m count start old new n line ReadFault few more whole one next ended = line_ends mode dialect most x y m count start old new n line ReadFault few more whole one next ended
+obey_ends mode dialect most x y m count start old new n line WriteFault few more whole one next ended = line_ends mode dialect most x y m count start old new n line WriteFault few more whole one next ended
+obey_ends mode dialect most x y m count start old new n line Stopped few more whole one next ended = cut_ends mode dialect most x y m count start old new n line few more one next ended.0 ended.1
 
 -- more lines than a script may have bytes
-pub lines_end : (dialect : Dialect) (most : Option ℕ) (x y : Ahead) (count : ℕ) (start now : Talk) → 16777216 < count → Between x y (Played dialect most count start now)
-    → IsHaltedBy dialect most x.rest start now ScriptTooLong
-lines_end dialect most x y count start now many one = (
+pub lines_end : (mode : Mode) → (dialect : Dialect) (most : Option ℕ) (x y : Ahead) (count : ℕ) (start now : Talk) → 16777216 < count → Between x y (Played mode dialect most count start now)
+    → IsHaltedBy mode dialect most x.rest start now ScriptTooLong
+lines_end mode dialect most x y count start now many one = (
   tt,
-  known_by x y (Played dialect most count start now) (λ b. IsPlayedUpTo dialect most b (IsTooLong most b start.client) start now) one
+  known_by x y (Played mode dialect most count start now) (λ b. IsPlayedUpTo mode dialect most b (IsTooLong most b start.client) start now) one
       (λ b a it. record {
         turns = it.turns;
-        few = few_of dialect most count start now b a it;
+        few = few_of mode dialect most count start now b a it;
         rest = a;
         between = now;
         plays = it.plays;
@@ -364,46 +365,46 @@ client_of : (Bad : Type 0) (old new : Talk) → IsBegun Bad old new → new.clie
 client_of Bad old new (inl same) = ap (λ (t : Talk). t.client) same
 client_of Bad old new (inr (bad, wrote)) = wrote.0
 
-part_of : (dialect : Dialect) (most : Option ℕ) (script : List ℕ) (Stops : ℕ → List ℕ → MemberView → Type 0) (old between new : Talk) → new.client ≡ between.client
-    → IsPlayedUpTo dialect most script Stops old between → IsPlayedInPart dialect most script old new
-part_of dialect most script Stops old between new same it =
-    played_up_to dialect most script old it.turns it.rest it.between new it.few it.plays (inl (same ∙ client_of (BeginsBad dialect it.rest) it.between between it.begun))
+part_of : (mode : Mode) → (dialect : Dialect) (most : Option ℕ) (script : List ℕ) (Stops : ℕ → List ℕ → MemberView → Type 0) (old between new : Talk) → new.client ≡ between.client
+    → IsPlayedUpTo mode dialect most script Stops old between → IsPlayedInPart mode dialect most script old new
+part_of mode dialect most script Stops old between new same it =
+    played_up_to mode dialect most script old it.turns it.rest it.between new it.few it.plays (inl (same ∙ client_of (BeginsBad dialect it.rest) it.between between it.begun))
 
 -- what is known of a client is known of one that is the same
-in_part_of : (dialect : Dialect) (most : Option ℕ) (script : List ℕ) (old between new : Talk) → new.client ≡ between.client → IsPlayedInPart dialect most script old between → IsPlayedInPart dialect most script old new
-in_part_of dialect most script old between new same it =
-    played_up_to dialect most script old it.turns it.rest it.between new it.few it.plays (elim it.then_is [
+in_part_of : (mode : Mode) → (dialect : Dialect) (most : Option ℕ) (script : List ℕ) (old between new : Talk) → new.client ≡ between.client → IsPlayedInPart mode dialect most script old between → IsPlayedInPart mode dialect most script old new
+in_part_of mode dialect most script old between new same it =
+    played_up_to mode dialect most script old it.turns it.rest it.between new it.few it.plays (elim it.then_is [
       | inl as_it_was ↦ inl (same ∙ as_it_was)
-      | inr (few, light, after, written, step) ↦ inr (few, light, after, written, subst (λ (c : MemberView). IsStep dialect it.rest after it.between (talk c written)) (sym same) step)
+      | inr (few, light, after, written, step) ↦ inr (few, light, after, written, subst (λ (c : MemberView). IsStep mode dialect it.rest after it.between (talk c written)) (sym same) step)
     ])
 
-in_part : (dialect : Dialect) (most : Option ℕ) (fault : ScriptFault) (script : List ℕ) (old between new : Talk) → new.client ≡ between.client → IsStoppedBy dialect most fault script old between
-    → IsPlayedInPart dialect most script old new
-in_part dialect most BadLine script old between new same it = absurd it
-in_part dialect most EndOfScript script old between new same it = part_of dialect most script (IsCutIn dialect most old.client) old between new same it
-in_part dialect most ScriptTooLong script old between new same it = part_of dialect most script (IsTooLong most script old.client) old between new same it
-in_part dialect most ReadFault script old between new same it = part_of dialect most script (λ lines rest client. Unit {0}) old between new same it
-in_part dialect most WriteFault script old between new same it = in_part_of dialect most script old between new same it
-in_part dialect most Stopped script old between new same it =
-    played_up_to dialect most script old it.turns it.rest it.between new it.few it.plays (elim it.then_is [
+in_part : (mode : Mode) → (dialect : Dialect) (most : Option ℕ) (fault : ScriptFault) (script : List ℕ) (old between new : Talk) → new.client ≡ between.client → IsStoppedBy mode dialect most fault script old between
+    → IsPlayedInPart mode dialect most script old new
+in_part mode dialect most BadLine script old between new same it = absurd it
+in_part mode dialect most EndOfScript script old between new same it = part_of mode dialect most script (IsCutIn dialect most old.client) old between new same it
+in_part mode dialect most ScriptTooLong script old between new same it = part_of mode dialect most script (IsTooLong most script old.client) old between new same it
+in_part mode dialect most ReadFault script old between new same it = part_of mode dialect most script (λ lines rest client. Unit {0}) old between new same it
+in_part mode dialect most WriteFault script old between new same it = in_part_of mode dialect most script old between new same it
+in_part mode dialect most Stopped script old between new same it =
+    played_up_to mode dialect most script old it.turns it.rest it.between new it.few it.plays (elim it.then_is [
       | inl as_it_was ↦ inl (same ∙ ap (λ (t : Talk). t.client) as_it_was)
       | inr (few, light, cuts) ↦
-          let step = cut_obeyed (asked_by_line dialect cuts.line) cuts.rest it.between between new same cuts.cut in
+          let step = cut_obeyed mode (asked_by_line dialect cuts.line) cuts.rest it.between between new same cuts.cut in
           inr (few, light, cuts.rest, step.0, record { line = cuts.line; rest = cuts.rest; is_line = cuts.is_line; obeyed = step.1 })
     ])
 
 -- the script was done as far as the fault says, and then the fault's line was written
-pub line_written : (dialect : Dialect) (most : Option ℕ) (script : Option (List ℕ)) (old between new : Talk) (fault : ScriptFault) → IsEnding most fault × IfSome script (λ b. IsStoppedBy dialect most fault b old between)
-    → Writes (script_fault_text fault) between new → IsStopped dialect most script old new fault
-line_written dialect most script old between new fault it wrote =
-    (it.0, known_map script (λ b. IsStoppedBy dialect most fault b old between) (λ b. IsEndedBy dialect most fault b old new) it.1 (λ b by. (between, by, wrote)))
+pub line_written : (mode : Mode) → (dialect : Dialect) (most : Option ℕ) (script : Option (List ℕ)) (old between new : Talk) (fault : ScriptFault) → IsEnding most fault × IfSome script (λ b. IsStoppedBy mode dialect most fault b old between)
+    → Writes (script_fault_text fault) between new → IsStopped mode dialect most script old new fault
+line_written mode dialect most script old between new fault it wrote =
+    (it.0, known_map script (λ b. IsStoppedBy mode dialect most fault b old between) (λ b. IsEndedBy mode dialect most fault b old new) it.1 (λ b by. (between, by, wrote)))
 
 -- if the line could not be written the fault is 54
-pub line_unwritten : (dialect : Dialect) (most : Option ℕ) (script : Option (List ℕ)) (old between new : Talk) (fault unwritten : ScriptFault) → new.client ≡ between.client → unwritten ≡ WriteFault
-    → IsEnding most fault × IfSome script (λ b. IsStoppedBy dialect most fault b old between) → IsStopped dialect most script old new unwritten
-line_unwritten dialect most script old between new fault unwritten same is it =
-    subst (λ (f : ScriptFault). IsStopped dialect most script old new f) (sym is) (
+pub line_unwritten : (mode : Mode) → (dialect : Dialect) (most : Option ℕ) (script : Option (List ℕ)) (old between new : Talk) (fault unwritten : ScriptFault) → new.client ≡ between.client → unwritten ≡ WriteFault
+    → IsEnding most fault × IfSome script (λ b. IsStoppedBy mode dialect most fault b old between) → IsStopped mode dialect most script old new unwritten
+line_unwritten mode dialect most script old between new fault unwritten same is it =
+    subst (λ (f : ScriptFault). IsStopped mode dialect most script old new f) (sym is) (
       tt,
-      known_map script (λ b. IsStoppedBy dialect most fault b old between) (λ b. IsEndedBy dialect most WriteFault b old new) it.1
-          (λ b by. (new, in_part dialect most fault b old between new same by, (refl, Appends-nil new.written))),
+      known_map script (λ b. IsStoppedBy mode dialect most fault b old between) (λ b. IsEndedBy mode dialect most WriteFault b old new) it.1
+          (λ b by. (new, in_part mode dialect most fault b old between new same by, (refl, Appends-nil new.written))),
     )

@@ -8,6 +8,7 @@ use Rattle.cc_script.specs.declared.fault.ScriptFault.{ScriptFault}
 use Rattle.cc_script.specs.declared.fault.ScriptFault.TheVariants.{BadLine, EndOfScript, ScriptTooLong, ReadFault, WriteFault, Stopped}
 use Rattle.cc_history.specs.declared.entry.Receipt.{Receipt}
 use Rattle.cc_history.specs.History.{MemberView}
+use Rattle.cc_c_laws.specs.declared.mode.Mode.{Mode}
 use Rattle.cc_service.specs.declared.fault.ServiceFault.{ServiceFault}
 use Rattle.cc_session.specs.Playing.{CallsAndWrites, Compacts, HasUnended, IsCutShort, Obeys, Talk, Writes, talk}
 use Rattle.cc_session.specs.Telling.{done_text}
@@ -16,28 +17,28 @@ use Rattle.cc_session.specs.internal.Steps.{IsDone, IsObeyed}
 use Rattle.cc_session.proofs.Playing.{appended, does_of}
 
 -- a step that is done, or not, is a line that is obeyed, or not
-obeyed_from : {T : Type 0} (answer : Result T ScriptFault) (most : Option ℕ) (asked : Option ScriptRequest) (x z : Ahead) (old new : Talk)
-    → IsDone (λ b a o n. Obeys asked b a o n) (λ rest. IsCutShort asked rest) (λ rest. HasUnended asked rest) x z old new answer → IsObeyed most asked x z old new answer
-obeyed_from (Ok done) most asked x z old new it = it
-obeyed_from (Err BadLine) most asked x z old new it = it
-obeyed_from (Err EndOfScript) most asked x z old new it = it
-obeyed_from (Err ScriptTooLong) most asked x z old new it = it
-obeyed_from (Err ReadFault) most asked x z old new it = it
-obeyed_from (Err WriteFault) most asked x z old new it = it
-obeyed_from (Err Stopped) most asked x z old new it = absurd it
+obeyed_from : (mode : Mode) → {T : Type 0} (answer : Result T ScriptFault) (most : Option ℕ) (asked : Option ScriptRequest) (x z : Ahead) (old new : Talk)
+    → IsDone (λ b a o n. Obeys mode asked b a o n) (λ rest. IsCutShort asked rest) (λ rest. HasUnended asked rest) x z old new answer → IsObeyed mode most asked x z old new answer
+obeyed_from mode (Ok done) most asked x z old new it = it
+obeyed_from mode (Err BadLine) most asked x z old new it = it
+obeyed_from mode (Err EndOfScript) most asked x z old new it = it
+obeyed_from mode (Err ScriptTooLong) most asked x z old new it = it
+obeyed_from mode (Err ReadFault) most asked x z old new it = it
+obeyed_from mode (Err WriteFault) most asked x z old new it = it
+obeyed_from mode (Err Stopped) most asked x z old new it = absurd it
 
 -- a step of what is asked
-pub obeyed_as : {T : Type 0} (most : Option ℕ) (answer : Result T ScriptFault) (asked wanted : Option ScriptRequest) (x z : Ahead) (old new : Talk) → wanted ≡ asked
-    → IsDone (λ b a o n. Obeys wanted b a o n) (λ rest. IsCutShort wanted rest) (λ rest. HasUnended wanted rest) x z old new answer → IsObeyed most asked x z old new answer
-obeyed_as most answer asked wanted x z old new same it =
-    subst (λ (it : Option ScriptRequest). IsObeyed most it x z old new answer) same (obeyed_from answer most wanted x z old new it)
+pub obeyed_as : (mode : Mode) → {T : Type 0} (most : Option ℕ) (answer : Result T ScriptFault) (asked wanted : Option ScriptRequest) (x z : Ahead) (old new : Talk) → wanted ≡ asked
+    → IsDone (λ b a o n. Obeys mode wanted b a o n) (λ rest. IsCutShort wanted rest) (λ rest. HasUnended wanted rest) x z old new answer → IsObeyed mode most asked x z old new answer
+obeyed_as mode most answer asked wanted x z old new same it =
+    subst (λ (it : Option ScriptRequest). IsObeyed mode most it x z old new answer) same (obeyed_from mode answer most wanted x z old new it)
 
 -- what is asked in a line without a source
-pub called_as : {T : Type 0} (most : Option ℕ) (answer : Result T ScriptFault) (asked wanted : Option ScriptRequest) (x : Ahead) (old new : Talk) (Does : Talk → Talk → Type 0)
-    → wanted ≡ asked → DoesAndTells Does old new answer → ((b : List ℕ) (n : Talk) → Does old n → Obeys wanted b b old n) → IsObeyed most asked x x old new answer
-called_as most answer asked wanted x old new Does same it gives =
-    obeyed_as most answer asked wanted x x old new same
-    (does_of answer Does (λ b a o n. Obeys wanted b a o n) (λ rest. IsCutShort wanted rest) (λ rest. HasUnended wanted rest) x old new it gives)
+pub called_as : (mode : Mode) → {T : Type 0} (most : Option ℕ) (answer : Result T ScriptFault) (asked wanted : Option ScriptRequest) (x : Ahead) (old new : Talk) (Does : Talk → Talk → Type 0)
+    → wanted ≡ asked → DoesAndTells Does old new answer → ((b : List ℕ) (n : Talk) → Does old n → Obeys mode wanted b b old n) → IsObeyed mode most asked x x old new answer
+called_as mode most answer asked wanted x old new Does same it gives =
+    obeyed_as mode most answer asked wanted x x old new same
+    (does_of answer Does (λ b a o n. Obeys mode wanted b a o n) (λ rest. IsCutShort wanted rest) (λ rest. HasUnended wanted rest) x old new it gives)
 
 -- ---- calls whose text is that of an answer
 

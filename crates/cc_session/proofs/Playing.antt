@@ -15,6 +15,7 @@ use Rattle.cc_script.specs.declared.script.NextLine.{NextLine}
 use Rattle.cc_script.specs.declared.script.NextLine.TheVariants.{End, Line, TooLong}
 use Rattle.cc_answers.specs.Telling.{Tells, script_fault_text}
 use Rattle.cc_history.specs.History.{MemberView}
+use Rattle.cc_c_laws.specs.declared.mode.Mode.{Mode}
 use Rattle.cc_session.specs.Playing.{IsBegun, IsLight, IsPlayed, IsPlayedInPart, IsStep, IsWithin, Obeys, Plays, Talk, Turn, Writes, asked_by_line, talk}
 use Rattle.cc_session.specs.internal.Calls.{DoesAndTells}
 use Rattle.cc_session.specs.internal.Steps.{HasSent, IsDone, IsNotDone, IsSentAs, IsShortOf}
@@ -189,58 +190,58 @@ line_behind before prefix between rest after is plain line = record {
 }
 
 -- a line of more bytes than it may have is a step that calls nothing
-pub too_long_step : (dialect : Dialect) (before between after line : List ℕ) (old new : Talk) → IsNext before TooLong line between → ((rest : List ℕ) × IsLine between rest after)
-    → Writes (script_fault_text BadLine) old new → IsStep dialect before after old new
-too_long_step dialect before between after line old new next skipped wrote =
+pub too_long_step : (mode : Mode) → (dialect : Dialect) (before between after line : List ℕ) (old new : Talk) → IsNext before TooLong line between → ((rest : List ℕ) × IsLine between rest after)
+    → Writes (script_fault_text BadLine) old new → IsStep mode dialect before after old new
+too_long_step mode dialect before between after line old new next skipped wrote =
     let long : 128 < length (next.0 ++ skipped.0) = let n = length-append next.0 skipped.0 in omega (arith, n, next.2) in
     record {
       line = next.0 ++ skipped.0;
       rest = after;
       is_line = line_behind before next.0 between skipped.0 after next.1 next.3 skipped.1;
-      obeyed = subst (λ (asked : Option ScriptRequest). Obeys asked after after old new) (sym (asks_long dialect (next.0 ++ skipped.0) long)) (refl, wrote);
+      obeyed = subst (λ (asked : Option ScriptRequest). Obeys mode asked after after old new) (sym (asks_long dialect (next.0 ++ skipped.0) long)) (refl, wrote);
     }
 
 -- a line that is obeyed is a step
-pub obeyed_step : (dialect : Dialect) (before between after line : List ℕ) (old new : Talk) → length line ≤ 128 → IsLine before line between → Obeys (asked_of dialect line) between after old new
-    → IsStep dialect before after old new
-obeyed_step dialect before between after line old new short is obeyed = record {
+pub obeyed_step : (mode : Mode) → (dialect : Dialect) (before between after line : List ℕ) (old new : Talk) → length line ≤ 128 → IsLine before line between → Obeys mode (asked_of dialect line) between after old new
+    → IsStep mode dialect before after old new
+obeyed_step mode dialect before between after line old new short is obeyed = record {
   line = line;
   rest = between;
   is_line = is;
-  obeyed = subst (λ (asked : Option ScriptRequest). Obeys asked between after old new) (sym (asks_short dialect line short)) obeyed;
+  obeyed = subst (λ (asked : Option ScriptRequest). Obeys mode asked between after old new) (sym (asks_short dialect line short)) obeyed;
 }
 
 -- ---- scripts
 
 -- one step more
-pub plays_on : (dialect : Dialect) (MayBegin : MemberView → Type 0) (before : List ℕ) (old : Talk) (turns : List Turn) (between : List ℕ) (now : Talk) (after : List ℕ) (new : Talk)
-    → Plays dialect MayBegin before old turns between now → MayBegin now.client → IsStep dialect between after now new
-    → Plays dialect MayBegin before old (turns ++ (record { rest = after; talk = new }) ∷ []) after new
-plays_on dialect MayBegin before old [] between now after new it may step = (
+pub plays_on : (mode : Mode) → (dialect : Dialect) (MayBegin : MemberView → Type 0) (before : List ℕ) (old : Talk) (turns : List Turn) (between : List ℕ) (now : Talk) (after : List ℕ) (new : Talk)
+    → Plays mode dialect MayBegin before old turns between now → MayBegin now.client → IsStep mode dialect between after now new
+    → Plays mode dialect MayBegin before old (turns ++ (record { rest = after; talk = new }) ∷ []) after new
+plays_on mode dialect MayBegin before old [] between now after new it may step = (
   subst (λ (h : Talk). MayBegin h.client) it.1 may,
-  subst (λ (l : List ℕ). IsStep dialect l after old new) it.0 (subst (λ (h : Talk). IsStep dialect between after h new) it.1 step),
+  subst (λ (l : List ℕ). IsStep mode dialect l after old new) it.0 (subst (λ (h : Talk). IsStep mode dialect between after h new) it.1 step),
   (refl, refl),
 )
-plays_on dialect MayBegin before old (turn ∷ turns) between now after new it may step =
-    (it.0, it.1, plays_on dialect MayBegin turn.rest turn.talk turns between now after new it.2 may step)
+plays_on mode dialect MayBegin before old (turn ∷ turns) between now after new it may step =
+    (it.0, it.1, plays_on mode dialect MayBegin turn.rest turn.talk turns between now after new it.2 may step)
 
 -- the whole script
-pub played : (dialect : Dialect) (most : Option ℕ) (script : List ℕ) (first : Talk) (turns : List Turn) (rest : List ℕ) (last : Talk) → IsWithin most (length turns)
-    → Plays dialect (IsLight most first.client) script first turns rest last → rest ≡ [] → IsPlayed dialect most script first last
-played dialect most script first turns rest last few plays over =
-    record { turns = turns; few = few; plays = subst (λ (l : List ℕ). Plays dialect (IsLight most first.client) script first turns l last) over plays }
+pub played : (mode : Mode) → (dialect : Dialect) (most : Option ℕ) (script : List ℕ) (first : Talk) (turns : List Turn) (rest : List ℕ) (last : Talk) → IsWithin most (length turns)
+    → Plays mode dialect (IsLight most first.client) script first turns rest last → rest ≡ [] → IsPlayed mode dialect most script first last
+played mode dialect most script first turns rest last few plays over =
+    record { turns = turns; few = few; plays = subst (λ (l : List ℕ). Plays mode dialect (IsLight most first.client) script first turns l last) over plays }
 
 -- the next step, whose answer could not be written
-abbrev pub NextIs : Dialect → (most : Option ℕ) (first : MemberView) (lines : ℕ) (rest : List ℕ) (between : Talk) (last : MemberView) → Type 0
-NextIs dialect most first lines rest between last =
+abbrev pub NextIs : (mode : Mode) → Dialect → (most : Option ℕ) (first : MemberView) (lines : ℕ) (rest : List ℕ) (between : Talk) (last : MemberView) → Type 0
+NextIs mode dialect most first lines rest between last =
     (last ≡ between.client)
-    ⊎ (IsWithin most (lines + 1) × IsLight most first between.client × (after : List ℕ) × (written : Option (List ℕ)) × IsStep dialect rest after between (talk last written))
+    ⊎ (IsWithin most (lines + 1) × IsLight most first between.client × (after : List ℕ) × (written : Option (List ℕ)) × IsStep mode dialect rest after between (talk last written))
 
 -- a prefix of it, and perhaps the next step
-pub played_up_to : (dialect : Dialect) (most : Option ℕ) (script : List ℕ) (first : Talk) (turns : List Turn) (rest : List ℕ) (between last : Talk) → IsWithin most (length turns)
-    → Plays dialect (IsLight most first.client) script first turns rest between → NextIs dialect most first.client (length turns) rest between last.client
-    → IsPlayedInPart dialect most script first last
-played_up_to dialect most script first turns rest between last few plays it = record { turns = turns; few = few; rest = rest; between = between; plays = plays; then_is = it }
+pub played_up_to : (mode : Mode) → (dialect : Dialect) (most : Option ℕ) (script : List ℕ) (first : Talk) (turns : List Turn) (rest : List ℕ) (between last : Talk) → IsWithin most (length turns)
+    → Plays mode dialect (IsLight most first.client) script first turns rest between → NextIs mode dialect most first.client (length turns) rest between last.client
+    → IsPlayedInPart mode dialect most script first last
+played_up_to mode dialect most script first turns rest between last few plays it = record { turns = turns; few = few; rest = rest; between = between; plays = plays; then_is = it }
 
 -- a line is there, where one came
 line_left : (before after line : List ℕ) (next : NextLine) → IsNext before next line after → next ≢ End → before ≢ []

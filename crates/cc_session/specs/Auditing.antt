@@ -1,13 +1,14 @@
 -- What is said of a unit that was found.
-use Rattle.cc_link.specs.Audit.{AuditSays}
+use Rattle.cc_link.specs.Audit.{AuditSaysIn}
 use Rattle.cc_link.specs.declared.audit_answer.Audit.{Audit}
 use Rattle.cc_history.specs.declared.reply.Reply.{Reply}
 use Rattle.cc_history.specs.declared.reply.Reply.TheVariants.{Done, Exists, Absent, Unit, Names}
+use Rattle.cc_c_laws.specs.declared.mode.Mode.{Mode}
 
--- of the unit of a reply an audit says this
-abbrev pub IsSaidOf : Reply → Audit → Type 0
-IsSaidOf (Unit unit) audit = AuditSays unit.source unit.certificate unit.image audit
-IsSaidOf Done audit = ⊥
-IsSaidOf Exists audit = ⊥
-IsSaidOf Absent audit = ⊥
-IsSaidOf (Names names) audit = ⊥
+-- of the unit of a reply an audit in a mode says this
+abbrev pub IsSaidOf : Mode → Reply → Audit → Type 0
+IsSaidOf mode (Unit unit) audit = AuditSaysIn mode unit.source unit.certificate unit.image audit
+IsSaidOf mode Done audit = ⊥
+IsSaidOf mode Exists audit = ⊥
+IsSaidOf mode Absent audit = ⊥
+IsSaidOf mode (Names names) audit = ⊥

@@ -14,6 +14,7 @@ use Rattle.cc_history.specs.declared.entry.Receipt.{Receipt}
 use Rattle.cc_history.specs.declared.reply.Reply.TheVariants as reply
 use Rattle.cc_history.specs.Held.{receipts_bytes}
 use Rattle.cc_history.specs.History.{MemberView}
+use Rattle.cc_c_laws.specs.declared.mode.Mode.{Mode}
 use Rattle.cc_service.specs.Serving.{Adds, Replaces, GetAnswers, ListAnswers, PutAnswers, WithdrawAnswers}
 use Rattle.cc_service.specs.declared.fault.ServiceFault.{ServiceFault}
 use Rattle.cc_session.specs.Telling.{IsCutRun, SaysAudit, SaysChange, SaysNames, SaysRefusal, SaysRun, SaysShown, done_text, no_memory_text}
@@ -35,26 +36,26 @@ CallsAndWrites Answers Says old new =
 abbrev pub Writes : (text : List ℕ) → (old new : Talk) → Type 0
 Writes text old new = (new.client ≡ old.client) × Appends old.written new.written text
 
--- The source after a line: this many bytes, then a newline or the end. The call takes them; of more than 65,536 it takes 65,537, which are
+-- The source after a line: this many bytes, then a newline or the end. The call takes them, to compile them in the mode; of more than 65,536 it takes 65,537, which are
 -- too many. If there is no room for them, or if another byte follows, nothing is called; in the second case the rest of that line is skipped.
-pub record IsSent (Asks : (name source : List ℕ) → Command → Type 0) (name : List ℕ) (count : ℕ) (before after : List ℕ) (old new : Talk) : Type 0 where
+pub record IsSent (mode : Mode) (Asks : Mode → (name source : List ℕ) → Command → Type 0) (name : List ℕ) (count : ℕ) (before after : List ℕ) (old new : Talk) : Type 0 where
   pub source : List ℕ
   pub rest : List ℕ
   pub prefix : before ≡ source ++ rest
   pub count_is : length source ≡ count
   pub called :
       (IsLine rest [] after
-      × (CallsAndWrites (PutAnswers (Asks name (take 65537 source)) name (take 65537 source)) (SaysChange (take 65537 source)) old new ⊎ Writes no_memory_text old new))
+      × (CallsAndWrites (PutAnswers mode (Asks mode name (take 65537 source)) name (take 65537 source)) (SaysChange (take 65537 source)) old new ⊎ Writes no_memory_text old new))
       ⊎ ((behind : List ℕ) × (0 < length behind) × IsLine rest behind after × Writes (script_fault_text BadLine) old new)
 
--- The units of these names are fetched and audited, one call and one line for each, in their order. Either all are found and audited; or the last
+-- The units of these names are fetched and audited in the mode, one call and one line for each, in their order. Either all are found and audited; or the last
 -- is the first that is refused, or that is found but whose audit had no memory.
-abbrev pub AuditsEach : (names : List (List ℕ)) (all : Bool) (old new : Talk) → Type 0
-AuditsEach [] true old new = new ≡ old
-AuditsEach [] false old new = ⊥
-AuditsEach (name ∷ names) all old new =
-    ((all ≡ false) × CallsAndWrites (GetAnswers name) (SaysAudit name false) old new)
-    ⊎ ((between : Talk) × CallsAndWrites (GetAnswers name) (SaysAudit name true) old between × AuditsEach names all between new)
+abbrev pub AuditsEach : Mode → (names : List (List ℕ)) (all : Bool) (old new : Talk) → Type 0
+AuditsEach mode [] true old new = new ≡ old
+AuditsEach mode [] false old new = ⊥
+AuditsEach mode (name ∷ names) all old new =
+    ((all ≡ false) × CallsAndWrites (GetAnswers name) (SaysAudit mode name false) old new)
+    ⊎ ((between : Talk) × CallsAndWrites (GetAnswers name) (SaysAudit mode name true) old between × AuditsEach mode names all between new)
 
 -- an audit ends by `ok` if all are audited, else without a line
 abbrev pub EndsAudit : (all : Bool) (old new : Talk) → Type 0
@@ -62,7 +63,7 @@ EndsAudit true old new = Writes (line (codes "ok")) old new
 EndsAudit false old new = new ≡ old
 
 -- the names are listed, of which nothing is written, and the units of those that were answered are audited
-pub record ListsAndAudits (old new : Talk) : Type 0 where
+pub record ListsAndAudits (mode : Mode) (old new : Talk) : Type 0 where
   pub receipt : Receipt
   pub names : List (List ℕ)
   pub all : Bool
@@ -70,41 +71,41 @@ pub record ListsAndAudits (old new : Talk) : Type 0 where
   pub last : Talk
   pub listed : ListAnswers old.client heard (Ok receipt)
   pub names_are : receipt.entry.reply ≡ reply.Names names
-  pub audited : AuditsEach names all (talk heard old.written) last
+  pub audited : AuditsEach mode names all (talk heard old.written) last
   pub ended : EndsAudit all last new
 
 -- all units are audited; nothing more is called if the list is refused
-abbrev pub Audits : (old new : Talk) → Type 0
-Audits old new = CallsAndWrites ListAnswers SaysRefusal old new ⊎ ListsAndAudits old new
+abbrev pub Audits : Mode → (old new : Talk) → Type 0
+Audits mode old new = CallsAndWrites ListAnswers SaysRefusal old new ⊎ ListsAndAudits mode old new
 
 -- the library was written anew, or was not; whoever did so is no client, and has no receipt
 abbrev pub Compacts : (old new : Talk) → Type 0
 Compacts old new = (answer : Result (Unit {0}) ServiceFault) × Writes (done_text answer) old new
 
--- what a line asks for is done; 50 if it asks for nothing
+-- what a line asks for is done in the mode; 50 if it asks for nothing
 -- ORDER ScriptCommand
-abbrev pub Obeys : Option ScriptRequest → (before after : List ℕ) (old new : Talk) → Type 0
-Obeys (Some (Add name count)) before after old new = IsSent Adds name count before after old new
-Obeys (Some (Replace name count)) before after old new = IsSent Replaces name count before after old new
-Obeys (Some (Withdraw name)) before after old new = (after ≡ before) × CallsAndWrites (WithdrawAnswers name) (SaysChange []) old new
-Obeys (Some Names) before after old new = (after ≡ before) × CallsAndWrites ListAnswers SaysNames old new
-Obeys (Some (Run name steps)) before after old new = (after ≡ before) × CallsAndWrites (GetAnswers name) (SaysRun steps) old new
-Obeys (Some Compact) before after old new = (after ≡ before) × Compacts old new
-Obeys (Some Audit) before after old new = (after ≡ before) × Audits old new
-Obeys (Some (Image name)) before after old new = (after ≡ before) × CallsAndWrites (GetAnswers name) (SaysShown part.Image) old new
-Obeys (Some (Source name)) before after old new = (after ≡ before) × CallsAndWrites (GetAnswers name) (SaysShown part.Source) old new
-Obeys None before after old new = (after ≡ before) × Writes (script_fault_text BadLine) old new
+abbrev pub Obeys : Mode → Option ScriptRequest → (before after : List ℕ) (old new : Talk) → Type 0
+Obeys mode (Some (Add name count)) before after old new = IsSent mode Adds name count before after old new
+Obeys mode (Some (Replace name count)) before after old new = IsSent mode Replaces name count before after old new
+Obeys mode (Some (Withdraw name)) before after old new = (after ≡ before) × CallsAndWrites (WithdrawAnswers name) (SaysChange []) old new
+Obeys mode (Some Names) before after old new = (after ≡ before) × CallsAndWrites ListAnswers SaysNames old new
+Obeys mode (Some (Run name steps)) before after old new = (after ≡ before) × CallsAndWrites (GetAnswers name) (SaysRun steps) old new
+Obeys mode (Some Compact) before after old new = (after ≡ before) × Compacts old new
+Obeys mode (Some Audit) before after old new = (after ≡ before) × Audits mode old new
+Obeys mode (Some (Image name)) before after old new = (after ≡ before) × CallsAndWrites (GetAnswers name) (SaysShown part.Image) old new
+Obeys mode (Some (Source name)) before after old new = (after ≡ before) × CallsAndWrites (GetAnswers name) (SaysShown part.Source) old new
+Obeys mode None before after old new = (after ≡ before) × Writes (script_fault_text BadLine) old new
 
 -- what a line of a script asks for; one of more than 128 bytes asks for nothing
 abbrev pub asked_by_line : Dialect → List ℕ → Option ScriptRequest
 asked_by_line dialect line = if nat_le (length line) 128 then asked_of dialect line else None
 
--- one line of a script of this dialect is done, with the source after it if it has one
-pub record IsStep (dialect : Dialect) (before after : List ℕ) (old new : Talk) : Type 0 where
+-- one line of a script of this dialect is done in the mode, with the source after it if it has one
+pub record IsStep (mode : Mode) (dialect : Dialect) (before after : List ℕ) (old new : Talk) : Type 0 where
   pub line : List ℕ
   pub rest : List ℕ
   pub is_line : IsLine before line rest
-  pub obeyed : Obeys (asked_by_line dialect line) rest after old new
+  pub obeyed : Obeys mode (asked_by_line dialect line) rest after old new
 
 -- what is left of the script after a step, and the client and its answers then
 pub record Turn : Type 0 where
@@ -113,10 +114,10 @@ pub record Turn : Type 0 where
 
 -- Line by line, from what is left and the client before, each of which may begin a line. So the writer holds the lines of the turns in their order, and no
 -- other byte.
-abbrev pub Plays : Dialect → (MayBegin : MemberView → Type 0) → (before : List ℕ) (old : Talk) → List Turn → (after : List ℕ) (new : Talk) → Type 0
-Plays dialect MayBegin before old [] after new = (after ≡ before) × (new ≡ old)
-Plays dialect MayBegin before old (turn ∷ turns) after new =
-    MayBegin old.client × IsStep dialect before turn.rest old turn.talk × Plays dialect MayBegin turn.rest turn.talk turns after new
+abbrev pub Plays : Mode → Dialect → (MayBegin : MemberView → Type 0) → (before : List ℕ) (old : Talk) → List Turn → (after : List ℕ) (new : Talk) → Type 0
+Plays mode dialect MayBegin before old [] after new = (after ≡ before) × (new ≡ old)
+Plays mode dialect MayBegin before old (turn ∷ turns) after new =
+    MayBegin old.client × IsStep mode dialect before turn.rest old turn.talk × Plays mode dialect MayBegin turn.rest turn.talk turns after new
 
 -- no more lines than the bound, if there is one
 abbrev pub IsWithin : (most : Option ℕ) (lines : ℕ) → Type 0
@@ -133,23 +134,23 @@ IsLight None first now = Unit {0}
 IsLight (Some most) first now = held_since first now ≤ 268435456
 
 -- the whole script is done
-pub record IsPlayed (dialect : Dialect) (most : Option ℕ) (script : List ℕ) (first last : Talk) : Type 0 where
+pub record IsPlayed (mode : Mode) (dialect : Dialect) (most : Option ℕ) (script : List ℕ) (first last : Talk) : Type 0 where
   pub turns : List Turn
   pub few : IsWithin most (length turns)
-  pub plays : Plays dialect (IsLight most first.client) script first turns [] last
+  pub plays : Plays mode dialect (IsLight most first.client) script first turns [] last
 
 -- A prefix of it is done. The client at the end is as these steps left it, or as the next one would, whose answer could not be written (of an audit:
 -- as an audit that had no memory at that point). What the writer holds is not known.
-pub record IsPlayedInPart (dialect : Dialect) (most : Option ℕ) (script : List ℕ) (first last : Talk) : Type 0 where
+pub record IsPlayedInPart (mode : Mode) (dialect : Dialect) (most : Option ℕ) (script : List ℕ) (first last : Talk) : Type 0 where
   pub turns : List Turn
   pub few : IsWithin most (length turns)
   pub rest : List ℕ
   pub between : Talk
-  pub plays : Plays dialect (IsLight most first.client) script first turns rest between
+  pub plays : Plays mode dialect (IsLight most first.client) script first turns rest between
   pub then_is :
       (last.client ≡ between.client)
       ⊎ (IsWithin most (length turns + 1) × IsLight most first.client between.client × (after : List ℕ) × (written : Option (List ℕ))
-      × IsStep dialect rest after between (talk last.client written))
+      × IsStep mode dialect rest after between (talk last.client written))
 
 -- ---- scripts that a fault ends
 
@@ -203,12 +204,12 @@ IsTooLong (Some most) script first lines rest now = (16777216 < length script) �
 
 -- A prefix of the script is done and nothing of what comes after it, but that 50 may be written of a line that was not read to its end. `Stops` holds of
 -- the number of lines done, of what is left, and of the client then.
-pub record IsPlayedUpTo (dialect : Dialect) (most : Option ℕ) (script : List ℕ) (Stops : (lines : ℕ) (rest : List ℕ) (now : MemberView) → Type 0) (first last : Talk) : Type 0 where
+pub record IsPlayedUpTo (mode : Mode) (dialect : Dialect) (most : Option ℕ) (script : List ℕ) (Stops : (lines : ℕ) (rest : List ℕ) (now : MemberView) → Type 0) (first last : Talk) : Type 0 where
   pub turns : List Turn
   pub few : IsWithin most (length turns)
   pub rest : List ℕ
   pub between : Talk
-  pub plays : Plays dialect (IsLight most first.client) script first turns rest between
+  pub plays : Plays mode dialect (IsLight most first.client) script first turns rest between
   pub begun : IsBegun (BeginsBad dialect rest) between last
   pub stops : Stops (length turns) rest between.client
 
@@ -234,12 +235,12 @@ pub record CutsNext (dialect : Dialect) (before : List ℕ) (old new : Talk) : T
 
 -- A prefix of the script is done, all answers to it are written, and more of it is left. Nothing of that was done, or the next line is a `run` that was
 -- cut.
-pub record IsPlayedTill (dialect : Dialect) (most : Option ℕ) (script : List ℕ) (first last : Talk) : Type 0 where
+pub record IsPlayedTill (mode : Mode) (dialect : Dialect) (most : Option ℕ) (script : List ℕ) (first last : Talk) : Type 0 where
   pub turns : List Turn
   pub few : IsWithin most (length turns)
   pub rest : List ℕ
   pub between : Talk
-  pub plays : Plays dialect (IsLight most first.client) script first turns rest between
+  pub plays : Plays mode dialect (IsLight most first.client) script first turns rest between
   pub left : rest ≢ []
   pub then_is : (last ≡ between) ⊎ (IsWithin most (length turns + 1) × IsLight most first.client between.client × CutsNext dialect rest between last)
 
@@ -256,18 +257,18 @@ IsEnding most fault = Unit {0}
 
 -- How far a script was done that such a fault ended. That it could not be read, 53, or that an answer could not be written, 54, is known to
 -- its reader and its writer alone; that it is to end, 61, to whoever is asked that.
-abbrev pub IsStoppedBy : Dialect → (most : Option ℕ) → ScriptFault → (script : List ℕ) (first last : Talk) → Type 0
-IsStoppedBy dialect most BadLine script first last = ⊥
-IsStoppedBy dialect most EndOfScript script first last = IsPlayedUpTo dialect most script (IsCutIn dialect most first.client) first last
-IsStoppedBy dialect most ScriptTooLong script first last = IsPlayedUpTo dialect most script (IsTooLong most script first.client) first last
-IsStoppedBy dialect most ReadFault script first last = IsPlayedUpTo dialect most script (λ lines rest client. Unit {0}) first last
-IsStoppedBy dialect most WriteFault script first last = IsPlayedInPart dialect most script first last
-IsStoppedBy dialect most Stopped script first last = IsPlayedTill dialect most script first last
+abbrev pub IsStoppedBy : Mode → Dialect → (most : Option ℕ) → ScriptFault → (script : List ℕ) (first last : Talk) → Type 0
+IsStoppedBy mode dialect most BadLine script first last = ⊥
+IsStoppedBy mode dialect most EndOfScript script first last = IsPlayedUpTo mode dialect most script (IsCutIn dialect most first.client) first last
+IsStoppedBy mode dialect most ScriptTooLong script first last = IsPlayedUpTo mode dialect most script (IsTooLong most script first.client) first last
+IsStoppedBy mode dialect most ReadFault script first last = IsPlayedUpTo mode dialect most script (λ lines rest client. Unit {0}) first last
+IsStoppedBy mode dialect most WriteFault script first last = IsPlayedInPart mode dialect most script first last
+IsStoppedBy mode dialect most Stopped script first last = IsPlayedTill mode dialect most script first last
 
 -- so, and then the fault's line was written; 54 has none
-abbrev pub IsEndedBy : Dialect → (most : Option ℕ) → ScriptFault → (script : List ℕ) (first last : Talk) → Type 0
-IsEndedBy dialect most fault script first last =
-    (between : Talk) × IsStoppedBy dialect most fault script first between × Writes (script_fault_text fault) between last
+abbrev pub IsEndedBy : Mode → Dialect → (most : Option ℕ) → ScriptFault → (script : List ℕ) (first last : Talk) → Type 0
+IsEndedBy mode dialect most fault script first last =
+    (between : Talk) × IsStoppedBy mode dialect most fault script first between × Writes (script_fault_text fault) between last
 
 -- ---- any script, and those whose bytes are known to their readers
 
@@ -276,10 +277,10 @@ abbrev pub Grows : (old new : MemberView) → Type 0
 Grows old new = (new.number ≡ old.number) × ((more : List Receipt) × (new.receipts ≡ old.receipts ++ more))
 
 -- a fault that ends scripts ended it, and it is done as far as that says
-abbrev pub IsStopped : Dialect → (most : Option ℕ) (script : Option (List ℕ)) (old new : Talk) → ScriptFault → Type 0
-IsStopped dialect most script old new fault = IsEnding most fault × IfSome script (λ bytes. IsEndedBy dialect most fault bytes old new)
+abbrev pub IsStopped : Mode → Dialect → (most : Option ℕ) (script : Option (List ℕ)) (old new : Talk) → ScriptFault → Type 0
+IsStopped mode dialect most script old new fault = IsEnding most fault × IfSome script (λ bytes. IsEndedBy mode dialect most fault bytes old new)
 
 -- it is done whole; or a fault ended it, and it is done as far as that says
-abbrev pub IsPlayedBy : {T : Type 0} → Dialect → (most : Option ℕ) (script : Option (List ℕ)) (old new : Talk) → Result T ScriptFault → Type 0
-IsPlayedBy dialect most script old new (Ok done) = IfSome script (λ bytes. IsPlayed dialect most bytes old new)
-IsPlayedBy dialect most script old new (Err fault) = IsStopped dialect most script old new fault
+abbrev pub IsPlayedBy : Mode → {T : Type 0} → Dialect → (most : Option ℕ) (script : Option (List ℕ)) (old new : Talk) → Result T ScriptFault → Type 0
+IsPlayedBy mode dialect most script old new (Ok done) = IfSome script (λ bytes. IsPlayed mode dialect most bytes old new)
+IsPlayedBy mode dialect most script old new (Err fault) = IsStopped mode dialect most script old new fault

@@ -7,6 +7,7 @@ use Rattle.cc_library.specs.Recovered.{Recovers}
 use Rattle.cc_history.specs.declared.entry.Entry.{Entry}
 use Rattle.cc_history.specs.Closing.{AreOwn, IsClosed, IsNotWhole}
 use Rattle.cc_history.specs.History.{MemberView}
+use Rattle.cc_c_laws.specs.declared.mode.Mode.{Mode}
 use Rattle.cc_service.specs.Book.{BookView}
 use Rattle.cc_service.specs.Fault.{fault_number}
 use Rattle.cc_service.specs.Promise.{IsSound}
@@ -36,13 +37,13 @@ pub record HasCalled (script before after : Option (List ℕ)) (played end : Ses
   pub alone : clients ≡ last.client ∷ []
   pub written : end ≡ played → after ≡ last.written
 
--- How the script of a session, a plain one, ended, and what it made of the clients and of what the writer held before: it was done; or the service has no
+-- How the script of a session in a mode, a script of the plain dialect, ended, and what it made of the clients and of what the writer held before: it was done; or the service has no
 -- client for it, 30; or one of 51 to 54 ended it.
-abbrev pub HaveCalled : (script before after : Option (List ℕ)) (end : SessionEnd) (clients : List MemberView) → (played : SessionEnd) → Type 0
-HaveCalled script before after end clients Finished = HasCalled script before after Finished end clients (IsPlayed Plain None)
-HaveCalled script before after end clients (Fault number) =
+abbrev pub HaveCalled : Mode → (script before after : Option (List ℕ)) (end : SessionEnd) (clients : List MemberView) → (played : SessionEnd) → Type 0
+HaveCalled mode script before after end clients Finished = HasCalled script before after Finished end clients (IsPlayed mode Plain None)
+HaveCalled mode script before after end clients (Fault number) =
     ((number ≡ 30) × (clients ≡ []))
-    ⊎ ((fault : ScriptFault) × IsEnding None fault × (number ≡ faults.fault_number fault) × HasCalled script before after (Fault number) end clients (IsEndedBy Plain None fault))
+    ⊎ ((fault : ScriptFault) × IsEnding None fault × (number ≡ faults.fault_number fault) × HasCalled script before after (Fault number) end clients (IsEndedBy mode Plain None fault))
 
 -- What is left of a service that was opened: its library, with the history of its calls, from the map on to which the bytes recover.
 -- Its clients have receipts of their own calls, in their order, and this holds of the history and of them.
@@ -90,7 +91,7 @@ ServiceEnds D Untouched Worked before after end =
 
 -- How a session ends that began with this disk, and a writer that held `written_before`: as the service ends whose one client does the script. The disk is
 -- always handed back.
-abbrev pub SessionEnds : {Disk : Type 0} (D : Ghosts Disk) (script written_before written_after : Option (List ℕ)) (before : Disk) → Option Disk → SessionEnd → Type 0
-SessionEnds D script written_before written_after before None end = ⊥
-SessionEnds D script written_before written_after before (Some after) end =
-    ServiceEnds D (Unit {0}) (HaveCalled script written_before written_after end) before after end
+abbrev pub SessionEnds : Mode → {Disk : Type 0} (D : Ghosts Disk) (script written_before written_after : Option (List ℕ)) (before : Disk) → Option Disk → SessionEnd → Type 0
+SessionEnds mode D script written_before written_after before None end = ⊥
+SessionEnds mode D script written_before written_after before (Some after) end =
+    ServiceEnds D (Unit {0}) (HaveCalled mode script written_before written_after end) before after end

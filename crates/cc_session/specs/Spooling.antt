@@ -6,6 +6,7 @@ use Rattle.cc_script.specs.Fault as faults
 use Rattle.cc_script.specs.declared.command.Dialect.TheVariants.{Served}
 use Rattle.cc_script.specs.declared.fault.ScriptFault.{ScriptFault}
 use Rattle.cc_spool.specs.Spool.{Delivered, Taken}
+use Rattle.cc_c_laws.specs.declared.mode.Mode.{Mode}
 use Rattle.cc_session.specs.Playing.{Grows, IsPlayed, IsStopped, Talk, talk}
 use Rattle.cc_session.specs.Session.{ServiceEnds}
 use Rattle.cc_session.specs.declared.end.SessionEnd.{SessionEnd}
@@ -17,23 +18,23 @@ use Rattle.cc_session.specs.declared.end.SessionEnd.TheVariants.{Finished, Fault
 abbrev pub most_lines : Option ℕ
 most_lines = Some 65536
 
--- How a script of a spool, which is a served one, ended, as its number says: all of it is done; or a fault that ends scripts ended it, and it is done as
+-- How a script of a spool, which is a served one, ended in the mode, as its number says: all of it is done; or a fault that ends scripts ended it, and it is done as
 -- far as that says. This speaks of scripts whose bytes are known.
-abbrev pub EndsBy : (script : Option (List ℕ)) (end : Option ℕ) (old new : Talk) → Type 0
-EndsBy script None old new = IfSome script (λ bytes. IsPlayed Served most_lines bytes old new)
-EndsBy script (Some number) old new = (fault : ScriptFault) × (number ≡ faults.fault_number fault) × IsStopped Served most_lines script old new fault
+abbrev pub EndsBy : Mode → (script : Option (List ℕ)) (end : Option ℕ) (old new : Talk) → Type 0
+EndsBy mode script None old new = IfSome script (λ bytes. IsPlayed mode Served most_lines bytes old new)
+EndsBy mode script (Some number) old new = (fault : ScriptFault) × (number ≡ faults.fault_number fault) × IsStopped mode Served most_lines script old new fault
 
 -- The answer that was handed over is that of the script that was taken: from what its writer held then it has the lines of this script's turns, in their
 -- order, and no other byte, if both are known. Whatever the script, it was the client's alone, which keeps its receipts.
-abbrev pub IsDoneBy : Taken → Delivered → (old new : MemberView) → Type 0
-IsDoneBy taken delivered old new = EndsBy taken.script delivered.end (talk old taken.begun) (talk new delivered.answer) × Grows old new
+abbrev pub IsDoneBy : Mode → Taken → Delivered → (old new : MemberView) → Type 0
+IsDoneBy mode taken delivered old new = EndsBy mode taken.script delivered.end (talk old taken.begun) (talk new delivered.answer) × Grows old new
 
 -- scripts in turn, each with its answer
-abbrev pub AreDoneBy : (scripts : List Taken) (answers : List Delivered) (old new : MemberView) → Type 0
-AreDoneBy [] [] old new = new ≡ old
-AreDoneBy (script ∷ scripts) (answer ∷ answers) old new = (between : MemberView) × IsDoneBy script answer old between × AreDoneBy scripts answers between new
-AreDoneBy [] (answer ∷ answers) old new = ⊥
-AreDoneBy (script ∷ scripts) [] old new = ⊥
+abbrev pub AreDoneBy : Mode → (scripts : List Taken) (answers : List Delivered) (old new : MemberView) → Type 0
+AreDoneBy mode [] [] old new = new ≡ old
+AreDoneBy mode (script ∷ scripts) (answer ∷ answers) old new = (between : MemberView) × IsDoneBy mode script answer old between × AreDoneBy mode scripts answers between new
+AreDoneBy mode [] (answer ∷ answers) old new = ⊥
+AreDoneBy mode (script ∷ scripts) [] old new = ⊥
 
 -- what a spool has given so far, and what was handed over to it
 pub record Given : Type 0 where
@@ -44,31 +45,31 @@ abbrev pub given_by : {S : Type 0} (taken : S → List Taken) (ended : S → Lis
 given_by taken ended spool = record { taken = taken spool; ended = ended spool }
 
 -- From one moment to the next a spool gave some scripts, and was handed an answer for each, in turn. A client did them, and called nothing else.
-pub record HasDone (before : Given) (old : MemberView) (after : Given) (new : MemberView) : Type 0 where
+pub record HasDone (mode : Mode) (before : Given) (old : MemberView) (after : Given) (new : MemberView) : Type 0 where
   pub scripts : List Taken
   pub answers : List Delivered
   pub taken : after.taken ≡ before.taken ++ scripts
   pub ended : after.ended ≡ before.ended ++ answers
-  pub done : AreDoneBy scripts answers old new
+  pub done : AreDoneBy mode scripts answers old new
 
 -- ---- all clients
 
 -- Each spool has a client, the one at its place, which began without a receipt and did what its own spool gave.
-pub record HaveDone (before after : List Given) (clients : List MemberView) : Type 0 where
+pub record HaveDone (mode : Mode) (before after : List Given) (clients : List MemberView) : Type 0 where
   pub many : length after ≡ length before
   pub all : length clients ≡ length before
   pub each : (i : ℕ) (old new : Given) (last : MemberView) → slice_get before i ≡ Some old → slice_get after i ≡ Some new → slice_get clients i ≡ Some last
-      → (first : MemberView) × (first.receipts ≡ []) × HasDone old first new last
+      → (first : MemberView) × (first.receipts ≡ []) × HasDone mode old first new last
 
 -- What the clients of the spools did, by how their work ended: all that these gave; or nothing, where the service has no client for a spool, 30:
 -- then no script was taken and no answer handed over.
-abbrev pub HaveServed : (before after : List Given) (clients : List MemberView) → SessionEnd → Type 0
-HaveServed before after clients Finished = HaveDone before after clients
-HaveServed before after clients (Fault number) =
+abbrev pub HaveServed : Mode → (before after : List Given) (clients : List MemberView) → SessionEnd → Type 0
+HaveServed mode before after clients Finished = HaveDone mode before after clients
+HaveServed mode before after clients (Fault number) =
     (number ≡ 30) × (after ≡ before) × ((i : ℕ) (client : MemberView) → slice_get clients i ≡ Some client → client.receipts ≡ [])
 
 -- How serving ends that began with this disk and these spools: as the service ends whose clients do what the spools give, and where it was not
 -- opened no script was taken and no answer handed over.
-abbrev pub ServingEnds : {Disk : Type 0} (D : Ghosts Disk) (spools_before spools_after : List Given) (before after : Disk) → SessionEnd → Type 0
-ServingEnds D spools_before spools_after before after end =
-    ServiceEnds D (spools_after ≡ spools_before) (HaveServed spools_before spools_after) before after end
+abbrev pub ServingEnds : Mode → {Disk : Type 0} (D : Ghosts Disk) (spools_before spools_after : List Given) (before after : Disk) → SessionEnd → Type 0
+ServingEnds mode D spools_before spools_after before after end =
+    ServiceEnds D (spools_after ≡ spools_before) (HaveServed mode spools_before spools_after) before after end

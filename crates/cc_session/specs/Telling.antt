@@ -14,6 +14,7 @@ use Rattle.cc_answers.specs.Run.{IsRunOf}
 use Rattle.cc_answers.specs.Text.{fault_line, function_text, line, place_text, run_text}
 use Rattle.cc_answers.specs.Telling.{audit_text, names_text, number_text}
 use Rattle.cc_answers.specs.declared.run.ImageRun.{ImageRun}
+use Rattle.cc_c_laws.specs.declared.mode.Mode.{Mode}
 use Rattle.cc_service.specs.Fault.{fault_number}
 use Rattle.cc_service.specs.declared.fault.ServiceFault.{ServiceFault}
 use Rattle.cc_service.specs.declared.fault.ServiceFault.TheVariants as service
@@ -84,18 +85,18 @@ abbrev pub SaysShown : Part → Result Receipt ServiceFault → (text : List ℕ
 SaysShown part (Ok receipt) text = IsShownOf part receipt.entry.reply text ⊎ (text ≡ no_memory_text)
 SaysShown part (Err fault) text = text ≡ refusal_text [] fault
 
--- what an audit says of the reply's unit
-pub record IsAuditText (name : List ℕ) (reply : Reply) (text : List ℕ) : Type 0 where
+-- what an audit in a mode says of the reply's unit
+pub record IsAuditText (mode : Mode) (name : List ℕ) (reply : Reply) (text : List ℕ) : Type 0 where
   pub audit : Audit
-  pub said : IsSaidOf reply audit
+  pub said : IsSaidOf mode reply audit
   pub text_is : text ≡ audit_text name audit
 
 -- of an audit of one unit: what it says, if the unit was found and there was memory for it; if not, why not
-abbrev pub SaysAudit : (name : List ℕ) (is_said : Bool) → Result Receipt ServiceFault → (text : List ℕ) → Type 0
-SaysAudit name true (Ok receipt) text = IsAuditText name receipt.entry.reply text
-SaysAudit name true (Err fault) text = ⊥
-SaysAudit name false (Ok receipt) text = text ≡ no_memory_text
-SaysAudit name false (Err fault) text = text ≡ refusal_text [] fault
+abbrev pub SaysAudit : Mode → (name : List ℕ) (is_said : Bool) → Result Receipt ServiceFault → (text : List ℕ) → Type 0
+SaysAudit mode name true (Ok receipt) text = IsAuditText mode name receipt.entry.reply text
+SaysAudit mode name true (Err fault) text = ⊥
+SaysAudit mode name false (Ok receipt) text = text ≡ no_memory_text
+SaysAudit mode name false (Err fault) text = text ≡ refusal_text [] fault
 
 -- of a call that was refused
 abbrev pub SaysRefusal : Result Receipt ServiceFault → (text : List ℕ) → Type 0

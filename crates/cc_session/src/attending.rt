@@ -1,6 +1,7 @@
 // A script done by a client of a service, and the scripts of a spool, done so one after another.
 
 ghost use Rattle.std.specs.Prelude.{◌≡◌, ◌++◌, ◌∷◌, []};
+ghost use Rattle.cc_c_laws.specs.declared.mode.Mode.TheVariants.{Plain};
 ghost use Rattle.cc_spool.specs.Spool.{Delivered, taken_as};
 ghost use Rattle.cc_session.specs.Playing.{Grows, IsPlayedBy, talk};
 ghost use Rattle.cc_session.specs.Spooling.{HasDone, IsDoneBy, given_by};
@@ -11,6 +12,7 @@ use crate::calls::Player;
 use crate::patience::{Others, Patience, Unhurried};
 use crate::reading::Reading;
 use cc_disk::Disk;
+use cc_link::Mode;
 use cc_script::{Dialect, ScriptFault};
 use cc_service::{Client, Named, Service};
 use cc_spool::Spool;
@@ -21,7 +23,7 @@ use std::sync::Wait;
 // The most lines of a script from a spool that are done. So one that asks for nothing but errors holds its client for a bounded time.
 const MOST_LINES: usize = 65_536;
 
-/// Does what a script asks for by a client of a service, up to its end or a fault that ends it, 51 to 54, whose line is written then. If
+/// Does what a script asks for in a mode by a client of a service, up to its end or a fault that ends it, 51 to 54, whose line is written then. If
 /// that line can't be written the fault is 54, which has no line. Clients on other threads may play theirs on the same service.
 ///
 /// The script comes from `reader`; each answer goes to `writer`, which is flushed after it: at the end it holds the lines of the script's turns
@@ -29,6 +31,41 @@ const MOST_LINES: usize = 65_536;
 /// `dialect` says which lines it may have. If there is a bound on its lines, `most`, so many are done at most, and 52 ends a script that has
 /// more: at 0 every script that has a byte. A line counts with the source after it, whatever is answered. 52 also ends such a script behind the
 /// line with which the receipts that the client got for it hold more than 256 MiB (`held_since` of `Client`), if it has more.
+pub fn play_in<N, H, R: Read, W: Write, E: Write, D>(
+    rt: &H,
+    alloc: Global,
+    mode: Mode,
+    service: &Service<N, D>,
+    client: &mut Client<N>,
+    reader: &mut R,
+    writer: &mut W,
+    explanations: &mut E,
+    dialect: Dialect,
+    most: Option<usize>,
+) -> Result<(), ScriptFault>
+where
+    N: Named + Send + Sync + 'static,
+    H: Wait,
+    D: Disk,
+    ensures played { IsPlayedBy mode dialect most (R.remaining reader.old) (talk client.old.member (W.contents writer.old)) (talk client.new.member (W.contents writer.new)) result }
+    ensures grows { Grows client.old.member client.new.member }
+{
+    play_while(
+        rt,
+        alloc,
+        mode,
+        service,
+        client,
+        reader,
+        writer,
+        explanations,
+        dialect,
+        most,
+        &Unhurried,
+    )
+}
+
+/// Does so in the plain mode: `play_in`.
 pub fn play<N, H, R: Read, W: Write, E: Write, D>(
     rt: &H,
     alloc: Global,
@@ -44,12 +81,13 @@ where
     N: Named + Send + Sync + 'static,
     H: Wait,
     D: Disk,
-    ensures played { IsPlayedBy dialect most (R.remaining reader.old) (talk client.old.member (W.contents writer.old)) (talk client.new.member (W.contents writer.new)) result }
+    ensures played { IsPlayedBy Plain dialect most (R.remaining reader.old) (talk client.old.member (W.contents writer.old)) (talk client.new.member (W.contents writer.new)) result }
     ensures grows { Grows client.old.member client.new.member }
 {
-    play_while(
+    play_in(
         rt,
         alloc,
+        Mode::Plain,
         service,
         client,
         reader,
@@ -57,7 +95,6 @@ where
         explanations,
         dialect,
         most,
-        &Unhurried,
     )
 }
 
@@ -65,6 +102,7 @@ where
 fn play_while<N, H, R: Read, W: Write, E: Write, D, P: Patience>(
     rt: &H,
     alloc: Global,
+    mode: Mode,
     service: &Service<N, D>,
     client: &mut Client<N>,
     reader: &mut R,
@@ -78,7 +116,7 @@ where
     N: Named + Send + Sync + 'static,
     H: Wait,
     D: Disk,
-    ensures played { IsPlayedBy dialect most (R.remaining reader.old) (talk client.old.member (W.contents writer.old)) (talk client.new.member (W.contents writer.new)) result }
+    ensures played { IsPlayedBy mode dialect most (R.remaining reader.old) (talk client.old.member (W.contents writer.old)) (talk client.new.member (W.contents writer.new)) result }
     ensures grows { Grows client.old.member client.new.member }
 {
     let mut script = Reading::new(reader);
@@ -86,6 +124,7 @@ where
         rt,
         alloc,
         service,
+        mode,
         most,
         patience,
     };
@@ -107,6 +146,7 @@ fn end_of(played: Result<(), ScriptFault>) -> Option<u32>
 fn attend_script<N, H, S, D>(
     rt: &H,
     alloc: Global,
+    mode: Mode,
     service: &Service<N, D>,
     client: &mut Client<N>,
     spool: &mut S,
@@ -121,11 +161,12 @@ where
     D: Disk,
     ensures taken { S.taken spool.new ≡ S.taken spool.old }
     ensures done { (delivered : Delivered) × (S.ended spool.new ≡ S.ended spool.old ++ delivered ∷ [])
-        × IsDoneBy (taken_as (S.Script.remaining script) (S.Answer.contents answer)) delivered client.old.member client.new.member }
+        × IsDoneBy mode (taken_as (S.Script.remaining script) (S.Answer.contents answer)) delivered client.old.member client.new.member }
 {
     let played = play_while(
         rt,
         alloc,
+        mode,
         service,
         client,
         &mut script,
@@ -146,6 +187,7 @@ where
 fn attend_one<N, H, S, D>(
     rt: &H,
     alloc: Global,
+    mode: Mode,
     service: &Service<N, D>,
     client: &mut Client<N>,
     spool: &mut S,
@@ -156,7 +198,7 @@ where
     H: Wait,
     S: Spool,
     D: Disk,
-    ensures { HasDone (given_by S.taken S.ended spool.old) client.old.member (given_by S.taken S.ended spool.new) client.new.member }
+    ensures { HasDone mode (given_by S.taken S.ended spool.old) client.old.member (given_by S.taken S.ended spool.new) client.new.member }
 {
     if spool.is_over() {
         return false;
@@ -164,17 +206,17 @@ where
     if meter.is_full() {
         return false;
     }
-    if let Some((script, answer)) = spool.next() {
+    if let Some((text, reply)) = spool.next() {
         meter.begin_script();
         let seen = client.receipts().len();
-        attend_script(rt, alloc, service, client, spool, meter, script, answer);
+        attend_script(rt, alloc, mode, service, client, spool, meter, text, reply);
         let entries = client.receipts().len().saturating_sub(seen);
         meter.end_script(entries as u64, client.held_since(seen));
     }
     true
 }
 
-/// Does the scripts of a spool one after another, by one client of a service, until the spool says that no more is to be taken, or the
+/// Does the scripts of a spool in a mode one after another, by one client of a service, until the spool says that no more is to be taken, or the
 /// meter is full that all clients of the service share. Of each 65,536 lines are done at most, and none behind those whose receipts hold more
 /// than 256 MiB; of one that has more the answer ends in the line of 52.
 ///
@@ -183,6 +225,30 @@ where
 ///
 /// A fault that ends a script, 51 to 54 or 61, ends it alone: its answer is handed over with the fault's number, and the next is taken. The line
 /// of the fault is the answer's last, but of 54 there is none: what becomes of an answer that can't be written is the spool's matter.
+pub fn attend_in<N, H, S, D>(
+    rt: &H,
+    alloc: Global,
+    mode: Mode,
+    service: &Service<N, D>,
+    client: &mut Client<N>,
+    spool: &mut S,
+    meter: &Meter,
+)
+where
+    N: Named + Send + Sync + 'static,
+    H: Wait,
+    S: Spool,
+    D: Disk,
+    ensures { HasDone mode (given_by S.taken S.ended spool.old) client.old.member (given_by S.taken S.ended spool.new) client.new.member }
+{
+    for _ in rt.forever() {
+        if !attend_one(rt, alloc, mode, service, client, spool, meter) {
+            break;
+        }
+    }
+}
+
+/// Does so in the plain mode: `attend_in`.
 pub fn attend<N, H, S, D>(
     rt: &H,
     alloc: Global,
@@ -196,11 +262,7 @@ where
     H: Wait,
     S: Spool,
     D: Disk,
-    ensures { HasDone (given_by S.taken S.ended spool.old) client.old.member (given_by S.taken S.ended spool.new) client.new.member }
+    ensures { HasDone Plain (given_by S.taken S.ended spool.old) client.old.member (given_by S.taken S.ended spool.new) client.new.member }
 {
-    for _ in rt.forever() {
-        if !attend_one(rt, alloc, service, client, spool, meter) {
-            break;
-        }
-    }
+    attend_in(rt, alloc, Mode::Plain, service, client, spool, meter);
 }

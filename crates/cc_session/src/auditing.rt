@@ -4,7 +4,7 @@ ghost use Rattle.std.specs.Prelude.{◌≡◌, IfOk};
 ghost use Rattle.std.specs.Option.{option_map};
 ghost use Rattle.cc_session.specs.Auditing.{IsSaidOf};
 
-use cc_link::{Audit, StoredUnit, audit};
+use cc_link::{Audit, Mode, StoredUnit, audit_in};
 use cc_service::Found;
 use std::alloc::{AllocError, Global};
 
@@ -18,13 +18,14 @@ fn certificate_of(unit: &StoredUnit) -> Option<&[u8]>
     }
 }
 
-// What an audit says of the unit that was found.
-pub(crate) fn audit_found(alloc: Global, found: &Found) -> Result<Audit, AllocError>
-    ensures { IfOk result (λ audit. IsSaidOf found.now.entry.reply audit) }
+// What an audit in a mode says of the unit that was found.
+pub(crate) fn audit_found(alloc: Global, mode: Mode, found: &Found) -> Result<Audit, AllocError>
+    ensures { IfOk result (λ audit. IsSaidOf mode found.now.entry.reply audit) }
 {
     let unit = found.unit().stored();
-    audit(
+    audit_in(
         alloc,
+        mode,
         unit.source.bytes(),
         certificate_of(unit),
         &unit.image,

@@ -23,6 +23,7 @@ use cc_answers::{
 use cc_disk::Disk;
 use cc_history::Receipt;
 use cc_library::Name;
+use cc_link::Mode;
 use cc_script::{
     Dialect, LINE_BYTES, MOST_BYTES, NextLine, ScriptCommand, ScriptFault, command_of,
 };
@@ -32,12 +33,13 @@ use std::alloc::Global;
 use std::io::{Read, Write};
 use std::sync::Wait;
 
-// What plays the scripts of a service's clients: of each so many lines at most, if there is a bound, and then while there is patience.
+// What plays the scripts of a service's clients, in a mode: of each so many lines at most, if there is a bound, and then while there is patience.
 #[derive(Drop)]
 pub(crate) struct Player<'a, N: Named, H, D: Disk, P> {
     pub(crate) rt: &'a H,
     pub(crate) alloc: Global,
     pub(crate) service: &'a Service<N, D>,
+    pub(crate) mode: Mode,
     pub(crate) most: Option<usize>,
     pub(crate) patience: &'a P,
 }
@@ -54,29 +56,37 @@ impl<'a, N: Named + Send + Sync + 'static, H: Wait, D: Disk, P: Patience> Player
         name: &[u8],
         source: &[u8],
     ) -> Result<Receipt, ServiceFault>
-        ensures { PutAnswers (Puts put name.now source.now) name.now source.now client.old.member client.new.member result }
+        ensures { PutAnswers self.now.mode (Puts put self.now.mode name.now source.now) name.now source.now client.old.member client.new.member result }
     {
-        let (rt, alloc, service) = (self.rt, self.alloc, self.service);
-        let prepared = match hints.take(script.position(), source) {
+        let (rt, alloc, service, mode) = (self.rt, self.alloc, self.service, self.mode);
+        let prepared = match hints.take(mode, script.position(), source) {
             Some(prepared) => Ok(prepared),
-            None => service.prepare(rt, alloc, client, source),
+            None => service.prepare_in(rt, alloc, client, mode, source),
         };
         let refused = match prepared {
             Ok(prepared) => {
                 if !service.is_busy() {
-                    hints.look_ahead(rt, alloc, service, client, script.position(), script.held());
+                    hints.look_ahead(
+                        rt,
+                        alloc,
+                        service,
+                        client,
+                        mode,
+                        script.position(),
+                        script.held(),
+                    );
                 }
                 service.put_prepared(rt, alloc, client, put, name, prepared)
             }
             Err(fault) => {
                 drop(fault);
-                return service.put(rt, alloc, client, put, name, source);
+                return service.put_in(rt, alloc, client, mode, put, name, source);
             }
         };
         match refused {
             Err(ServiceFault::OutOfMemory) | Err(ServiceFault::WorkersGone) => {
                 hints.forget();
-                service.put(rt, alloc, client, put, name, source)
+                service.put_in(rt, alloc, client, mode, put, name, source)
             }
             answer => answer,
         }
@@ -94,7 +104,7 @@ impl<'a, N: Named + Send + Sync + 'static, H: Wait, D: Disk, P: Patience> Player
         answers: &mut W,
         explanations: &mut E,
     ) -> Result<(), ScriptFault>
-        ensures { CallsAndTells (PutAnswers (Puts put name.now source.now) name.now source.now) (SaysChange source.now)
+        ensures { CallsAndTells (PutAnswers self.now.mode (Puts put self.now.mode name.now source.now) name.now source.now) (SaysChange source.now)
             (talk client.old.member (W.contents answers.old)) (talk client.new.member (W.contents answers.new)) result }
     {
         let answer = self.put_source(client, script, hints, put, name, source);
@@ -113,7 +123,7 @@ impl<'a, N: Named + Send + Sync + 'static, H: Wait, D: Disk, P: Patience> Player
         answers: &mut W,
         explanations: &mut E,
     ) -> Result<(), ScriptFault>
-        ensures done { IsDone (λ before after old new. IsSent (Puts put) name.now length before after old new) (IsShortOf length) (IsUnended length)
+        ensures done { IsDone (λ before after old new. IsSent self.now.mode (Puts put) name.now length before after old new) (IsShortOf length) (IsUnended length)
             script.old script.new (talk client.old.member (W.contents answers.old)) (talk client.new.member (W.contents answers.new)) result }
         ensures grows { Grows client.old.member client.new.member }
     {
@@ -255,9 +265,9 @@ impl<'a, N: Named + Send + Sync + 'static, H: Wait, D: Disk, P: Patience> Player
         answers: &mut W,
         explanations: &mut E,
     ) -> Result<bool, ScriptFault>
-        ensures { TellsAudit name.now (Ok found) (W.contents answers.old) (W.contents answers.new) result }
+        ensures { TellsAudit self.now.mode name.now (Ok found) (W.contents answers.old) (W.contents answers.new) result }
     {
-        match audit_found(self.alloc, &found) {
+        match audit_found(self.alloc, self.mode, &found) {
             Ok(audit) => match tell_audit(name, audit, answers) {
                 Ok(()) => Ok(true),
                 Err(fault) => Err(fault),
@@ -277,7 +287,7 @@ impl<'a, N: Named + Send + Sync + 'static, H: Wait, D: Disk, P: Patience> Player
         answers: &mut W,
         explanations: &mut E,
     ) -> Result<bool, ScriptFault>
-        ensures { AuditsName name.now (talk client.old.member (W.contents answers.old)) (talk client.new.member (W.contents answers.new)) result }
+        ensures { AuditsName self.now.mode name.now (talk client.old.member (W.contents answers.old)) (talk client.new.member (W.contents answers.new)) result }
     {
         match self.service.get(self.rt, self.alloc, client, name) {
             Ok(found) => self.audit_unit(name, found, answers, explanations),
@@ -296,7 +306,7 @@ impl<'a, N: Named + Send + Sync + 'static, H: Wait, D: Disk, P: Patience> Player
         answers: &mut W,
         explanations: &mut E,
     ) -> Result<bool, ScriptFault>
-        ensures { AuditsNames names.now (talk client.old.member (W.contents answers.old)) (talk client.new.member (W.contents answers.new)) result }
+        ensures { AuditsNames self.now.mode names.now (talk client.old.member (W.contents answers.old)) (talk client.new.member (W.contents answers.new)) result }
     {
         for name in names {
             match self.audit_name(client, name.bytes(), answers, explanations) {
@@ -315,7 +325,7 @@ impl<'a, N: Named + Send + Sync + 'static, H: Wait, D: Disk, P: Patience> Player
         answers: &mut W,
         explanations: &mut E,
     ) -> Result<(), ScriptFault>
-        ensures { DoesAndTells Audits (talk client.old.member (W.contents answers.old)) (talk client.new.member (W.contents answers.new)) result }
+        ensures { DoesAndTells (Audits self.now.mode) (talk client.old.member (W.contents answers.old)) (talk client.new.member (W.contents answers.new)) result }
     {
         match self.service.list(self.rt, self.alloc, client) {
             Ok(listing) => {
@@ -341,7 +351,7 @@ impl<'a, N: Named + Send + Sync + 'static, H: Wait, D: Disk, P: Patience> Player
         answers: &mut W,
         explanations: &mut E,
     ) -> Result<(), ScriptFault>
-        ensures done { IsObeyed self.now.most (asked_of dialect line.now)
+        ensures done { IsObeyed self.now.mode self.now.most (asked_of dialect line.now)
             script.old script.new (talk client.old.member (W.contents answers.old)) (talk client.new.member (W.contents answers.new)) result }
         ensures grows { Grows client.old.member client.new.member }
     {
@@ -400,7 +410,7 @@ impl<'a, N: Named + Send + Sync + 'static, H: Wait, D: Disk, P: Patience> Player
         explanations: &mut E,
     ) -> Result<(), ScriptFault>
         requires { script.old.left ≡ 16777216 }
-        ensures halted { IsHalted dialect self.now.most script.old.rest (talk client.old.member (W.contents answers.old)) (talk client.new.member (W.contents answers.new)) result }
+        ensures halted { IsHalted self.now.mode dialect self.now.most script.old.rest (talk client.old.member (W.contents answers.old)) (talk client.new.member (W.contents answers.new)) result }
         ensures grows { Grows client.old.member client.new.member }
     {
         let mut line = [0u8; LINE_BYTES];
@@ -436,7 +446,7 @@ impl<'a, N: Named + Send + Sync + 'static, H: Wait, D: Disk, P: Patience> Player
         explanations: &mut E,
     ) -> Result<(), ScriptFault>
         requires { script.old.left ≡ 16777216 }
-        ensures played { IsPlayedBy dialect self.now.most script.old.rest (talk client.old.member (W.contents answers.old)) (talk client.new.member (W.contents answers.new)) result }
+        ensures played { IsPlayedBy self.now.mode dialect self.now.most script.old.rest (talk client.old.member (W.contents answers.old)) (talk client.new.member (W.contents answers.new)) result }
         ensures grows { Grows client.old.member client.new.member }
     {
         let mut hints = Hints::new(self.alloc);

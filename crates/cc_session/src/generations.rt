@@ -1,6 +1,7 @@
 // Serving on and on: each generation is one service, and the next begins with the disk and the spools that it left.
 
-ghost use Rattle.std.specs.Prelude.{◌≡◌, ◌≤◌, ℕ, zero, suc, true, map};
+ghost use Rattle.std.specs.Prelude.{◌≡◌, ◌≢◌, ◌≤◌, ℕ, All, zero, suc, true, false, map};
+ghost use Rattle.cc_c_laws.specs.declared.mode.Mode.TheVariants.{Plain};
 ghost use Rattle.cc_session.specs.Generations.{GoesOn, ServesOn};
 ghost use Rattle.cc_session.specs.declared.end.SessionEnd.TheVariants.{Finished};
 ghost use Rattle.cc_session.specs.Spooling.{ServingEnds, given_by};
@@ -12,6 +13,7 @@ use crate::steward::Steward;
 use crate::telling::tell_end;
 use cc_answers::explain_words;
 use cc_disk::Disk;
+use cc_link::Mode;
 use cc_service::NoGate;
 use cc_spool::Spool;
 use std::alloc::Global;
@@ -27,7 +29,8 @@ const MOST_PAUSE: u64 = 60;
 
 // Whether each spool is over.
 fn are_over<S: Spool>(spools: &mut [S]) -> bool
-    ensures { map (given_by S.taken S.ended) spools.new ≡ map (given_by S.taken S.ended) spools.old }
+    ensures over { result ≡ true → All S.over spools.new }
+    ensures spools { map (given_by S.taken S.ended) spools.new ≡ map (given_by S.taken S.ended) spools.old }
 {
     for i in 0..spools.len() {
         if !spools[i].is_over() {
@@ -39,7 +42,8 @@ fn are_over<S: Spool>(spools: &mut [S]) -> bool
 
 // Waits for so many seconds, or until each spool is over; whether it is.
 fn rest<H: Clock, S: Spool>(rt: &H, seconds: u64, spools: &mut [S]) -> bool
-    ensures { map (given_by S.taken S.ended) spools.new ≡ map (given_by S.taken S.ended) spools.old }
+    ensures over { result ≡ true → All S.over spools.new }
+    ensures spools { map (given_by S.taken S.ended) spools.new ≡ map (given_by S.taken S.ended) spools.old }
 {
     for _ in 0..seconds {
         if are_over(spools) {
@@ -52,7 +56,8 @@ fn rest<H: Clock, S: Spool>(rt: &H, seconds: u64, spools: &mut [S]) -> bool
 
 // Whether the first generation ended so that a next one may begin.
 fn is_well(end: SessionEnd) -> bool
-    ensures { result ≡ true → GoesOn zero end }
+    ensures well { result ≡ true → GoesOn zero end }
+    ensures not { result ≡ false → end ≢ Finished }
 {
     match end {
         SessionEnd::Finished => true,
@@ -62,7 +67,8 @@ fn is_well(end: SessionEnd) -> bool
 
 // Whether a later one did: without a fault, or by one that may pass.
 fn may_pass(end: SessionEnd) -> bool
-    ensures { result ≡ true → GoesOn (suc zero) end }
+    ensures passes { result ≡ true → GoesOn (suc zero) end }
+    ensures not { result ≡ false → end ≢ Finished }
 {
     match end {
         SessionEnd::Finished => true,
@@ -104,6 +110,7 @@ fn goes_on<H: Clock, E: Write, D: Drop, S: Spool + Drop>(
     explanations: &mut E,
 ) -> bool
     ensures may { result ≡ true → GoesOn (suc zero) left.old.end }
+    ensures over { result ≡ false → left.new.end ≡ Finished → All S.over left.new.spools.items }
     ensures end { left.new.end ≡ left.old.end }
     ensures disk { left.new.disk ≡ left.old.disk }
     ensures spools { map (given_by S.taken S.ended) left.new.spools.items ≡ map (given_by S.taken S.ended) left.old.spools.items }
@@ -120,6 +127,7 @@ fn goes_on<H: Clock, E: Write, D: Drop, S: Spool + Drop>(
 fn serve_all<H, S, E, D, T>(
     rt: &H,
     alloc: Global,
+    mode: Mode,
     spools: Vec<S>,
     explanations: &mut E,
     disk: D,
@@ -135,12 +143,14 @@ where
     T: Steward,
     requires some { 1 ≤ workers }
     requires few { workers ≤ 8 }
-    ensures generations { (earlier : ℕ) × ServesOn (ServingEnds D.Disk) earlier
+    ensures generations { (earlier : ℕ) × ServesOn (ServingEnds mode D.Disk) earlier
         (map (given_by S.taken S.ended) spools.items) (map (given_by S.taken S.ended) result.spools.items) disk result.disk result.end }
+    ensures over { result.end ≡ Finished → All S.over result.spools.items }
 {
     let mut left = serve_quietly(
         rt,
         alloc,
+        mode,
         spools,
         explanations,
         disk,
@@ -155,7 +165,7 @@ where
     let mut pause = 0;
     for _ in rt.forever() {
         if !goes_on(rt, &mut left, &mut pause, explanations) {
-            break;
+            return left;
         }
         let Served {
             disk,
@@ -165,6 +175,7 @@ where
         left = serve_quietly(
             rt,
             alloc,
+            mode,
             spools,
             explanations,
             disk,
@@ -174,10 +185,10 @@ where
             steward,
         );
     }
-    left
+    unreachable!()
 }
 
-/// Serves as `serve` does, one generation behind the other, until each spool is over or a service ends by a fault. A generation begins with
+/// Serves as `serve_in` does, one generation behind the other, until each spool is over or a service ends by a fault. A generation begins with
 /// the disk and the spools that the one before left; the numbers of its receipts begin at 1. Between two of them no script is taken, for as
 /// long as the service's end, the opening of the library and `steward` take.
 ///
@@ -185,7 +196,51 @@ where
 /// to a minute. The first fault of a row is explained on `explanations`. It ends by that fault only if each spool is over then. Any fault of the
 /// first generation ends it.
 ///
-/// What goes to `writer` and `explanations`, and what is handed back, is as with `serve`, of the last generation.
+/// What goes to `writer` and `explanations`, and what is handed back, is as with `serve_in`, of the last generation.
+pub fn serve_on_in<H, S, W, E, D, T>(
+    rt: &H,
+    alloc: Global,
+    mode: Mode,
+    spools: Vec<S>,
+    writer: &mut W,
+    explanations: &mut E,
+    disk: D,
+    workers: usize,
+    bounds: Bounds,
+    steward: &mut T,
+) -> Served<D, S>
+where
+    H: Threads + Wait + Clock + Copy + Send + Sync + 'static,
+    S: Spool + Send + Drop,
+    W: Write,
+    E: Write,
+    D: Disk + Send + Drop,
+    T: Steward,
+    requires some { 1 ≤ workers }
+    requires few { workers ≤ 8 }
+    ensures generations { (earlier : ℕ) × ServesOn (ServingEnds mode D.Disk) earlier
+        (map (given_by S.taken S.ended) spools.items) (map (given_by S.taken S.ended) result.spools.items) disk result.disk result.end }
+    // If no fault ended it, each spool has said that it is over.
+    ensures over { result.end ≡ Finished → All S.over result.spools.items }
+    // Nothing is written where no fault ended it.
+    ensures still { result.end ≡ Finished → W.contents writer.new ≡ W.contents writer.old }
+{
+    let left = serve_all(
+        rt,
+        alloc,
+        mode,
+        spools,
+        explanations,
+        disk,
+        workers,
+        bounds,
+        steward,
+    );
+    tell_end(alloc, left.end, writer, explanations);
+    left
+}
+
+/// Does so in the plain mode: `serve_on_in`.
 pub fn serve_on<H, S, W, E, D, T>(
     rt: &H,
     alloc: Global,
@@ -206,21 +261,23 @@ where
     T: Steward,
     requires some { 1 ≤ workers }
     requires few { workers ≤ 8 }
-    ensures generations { (earlier : ℕ) × ServesOn (ServingEnds D.Disk) earlier
+    ensures generations { (earlier : ℕ) × ServesOn (ServingEnds Plain D.Disk) earlier
         (map (given_by S.taken S.ended) spools.items) (map (given_by S.taken S.ended) result.spools.items) disk result.disk result.end }
+    // If no fault ended it, each spool has said that it is over.
+    ensures over { result.end ≡ Finished → All S.over result.spools.items }
     // Nothing is written where no fault ended it.
     ensures still { result.end ≡ Finished → W.contents writer.new ≡ W.contents writer.old }
 {
-    let left = serve_all(
+    serve_on_in(
         rt,
         alloc,
+        Mode::Plain,
         spools,
+        writer,
         explanations,
         disk,
         workers,
         bounds,
         steward,
-    );
-    tell_end(alloc, left.end, writer, explanations);
-    left
+    )
 }

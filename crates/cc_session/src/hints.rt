@@ -7,6 +7,7 @@
 ghost use Rattle.std.specs.Prelude.{◌≡◌, IfSome};
 
 use cc_disk::Disk;
+use cc_link::Mode;
 use cc_script::{Dialect, LINE_BYTES, ScriptCommand, command_of};
 use cc_service::{Client, Named, Prepared, Service};
 use std::alloc::Global;
@@ -90,8 +91,9 @@ impl<N: Named + Send + Sync + 'static> Hints<N> {
     }
 
     // What was handed in of a source, which was read up to here, if it is this one. Those of commands before it are let go.
-    pub(crate) fn take(&mut self, at: usize, source: &[u8]) -> Option<Prepared<N>>
-        ensures { IfSome result (λ prepared. prepared ≡ source.now) }
+    pub(crate) fn take(&mut self, mode: Mode, at: usize, source: &[u8]) -> Option<Prepared<N>>
+        ensures text { IfSome result (λ prepared. prepared.text ≡ source.now) }
+        ensures mode { IfSome result (λ prepared. prepared.mode ≡ mode) }
     {
         for _ in 0..self.hints.len() {
             match self.hints.front() {
@@ -101,7 +103,7 @@ impl<N: Named + Send + Sync + 'static> Hints<N> {
             let Some(Hint { at: its, prepared }) = self.hints.pop_front() else {
                 return None;
             };
-            if its == at && prepared.text() == source {
+            if its == at && prepared.mode() == mode && prepared.text() == source {
                 return Some(prepared);
             }
             drop(prepared);
@@ -116,6 +118,7 @@ impl<N: Named + Send + Sync + 'static> Hints<N> {
         alloc: Global,
         service: &Service<N, D>,
         client: &mut Client<N>,
+        mode: Mode,
         at: usize,
         held: &[u8],
     )
@@ -131,7 +134,7 @@ impl<N: Named + Send + Sync + 'static> Hints<N> {
             };
             self.looked = at.saturating_add(end).saturating_add(1);
             let source = held.get(begin..end).unwrap_or(b"");
-            self.hand_in(rt, alloc, service, client, source);
+            self.hand_in(rt, alloc, service, client, mode, source);
         }
     }
 
@@ -142,11 +145,12 @@ impl<N: Named + Send + Sync + 'static> Hints<N> {
         alloc: Global,
         service: &Service<N, D>,
         client: &mut Client<N>,
+        mode: Mode,
         source: &[u8],
     )
         ensures { client.new.member ≡ client.old.member }
     {
-        match service.prepare(rt, alloc, client, source) {
+        match service.prepare_in(rt, alloc, client, mode, source) {
             Ok(prepared) => {
                 let at = self.looked;
                 let _ = self.hints.push_back(Hint { at, prepared });

@@ -8,7 +8,7 @@
 //! `showing` has the text of its image or its source, `telling` tells what the service answered, `end` is how a session ended. Which commands
 //! a script has is the matter of `cc_script`, where scripts come from that of `cc_spool`, how an answer is written and a fault explained that
 //! of `cc_answers`.
-//! It hands out `session`, `session_and_explain`, `serve`, `serve_on`, `Served`, `attend`, `play` and `SessionEnd`; `Bounds`, `BOUNDS`,
+//! It hands out `session`, `session_and_explain`, `serve`, `serve_on`, `attend` and `play`, all but the first in a mode too; `Served` and `SessionEnd`; `Bounds`, `BOUNDS`,
 //! `Meter`; `Steward`, `NoSteward`, `Generation`, `GenerationEnd`; `Gate` and `NoGate`.
 #![tactic(auto)]
 
@@ -28,11 +28,11 @@ mod showing;
 mod steward;
 mod telling;
 
-pub use attending::{attend, play};
+pub use attending::{attend, attend_in, play, play_in};
 pub use bounds::{BOUNDS, Bounds, Meter};
 pub use cc_service::{Gate, NoGate};
 pub use end::SessionEnd;
-pub use generations::serve_on;
-pub use running::{session, session_and_explain};
-pub use serving::{Served, serve};
+pub use generations::{serve_on, serve_on_in};
+pub use running::{session, session_and_explain, session_and_explain_in};
+pub use serving::{Served, serve, serve_in};
 pub use steward::{Generation, GenerationEnd, NoSteward, Steward};

@@ -2,6 +2,7 @@
 
 ghost use Rattle.std.specs.Prelude.{◌≡◌, ◌≤◌, ◌<◌, ℕ, List, [], Option, IsTrue, IfOk, IfErr, vec_len};
 ghost use Rattle.std.specs.Vec.{vec_capacity};
+ghost use Rattle.cc_c_laws.specs.declared.mode.Mode.TheVariants.{Plain};
 ghost use Rattle.cc_disk.specs.Images.{OnlyReads};
 ghost use Rattle.cc_library.specs.Answers.{OpenFaults};
 ghost use Rattle.cc_library.specs.Apply.{Units};
@@ -21,6 +22,7 @@ use crate::telling::{refused, tell_estranged};
 use cc_answers::tell_no_memory;
 use cc_disk::Disk;
 use cc_library::{Library, LibraryFault};
+use cc_link::Mode;
 use cc_script::{Dialect, ScriptFault};
 use cc_service::{Client, Closed, Fresh, Gate, Named, NoGate, Service, ServiceFault};
 use std::alloc::Global;
@@ -103,6 +105,7 @@ fn ended(played: Result<(), ScriptFault>) -> SessionEnd
 fn play_alone<N, H, R, W, E, D>(
     rt: &H,
     alloc: Global,
+    mode: Mode,
     script: &mut Reading<R>,
     service: &Service<N, D>,
     clients: &mut Vec<Client<N>>,
@@ -120,7 +123,7 @@ where
     requires none { clients.old.items ≡ [] }
     requires fresh { script.old.left ≡ 16777216 }
     ensures { (end : SessionEnd) (after : Option (List ℕ)) → (end ≡ result → after ≡ W.contents answers.new)
-        → HaveCalled script.old.rest (W.contents answers.old) after end (members clients.new.items) result }
+        → HaveCalled mode script.old.rest (W.contents answers.old) after end (members clients.new.items) result }
 {
     match service.client(rt, alloc) {
         Ok(mut client) => {
@@ -128,6 +131,7 @@ where
                 rt,
                 alloc,
                 service,
+                mode,
                 most: None,
                 patience: &Unhurried,
             };
@@ -186,6 +190,7 @@ where
 fn do_script<N, H, R, W, E, D, G>(
     rt: &H,
     alloc: Global,
+    mode: Mode,
     script: &mut Reading<R>,
     begun: Begun<D>,
     workers: usize,
@@ -211,7 +216,7 @@ where
     requires some { 1 ≤ workers }
     requires few { workers ≤ 8 }
     requires fresh { script.old.left ≡ 16777216 }
-    ensures { EndsSince D.Disk N.from N.left (Unit {0}) (HaveCalled script.old.rest (W.contents answers.old) (W.contents answers.new) result.1) begun.library.disk result.0 result.1 }
+    ensures { EndsSince D.Disk N.from N.left (Unit {0}) (HaveCalled mode script.old.rest (W.contents answers.old) (W.contents answers.new) result.1) begun.library.disk result.0 result.1 }
 {
     let Begun {
         library,
@@ -229,6 +234,7 @@ where
             let played = play_alone(
                 rt,
                 alloc,
+                mode,
                 script,
                 &service,
                 &mut clients,
@@ -244,12 +250,13 @@ where
     }
 }
 
-/// Does the commands of a script as `session` does, and writes to `explanations` what helps a person with a fault: the place in the source
+/// Does the commands of a script in a mode as `session` does, and writes to `explanations` what helps a person with a fault: the place in the source
 /// that was sent, as `check` tells it, or a few words. Where such a write fails the session goes on. The workers pass `gate`, so that who
 /// waits can be told how far a long `add` is.
-pub fn session_and_explain<H, R: Read, W: Write, E: Write, D: Disk + Drop, G>(
+pub fn session_and_explain_in<H, R: Read, W: Write, E: Write, D: Disk + Drop, G>(
     rt: &H,
     alloc: Global,
+    mode: Mode,
     reader: &mut R,
     writer: &mut W,
     explanations: &mut E,
@@ -262,7 +269,7 @@ where
     G: Gate + Drop + Send + Sync + 'static,
     requires some { 1 ≤ workers }
     requires few { workers ≤ 8 }
-    ensures answers { SessionEnds D.Disk (R.remaining reader.old) (W.contents writer.old) (W.contents writer.new) disk result.0 result.1 }
+    ensures answers { SessionEnds mode D.Disk (R.remaining reader.old) (W.contents writer.old) (W.contents writer.new) disk result.0 result.1 }
 {
     let mut script = Reading::new(reader);
     match begin(alloc, disk) {
@@ -270,6 +277,7 @@ where
             let (disk, end) = do_script::<Brand, H, &mut R, W, E, D, G>(
                 rt,
                 alloc,
+                mode,
                 &mut script,
                 begun,
                 workers,
@@ -285,6 +293,37 @@ where
             (Some(disk), SessionEnd::Fault(number))
         }
     }
+}
+
+/// Does so in the plain mode: `session_and_explain_in`.
+pub fn session_and_explain<H, R: Read, W: Write, E: Write, D: Disk + Drop, G>(
+    rt: &H,
+    alloc: Global,
+    reader: &mut R,
+    writer: &mut W,
+    explanations: &mut E,
+    disk: D,
+    workers: usize,
+    gate: G,
+) -> (Option<D>, SessionEnd)
+where
+    H: Threads + Wait + Copy + Send + 'static,
+    G: Gate + Drop + Send + Sync + 'static,
+    requires some { 1 ≤ workers }
+    requires few { workers ≤ 8 }
+    ensures answers { SessionEnds Plain D.Disk (R.remaining reader.old) (W.contents writer.old) (W.contents writer.new) disk result.0 result.1 }
+{
+    session_and_explain_in(
+        rt,
+        alloc,
+        Mode::Plain,
+        reader,
+        writer,
+        explanations,
+        disk,
+        workers,
+        gate,
+    )
 }
 
 /// Opens the library on a disk as a service with this many workers, 1 to 8, does the commands of a script by one client, and ends the
@@ -310,7 +349,7 @@ where
     H: Threads + Wait + Copy + Send + 'static,
     requires some { 1 ≤ workers }
     requires few { workers ≤ 8 }
-    ensures answers { SessionEnds D.Disk (R.remaining reader.old) (W.contents writer.old) (W.contents writer.new) disk result.0 result.1 }
+    ensures answers { SessionEnds Plain D.Disk (R.remaining reader.old) (W.contents writer.old) (W.contents writer.new) disk result.0 result.1 }
 {
     session_and_explain(
         rt,

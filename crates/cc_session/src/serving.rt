@@ -5,6 +5,7 @@
 
 ghost use Rattle.std.specs.Prelude.{◌≡◌, ◌≤◌, ◌<◌, ℕ, All, List, [], IsTrue, IfOk, IfErr, OnOk, length, map, slice_index_or, vec_len};
 ghost use Rattle.std.specs.Vec.{vec_capacity};
+ghost use Rattle.cc_c_laws.specs.declared.mode.Mode.TheVariants.{Plain};
 ghost use Rattle.cc_library.specs.Apply.{Units};
 ghost use Rattle.cc_library.specs.Recovered.{Recovers};
 ghost use Rattle.cc_service.specs.Client.{members};
@@ -16,7 +17,7 @@ ghost use Rattle.cc_session.specs.Session.{EndsSince, HasEnded};
 ghost use Rattle.cc_session.specs.declared.end.SessionEnd.TheVariants.{Fault, Finished};
 ghost use Rattle.cc_session.specs.Spooling.{HasDone, HaveServed, ServingEnds, given_by};
 
-use crate::attending::attend;
+use crate::attending::attend_in;
 use crate::bounds::{Bounds, Meter};
 use crate::end::SessionEnd;
 use crate::running::{Begun, begin, finish};
@@ -24,6 +25,7 @@ use crate::steward::Steward;
 use crate::telling::tell_end;
 use cc_disk::Disk;
 use cc_library::LibraryFault;
+use cc_link::Mode;
 use cc_service::{Client, Gate, Named, Service, ServiceFault};
 use cc_spool::Spool;
 use std::alloc::{AllocError, Global};
@@ -134,6 +136,7 @@ fn dismiss<N: Named, S: Drop>(
 fn attend_post<N, H, S, D>(
     rt: &H,
     alloc: Global,
+    mode: Mode,
     service: &Service<N, D>,
     post: &mut Post<N, S>,
     meter: &Meter,
@@ -143,9 +146,17 @@ where
     H: Wait,
     S: Spool,
     D: Disk,
-    ensures { HasDone (given_by S.taken S.ended post.old.spool) post.old.client.member (given_by S.taken S.ended post.new.spool) post.new.client.member }
+    ensures { HasDone mode (given_by S.taken S.ended post.old.spool) post.old.client.member (given_by S.taken S.ended post.new.spool) post.new.client.member }
 {
-    attend(rt, alloc, service, &mut post.client, &mut post.spool, meter);
+    attend_in(
+        rt,
+        alloc,
+        mode,
+        service,
+        &mut post.client,
+        &mut post.spool,
+        meter,
+    );
 }
 
 // Each client does the scripts of its spool, in a thread of its own where one can be made. Those for which none can be made begin when others
@@ -153,6 +164,7 @@ where
 fn attend_all<N, H, S, D>(
     rt: &H,
     alloc: Global,
+    mode: Mode,
     service: &Service<N, D>,
     posts: &mut [Post<N, S>],
     meter: &Meter,
@@ -162,7 +174,7 @@ where
     H: Threads + Wait + Send + Sync,
     S: Spool + Send,
     D: Disk + Send,
-    ensures { (i : ℕ) (d : _) → i < length posts.old → HasDone
+    ensures { (i : ℕ) (d : _) → i < length posts.old → HasDone mode
         (given_by S.taken S.ended (slice_index_or posts.old i d).spool) (slice_index_or posts.old i d).client.member
         (given_by S.taken S.ended (slice_index_or posts.new i d).spool) (slice_index_or posts.new i d).client.member }
 {
@@ -174,7 +186,7 @@ where
         rt,
         posts,
         count,
-        &|_, post| attend_post(rt, alloc, service, post, meter),
+        &|_, post| attend_post(rt, alloc, mode, service, post, meter),
     );
 }
 
@@ -190,6 +202,7 @@ struct Worked<N: Named, S> {
 fn work<N, H, S, E, D, T>(
     rt: &H,
     alloc: Global,
+    mode: Mode,
     service: &Service<N, D>,
     room: Room<N, S>,
     spools: Vec<S>,
@@ -207,7 +220,7 @@ where
     requires posts { (room.posts.items ≡ []) × (vec_len spools ≤ vec_capacity room.posts) }
     requires clients { (room.clients.items ≡ []) × (vec_len spools ≤ vec_capacity room.clients) }
     requires spools { (room.spools.items ≡ []) × (vec_len spools ≤ vec_capacity room.spools) }
-    ensures { HaveServed (map (given_by S.taken S.ended) spools.items) (map (given_by S.taken S.ended) result.spools.items) (members result.clients.items) result.end }
+    ensures { HaveServed mode (map (given_by S.taken S.ended) spools.items) (map (given_by S.taken S.ended) result.spools.items) (members result.clients.items) result.end }
 {
     let Room {
         mut posts,
@@ -218,7 +231,7 @@ where
         Ok(()) => {
             pair(&mut clients, spools, &mut posts);
             steward.opened(explanations);
-            attend_all(rt, alloc, service, posts.as_mut_slice(), meter);
+            attend_all(rt, alloc, mode, service, posts.as_mut_slice(), meter);
             dismiss(posts, &mut clients, &mut left);
             Worked {
                 clients,
@@ -269,6 +282,7 @@ fn unserved<S: Spool + Drop, D: Disk + Drop>(
 fn serve_opened<N, H, S, E, D, T>(
     rt: &H,
     alloc: Global,
+    mode: Mode,
     service: Service<N, D>,
     room: Room<N, S>,
     spools: Vec<S>,
@@ -288,7 +302,7 @@ where
     requires spools { (room.spools.items ≡ []) × (vec_len spools ≤ vec_capacity room.spools) }
     // Whatever bytes those were that recover to the map that the service's type names.
     ensures { (bytes : List ℕ) → (IsTrue D.honest → Recovers bytes N.base) → HasEnded D.Disk bytes N.from N.left
-        (HaveServed (map (given_by S.taken S.ended) spools.items) (map (given_by S.taken S.ended) result.spools.items)) result.end result.disk }
+        (HaveServed mode (map (given_by S.taken S.ended) spools.items) (map (given_by S.taken S.ended) result.spools.items)) result.end result.disk }
 {
     let meter = Meter::new(bounds);
     let Worked {
@@ -298,6 +312,7 @@ where
     } = work(
         rt,
         alloc,
+        mode,
         &service,
         room,
         spools,
@@ -324,6 +339,7 @@ where
 fn serve_begun<N, H, S, E, D, G, T>(
     rt: &H,
     alloc: Global,
+    mode: Mode,
     begun: Begun<D>,
     spools: Vec<S>,
     workers: usize,
@@ -350,7 +366,7 @@ where
     requires some { 1 ≤ workers }
     requires few { workers ≤ 8 }
     ensures { let before = map (given_by S.taken S.ended) spools.items in let after = map (given_by S.taken S.ended) result.spools.items in
-        EndsSince D.Disk N.from N.left (after ≡ before) (HaveServed before after) begun.library.disk result.disk result.end }
+        EndsSince D.Disk N.from N.left (after ≡ before) (HaveServed mode before after) begun.library.disk result.disk result.end }
 {
     let Begun {
         library,
@@ -366,6 +382,7 @@ where
         Ok(service) => serve_opened(
             rt,
             alloc,
+            mode,
             service,
             room,
             spools,
@@ -384,6 +401,7 @@ where
 pub(crate) fn serve_quietly<H, S, E, D, G, T>(
     rt: &H,
     alloc: Global,
+    mode: Mode,
     spools: Vec<S>,
     explanations: &mut E,
     disk: D,
@@ -401,13 +419,14 @@ where
     T: Steward,
     requires some { 1 ≤ workers }
     requires few { workers ≤ 8 }
-    ensures answers { ServingEnds D.Disk
+    ensures answers { ServingEnds mode D.Disk
         (map (given_by S.taken S.ended) spools.items) (map (given_by S.taken S.ended) result.spools.items) disk result.disk result.end }
 {
     match begin(alloc, disk) {
         Ok(begun) => serve_begun::<Brand, H, S, E, D, G, T>(
             rt,
             alloc,
+            mode,
             begun,
             spools,
             workers,
@@ -421,7 +440,7 @@ where
 }
 
 /// Opens the library on a disk as a service with this many workers, 1 to 8, and a client for each spool, 1,024 at most. Each client does
-/// the scripts that its spool gives, as `attend` says, until this is over or the clients together have done as much as `bounds` says; then
+/// the scripts that its spool gives in a mode, as `attend_in` says, until this is over or the clients together have done as much as `bounds` says; then
 /// the service is ended. It does so in a thread of its own where one can be made; those for which none can be made begin when others have
 /// ended. The workers pass `gate`, so that who waits can be told how far a long `add` is. `steward` is told when scripts are taken and, where
 /// they were, how the service ended.
@@ -429,6 +448,51 @@ where
 /// The line of a fault of the opening (35, 37, 38, 40, 41; 30 where there are too many spools) or of the end (39, 40) goes to `writer`,
 /// and what helps a person with it to `explanations`. `end` is the first, or 39, and is written. A fault that ends a script is told in its
 /// answer alone. Disk and spools are handed back after each.
+pub fn serve_in<H, S, W, E, D, G, T>(
+    rt: &H,
+    alloc: Global,
+    mode: Mode,
+    spools: Vec<S>,
+    writer: &mut W,
+    explanations: &mut E,
+    disk: D,
+    workers: usize,
+    gate: G,
+    bounds: Bounds,
+    steward: &mut T,
+) -> Served<D, S>
+where
+    H: Threads + Wait + Copy + Send + Sync + 'static,
+    S: Spool + Send + Drop,
+    W: Write,
+    E: Write,
+    D: Disk + Send + Drop,
+    G: Gate + Drop + Send + Sync + 'static,
+    T: Steward,
+    requires some { 1 ≤ workers }
+    requires few { workers ≤ 8 }
+    ensures answers { ServingEnds mode D.Disk
+        (map (given_by S.taken S.ended) spools.items) (map (given_by S.taken S.ended) result.spools.items) disk result.disk result.end }
+    // Nothing is written where no fault ended it.
+    ensures still { result.end ≡ Finished → W.contents writer.new ≡ W.contents writer.old }
+{
+    let left = serve_quietly(
+        rt,
+        alloc,
+        mode,
+        spools,
+        explanations,
+        disk,
+        workers,
+        gate,
+        bounds,
+        steward,
+    );
+    tell_end(alloc, left.end, writer, explanations);
+    left
+}
+
+/// Does so in the plain mode: `serve_in`.
 pub fn serve<H, S, W, E, D, G, T>(
     rt: &H,
     alloc: Global,
@@ -451,22 +515,22 @@ where
     T: Steward,
     requires some { 1 ≤ workers }
     requires few { workers ≤ 8 }
-    ensures answers { ServingEnds D.Disk
+    ensures answers { ServingEnds Plain D.Disk
         (map (given_by S.taken S.ended) spools.items) (map (given_by S.taken S.ended) result.spools.items) disk result.disk result.end }
     // Nothing is written where no fault ended it.
     ensures still { result.end ≡ Finished → W.contents writer.new ≡ W.contents writer.old }
 {
-    let left = serve_quietly(
+    serve_in(
         rt,
         alloc,
+        Mode::Plain,
         spools,
+        writer,
         explanations,
         disk,
         workers,
         gate,
         bounds,
         steward,
-    );
-    tell_end(alloc, left.end, writer, explanations);
-    left
+    )
 }

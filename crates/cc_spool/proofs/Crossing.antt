@@ -50,4 +50,4 @@ queue_send = struct_send (shape Queue.the_type) (let l = layout_send in search (
 pub folder_send : IsSend FolderSpool.the_row
 folder_send =
     recorded_send _ _ _ FolderSpool.the_type.to_one (struct_send (shape FolderSpool.the_type)
-    (queue_send, (search (sendable, crosses) depth 20, (history_send (Option.the_row u32) end_send, tt))))
+    (queue_send, (search (sendable, crosses) depth 20, (history_send (Option.the_row u32) end_send, (search (sendable, crosses) depth 20, tt)))))

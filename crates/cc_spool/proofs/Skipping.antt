@@ -1,5 +1,5 @@
 -- Who reads a source in an answer is behind it where it was before.
-use Rattle.std.proofs.Common.{◌≡◌, ◌∙◌, ℕ, ◌+◌, ◌-◌, ◌*◌, ◌<◌, ◌≤◌, ◌^◌, zero, suc, List, [], ◌∷◌, ◌++◌, length, Option, Result, Ok, Err, Vec, Global, refl, sym, ap, subst, append_assoc, arith, codes}
+use Rattle.std.proofs.Common.{◌≡◌, ◌∙◌, ℕ, ◌+◌, ◌*◌, ◌<◌, ◌≤◌, suc, List, [], ◌∷◌, ◌++◌, length, Option, Result, Ok, Err, Vec, Global, refl, sym, ap, subst, append_assoc, arith, codes}
 use Rattle.std.specs.Prelude.{IfOk}
 use Rattle.std.specs.Char.{digit_value}
 use Rattle.std.specs.Fmt.{decimal}
@@ -11,18 +11,18 @@ use Rattle.std.proofs.lemmas.Str.Parse.{digit_from_value}
 use Rattle.cc_spool.specs.Answer.{between, framed, place_behind, read_byte, read_bytes, told_at, with_digit}
 use Rattle.cc_spool.specs.declared.lines.Lines.{Lines}
 use Rattle.cc_spool.specs.declared.lines.Place.{Place}
-use Rattle.cc_spool.specs.declared.lines.Place.TheVariants.{Behind, Fault, Length, Source, Within}
+use Rattle.cc_spool.specs.declared.lines.Place.TheVariants.{Behind, Length, Source, Within}
 
-abbrev at : Place → (last : Option ℕ) → Lines
+abbrev pub at : Place → (last : Option ℕ) → Lines
 at place last = record { place = place; last = last }
 
 -- some bytes, and then some more
-read_on : (lines : Lines) (x y : List ℕ) → read_bytes lines (x ++ y) ≡ read_bytes (read_bytes lines x) y
+pub read_on : (lines : Lines) (x y : List ℕ) → read_bytes lines (x ++ y) ≡ read_bytes (read_bytes lines x) y
 read_on lines [] y = refl
 read_on lines (b ∷ x) y = read_on (read_byte lines b) x y
 
 -- where the byte leads is where the rest is read from
-from_there : (place : Place) (last : Option ℕ) (byte : ℕ) (rest : List ℕ) (there : Place) → place_behind place byte ≡ there → told_at there last ≡ last
+pub from_there : (place : Place) (last : Option ℕ) (byte : ℕ) (rest : List ℕ) (there : Place) → place_behind place byte ≡ there → told_at there last ≡ last
     → read_bytes (at place last) (byte ∷ rest) ≡ read_bytes (at there last) rest
 from_there place last byte rest there is same =
     ap (λ (p : Place). read_bytes (record { place = p; last = told_at p last }) rest) is ∙ ap (λ (o : Option ℕ). read_bytes (record { place = there; last = o }) rest) same
@@ -74,7 +74,7 @@ number_read n rest last small =
 
 -- ---- its bytes
 
-byte_behind : (n c : ℕ) → place_behind (Within (suc (suc n))) c ≡ Within (suc n)
+pub byte_behind : (n c : ℕ) → place_behind (Within (suc (suc n))) c ≡ Within (suc n)
 byte_behind n c = grind (arith, nat_tests)
 
 source_read : (source rest : List ℕ) (last : Option ℕ) → 0 < length source → read_bytes (at (Within (length source)) last) (source ++ rest) ≡ read_bytes (at Behind last) rest
@@ -84,7 +84,7 @@ source_read (c ∷ d ∷ source) rest last some =
     from_there (Within (suc (suc (length source)))) last c (d ∷ source ++ rest) (Within (suc (length source))) (byte_behind (length source) c) refl
     ∙ source_read (d ∷ source) rest last (omega arith)
 
-bytes_read : (source rest : List ℕ) (last : Option ℕ) → read_bytes (at (Length (length source)) last) (10 ∷ source ++ rest) ≡ read_bytes (at Behind last) rest
+pub bytes_read : (source rest : List ℕ) (last : Option ℕ) → read_bytes (at (Length (length source)) last) (10 ∷ source ++ rest) ≡ read_bytes (at Behind last) rest
 bytes_read [] rest last = refl
 bytes_read (c ∷ source) rest last =
     from_there (Length (suc (length source))) last 10 (c ∷ source ++ rest) (Within (suc (length source))) (grind (arith, nat_tests)) refl

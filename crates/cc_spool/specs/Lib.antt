@@ -4,6 +4,10 @@ pub mod Names
 pub mod Spool
 -- How an answer is read: lines, and sources between them.
 pub mod Answer
+-- Of what an answer is made, and whether it tells a fault.
+pub mod Parts
+-- What a client is told of its script, and what was written of its answer.
+pub mod Submitted
 -- What serves private contracts.
 pub mod internal
 -- Worked answers, each by computation; no contract rests on them.

@@ -4,7 +4,7 @@
 // these counts for what is told; where the answer ends within them it was interrupted.
 
 ghost use Rattle.std.specs.Prelude.{◌≡◌, ◌↔◌, ◌<◌, ◌≤◌, None, IsTrue};
-ghost use Rattle.cc_spool.specs.Answer.{between, in_fault, in_source, place_behind, read_byte, with_digit};
+ghost use Rattle.cc_spool.specs.Answer.{between, in_fault, in_source, place_behind, read_byte, read_bytes, with_digit};
 ghost use Rattle.cc_spool.specs.internal.Telling.{is_within, last_told};
 ghost use Rattle.cc_spool.specs.declared.lines.Place.TheVariants as place;
 
@@ -133,6 +133,15 @@ impl Lines {
         self.place = self.place.behind(byte);
         if let Place::Number(number) = self.place {
             self.last = Some(number);
+        }
+    }
+
+    /// Reads the next bytes.
+    pub(crate) fn read_all(&mut self, bytes: &[u8])
+        ensures { self.new ≡ read_bytes self.old bytes.now }
+    {
+        for byte in bytes {
+            self.read(*byte);
         }
     }
 

@@ -82,11 +82,14 @@ impl<R: Read + Drop + Send, W: Write + Drop + Send> Spool for MemorySpool<R, W> 
 
     ghost ended = { λ s. map (λ a. delivered_as (W.contents a.answer) a.fault) s.ended.items };
 
+    // All its scripts were taken.
+    ghost over = { λ s. s.waiting.items ≡ [] };
+
     fn is_over(&mut self) -> bool
+        ensures said { result ≡ true → self.new.waiting.items ≡ [] }
         ensures taken { map (λ job. taken_as (R.remaining job.0) (W.contents job.1)) self.new.taken.items ≡ map (λ job. taken_as (R.remaining job.0) (W.contents job.1)) self.old.taken.items }
         ensures ended { map (λ a. delivered_as (W.contents a.answer) a.fault) self.new.ended.items ≡ map (λ a. delivered_as (W.contents a.answer) a.fault) self.old.ended.items }
         ensures same { self.new ≡ self.old }
-        ensures over { result ≡ true → self.old.waiting.items ≡ [] }
         ensures more { result ≡ false → self.old.waiting.items ≢ [] }
     {
         self.waiting.is_empty()

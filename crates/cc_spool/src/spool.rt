@@ -1,6 +1,6 @@
 // What serving needs of a spool.
 
-ghost use Rattle.std.specs.Prelude.{◌≡◌, ◌++◌, ◌∷◌, [], List, IfSome, IfNone};
+ghost use Rattle.std.specs.Prelude.{◌≡◌, ◌++◌, ◌∷◌, [], true, List, IfSome, IfNone};
 ghost use Rattle.cc_spool.specs.Spool.{Delivered, Taken, delivered_as, taken_as};
 
 use std::io::{Read, Write};
@@ -23,8 +23,12 @@ pub trait Spool {
     /// ended its script, 51 to 54 or 61, if one did.
     ghost ended: { Self → List Delivered };
 
+    /// It has said that no more is to be taken.
+    ghost over: { Self → Type 0 };
+
     /// Whether no more is to be taken.
     fn is_over(&mut self) -> bool
+        ensures said { result ≡ true → over self.new }
         ensures taken { taken self.new ≡ taken self.old }
         ensures ended { ended self.new ≡ ended self.old };
 

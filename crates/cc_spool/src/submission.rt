@@ -8,7 +8,10 @@
 // while the script is written, so the name in `new` is another one: it is drawn when the script is whole, and nobody has seen it before the
 // link that takes it.
 
-ghost use Rattle.std.specs.Prelude.{◌≤◌, IfOk, length};
+ghost use Rattle.std.specs.Prelude.{◌≡◌, ◌<◌, ◌≤◌, IfOk, OnOk, length};
+ghost use Rattle.std.specs.Io.KnownBytes.{Appends, Keeps, ReadConsumes};
+ghost use Rattle.cc_spool.specs.Submitted.{HasWritten, HasWrittenIfOk};
+ghost use Rattle.cc_spool.specs.internal.Copied.{Copies, PassesOn};
 
 use crate::calls::settle;
 use crate::entries::Entry;
@@ -67,7 +70,9 @@ enum Side {
 
 // Reads the next bytes. An interrupted call is made again.
 fn read_some<S: Read>(reader: &mut S, room: &mut [u8]) -> Result<usize, Refusal>
-    ensures { IfOk result (λ count. count ≤ length room.new) }
+    ensures few { IfOk result (λ count. count ≤ length room.new) }
+    ensures room { length room.new ≡ length room.old }
+    ensures bytes { ReadConsumes (S.remaining reader.old) (S.remaining reader.new) result room.new }
 {
     for _ in 0..u64::MAX {
         match reader.read(room) {
@@ -76,39 +81,61 @@ fn read_some<S: Read>(reader: &mut S, room: &mut [u8]) -> Result<usize, Refusal>
             Err(error) => return Err(Refusal::from(error)),
         }
     }
-    Ok(0)
+    Err(Refusal::CutShort)
 }
 
-fn write_some<W: Write>(writer: &mut W, bytes: &[u8]) -> Result<(), Refusal> {
+fn write_some<W: Write>(writer: &mut W, bytes: &[u8]) -> Result<(), Refusal>
+    ensures { OnOk result (Appends (W.contents writer.old) (W.contents writer.new) bytes.now) }
+{
     writer.write_all(bytes)?;
     Ok(())
 }
 
-fn flush<W: Write>(writer: &mut W) -> Result<(), Refusal> {
+fn flush<W: Write>(writer: &mut W) -> Result<(), Refusal>
+    ensures { Keeps (W.contents writer.old) (W.contents writer.new) }
+{
     writer.flush()?;
     Ok(())
 }
 
-// Copies so many bytes at most; which fault their lines tell last.
-fn copy<S: Read, W: Write>(reader: &mut S, writer: &mut W, most: u64) -> Result<Lines, Side> {
+// Copies the next bytes, and reads their lines; how many: none at the reader's end.
+fn pass_on<S: Read, W: Write>(
+    reader: &mut S,
+    writer: &mut W,
+    piece: &mut [u8],
+    lines: &mut Lines,
+) -> Result<usize, Side>
+    requires { 0 < length piece.old }
+    ensures room { length piece.new ≡ length piece.old }
+    ensures passes { PassesOn (S.remaining reader.old) (S.remaining reader.new) (W.contents writer.old) (W.contents writer.new) lines.old lines.new result }
+{
+    let count = match read_some(reader, piece) {
+        Ok(count) => count,
+        Err(refusal) => return Err(Side::Reader(refusal)),
+    };
+    lines.read_all(&piece[..count]);
+    match write_some(writer, &piece[..count]) {
+        Ok(()) => Ok(count),
+        Err(refusal) => Err(Side::Writer(refusal)),
+    }
+}
+
+// Copies so many bytes, or all if there are fewer, and reads their lines: those of an answer tell its last fault.
+fn copy<S: Read, W: Write>(reader: &mut S, writer: &mut W, most: u64) -> Result<Lines, Side>
+    ensures { Copies most (S.remaining reader.old) (S.remaining reader.new) (W.contents writer.old) (W.contents writer.new) result }
+{
     let mut piece = [0u8; 4096];
     let mut lines = Lines::new();
     let mut left = most;
     for _ in 0..u64::MAX {
-        let count = match read_some(reader, &mut piece) {
-            Ok(count) => count,
-            Err(refusal) => return Err(Side::Reader(refusal)),
-        };
-        if count == 0 || left == 0 {
+        if left == 0 {
             break;
         }
-        for byte in &piece[..count] {
-            lines.read(*byte);
+        match pass_on(reader, writer, &mut piece, &mut lines) {
+            Ok(0) => break,
+            Ok(count) => left = left.saturating_sub(count as u64),
+            Err(side) => return Err(side),
         }
-        if let Err(refusal) = write_some(writer, &piece[..count]) {
-            return Err(Side::Writer(refusal));
-        }
-        left = left.saturating_sub(count as u64);
     }
     match flush(writer) {
         Ok(()) => Ok(lines),
@@ -311,7 +338,9 @@ impl Waiting {
         layout: &FolderLayout,
         mut file: File,
         writer: &mut W,
-    ) -> Submission {
+    ) -> Submission
+        ensures { HasWritten (W.contents writer.old) (W.contents writer.new) result }
+    {
         let copied = copy(&mut file, writer, u64::MAX);
         drop(file);
         match copied {
@@ -424,7 +453,9 @@ fn wait<W: Write, E: Write>(
     mut waiting: Waiting,
     writer: &mut W,
     explanations: &mut E,
-) -> Submission {
+) -> Submission
+    ensures { HasWritten (W.contents writer.old) (W.contents writer.new) result }
+{
     match wait_for_answer(layout, &mut waiting, explanations) {
         Ok(Some(file)) => waiting.take_answer(layout, file, writer),
         Ok(None) => Submission::NotTaken,
@@ -463,6 +494,9 @@ fn leave<S: Read>(
 /// next one does, by 55. Who waits is told so on `explanations` after a second.
 ///
 /// An `Err` where the script could not be left in the folder (56): nothing of it is done.
+///
+/// If it was answered the writer got the answer's bytes and no other, and a fault is told exactly if a line that is not within a source begins
+/// with `fault `, or the answer ends within one.
 pub fn submit<S: Read, W: Write, E: Write>(
     layout: &FolderLayout,
     process: u32,
@@ -471,7 +505,9 @@ pub fn submit<S: Read, W: Write, E: Write>(
     writer: &mut W,
     explanations: &mut E,
     seconds: Option<u32>,
-) -> io::Result<Submission> {
+) -> io::Result<Submission>
+    ensures written { HasWrittenIfOk (W.contents writer.old) (W.contents writer.new) result }
+{
     match leave(layout, process, begin, script, seconds)? {
         Some(waiting) => Ok(wait(layout, waiting, writer, explanations)),
         None => Ok(Submission::Unread),

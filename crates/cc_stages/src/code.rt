@@ -6,7 +6,7 @@ ghost use Rattle.cc_stages.specs.declared.fault.StagesFault.TheVariants.{Unknown
 
 use crate::fault::StagesFault;
 use cc_emit::Piece;
-use cc_link::{compile_function, link};
+use cc_link::{Mode, compile_function_in, link_pieces_in};
 use cc_rv32::listing::list;
 use cc_types::TypedUnit;
 use std::alloc::{AllocError, Global};
@@ -36,12 +36,12 @@ impl Listing {
 }
 
 // The pieces of a unit's functions, in their order.
-fn pieces(alloc: Global, unit: &Arc<TypedUnit>) -> Result<Vec<Piece>, StagesFault>
+fn pieces(alloc: Global, mode: Mode, unit: &Arc<TypedUnit>) -> Result<Vec<Piece>, StagesFault>
     ensures { IfErr result (λ fault. ¬ (fault ≡ UnknownFunction)) }
 {
     let mut pieces = Vec::new(alloc);
     for function in 0..unit.functions() {
-        let piece = match compile_function(alloc, unit, function) {
+        let piece = match compile_function_in(alloc, mode, unit, function) {
             Ok(piece) => piece,
             Err(fault) => return Err(StagesFault::Piece(fault)),
         };
@@ -88,10 +88,15 @@ fn places(alloc: Global, lines: &[u8], sizes: &[usize]) -> Result<Vec<usize>, Al
 }
 
 // The lines of the image of a unit, whose pieces these are.
-fn lines(alloc: Global, unit: &Arc<TypedUnit>, pieces: Vec<Piece>) -> Result<Vec<u8>, StagesFault>
+fn lines(
+    alloc: Global,
+    mode: Mode,
+    unit: &Arc<TypedUnit>,
+    pieces: Vec<Piece>,
+) -> Result<Vec<u8>, StagesFault>
     ensures { IfErr result (λ fault. ¬ (fault ≡ UnknownFunction)) }
 {
-    let linked = match link(alloc, unit, pieces) {
+    let linked = match link_pieces_in(alloc, mode, unit, pieces) {
         Ok(linked) => linked,
         Err(fault) => return Err(StagesFault::Link(fault)),
     };
@@ -103,12 +108,16 @@ fn lines(alloc: Global, unit: &Arc<TypedUnit>, pieces: Vec<Piece>) -> Result<Vec
 
 /// The listing of a unit's image. Refusals: 22 or 24 for the first function without a piece, 25 where there would be more than 131,072
 /// words of code, 40 where memory ran out.
-pub(crate) fn list_unit(alloc: Global, unit: &Arc<TypedUnit>) -> Result<Listing, StagesFault>
+pub(crate) fn list_unit(
+    alloc: Global,
+    mode: Mode,
+    unit: &Arc<TypedUnit>,
+) -> Result<Listing, StagesFault>
     ensures { IfErr result (λ fault. ¬ (fault ≡ UnknownFunction)) }
 {
-    let pieces = pieces(alloc, unit)?;
+    let pieces = pieces(alloc, mode, unit)?;
     let sizes = sizes(alloc, pieces.as_slice())?;
-    let lines = lines(alloc, unit, pieces)?;
+    let lines = lines(alloc, mode, unit, pieces)?;
     let places = places(alloc, lines.as_slice(), sizes.as_slice())?;
     Ok(Listing { lines, places })
 }

@@ -5,6 +5,8 @@ ghost use Rattle.std.specs.Prelude.{◌≡◌, ◌<◌, length, IfErr};
 ghost use Rattle.std.specs.Arc.{arc_value};
 ghost use Rattle.cc_ast.specs.Source.{source};
 ghost use Rattle.cc_types.specs.Typed.{defined_names};
+ghost use Rattle.cc_cminor.specs.Exits.{ExitsFit};
+ghost use Rattle.cc_cminor.specs.Pair.{tree_of, code_of, FailsAlike};
 ghost use Rattle.cc_stages.specs.declared.fault.StagesFault.TheVariants.{UnknownFunction};
 
 use crate::fault::StagesFault;
@@ -13,8 +15,10 @@ use crate::stage::Stage;
 use crate::steps::write_steps;
 use cc_cminor::{CminorPair, to_cminor};
 use cc_colour::{colour, spill_all};
+use cc_guard::{GuardFault, guard};
 use cc_linear::linearise;
 use cc_linear_language::LinearPair;
+use cc_link::Mode;
 use cc_live::{drop_faint, liveness};
 use cc_ltl::Ltl;
 use cc_rtl::{Rtl, RtlFault, RtlPair, to_rtl};
@@ -35,9 +39,10 @@ fn kept<T: Drop>(made: T, written: io::Result<()>) -> Result<T, StagesFault>
     }
 }
 
-// Cminor.
+// Cminor, and behind it that with guards where the image is a checked one.
 fn lowered<W: Write>(
     alloc: Global,
+    mode: Mode,
     unit: &Arc<TypedUnit>,
     function: usize,
     name: Name<'_>,
@@ -46,12 +51,40 @@ fn lowered<W: Write>(
     requires { function < length (defined_names (source (arc_value unit.now))) }
     ensures { IfErr result (λ fault. ¬ (fault ≡ UnknownFunction)) }
 {
-    match to_cminor(alloc, unit, function) {
-        Ok(cminor) => {
-            let written = Stage::Cminor.write(name.bytes, &cminor, writer);
-            kept(cminor, written)
+    let Ok(cminor) = to_cminor(alloc, unit, function) else {
+        return Err(StagesFault::OutOfMemory);
+    };
+    if Stage::Cminor.write(name.bytes, &cminor, writer).is_err() {
+        drop(cminor);
+        return Err(StagesFault::Write);
+    }
+    match mode {
+        Mode::Plain => Ok(cminor),
+        Mode::Checked => guarded(alloc, cminor, name, writer),
+    }
+}
+
+// Cminor with its guards.
+fn guarded<W: Write>(
+    alloc: Global,
+    cminor: CminorPair,
+    name: Name<'_>,
+    writer: &mut W,
+) -> Result<CminorPair, StagesFault>
+    requires exits { ExitsFit 0 (code_of cminor) }
+    requires fails_alike { FailsAlike (tree_of cminor) cminor.function (code_of cminor) }
+    ensures { IfErr result (λ fault. ¬ (fault ≡ UnknownFunction)) }
+{
+    match guard(alloc, cminor) {
+        Ok(guarded) => {
+            let written = Stage::Guarded.write(name.bytes, &guarded, writer);
+            kept(guarded, written)
         }
-        Err(_) => Err(StagesFault::OutOfMemory),
+        Err(GuardFault::FunctionTooLarge) => {
+            Stage::Guarded.write(name.bytes, &"refused: more than 2048 variables\n", writer)?;
+            Err(name.too_large())
+        }
+        Err(GuardFault::OutOfMemory) => Err(StagesFault::OutOfMemory),
     }
 }
 
@@ -196,10 +229,11 @@ fn write_selected<W: Write>(
 
 /// Writes the stages of the function with a number, but for its code.
 ///
-/// Refusals: 22 where it would have more than 4,096 nodes of RTL; 24 where the validator refuses the LTL of both allocators; 40 where
+/// Refusals: 22 where it would have more than 4,096 nodes of RTL, or guards would set more than 2,048 variables; 24 where the validator refuses the LTL of both allocators; 40 where
 /// memory ran out; 54 where the text could not be written. The stages up to there are written.
 pub(crate) fn write_function<W: Write>(
     alloc: Global,
+    mode: Mode,
     unit: &Arc<TypedUnit>,
     function: usize,
     writer: &mut W,
@@ -208,7 +242,7 @@ pub(crate) fn write_function<W: Write>(
     ensures { IfErr result (λ fault. ¬ (fault ≡ UnknownFunction)) }
 {
     let name = Name::of(unit, function);
-    let cminor = lowered(alloc, unit, function, name, writer)?;
+    let cminor = lowered(alloc, mode, unit, function, name, writer)?;
     let rtl = generated(alloc, cminor, name, writer)?;
     let rtl = pruned(alloc, rtl, name, writer)?;
     let ltl = allocated(alloc, rtl, name, writer)?;

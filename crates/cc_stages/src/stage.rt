@@ -7,6 +7,8 @@ use std::io::{self, Write};
 #[derive(Clone, Copy)]
 pub(crate) enum Stage {
     Cminor,
+    /// Cminor with its guards, of a checked image.
+    Guarded,
     /// RTL as it is generated.
     Rtl,
     /// RTL in which the nodes that nobody needs are nops.
@@ -25,6 +27,7 @@ impl Stage {
     fn title(self) -> &'static str {
         match self {
             Stage::Cminor => "Cminor",
+            Stage::Guarded => "Cminor with guards",
             Stage::Rtl => "RTL",
             Stage::Pruned => "RTL without dead nodes",
             Stage::Ltl => "LTL",

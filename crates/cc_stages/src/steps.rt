@@ -1,7 +1,8 @@
 // The steps of a function as text: its number and its slots, and a line for each step, in the form of Linear.
 //
 // A step that is an item of Linear has that one's text. An operator has the word in place of its second register, `x7 = add x8, 12`; the
-// element of a number has the number in place of a register, `x7 = object0[3]` and `object0[3] = x8`; a branch has the comparison that
+// element of a number has the number in place of a register, `x7 = object0[3]` and `object0[3] = x8`, or a register and a word whose sum is
+// the number, `x7 = object0[x8 + 3]`; a branch has the comparison that
 // leads to the label where it holds, `branch lt_s x7, x8 -> 3`, or where it does not, `branch not lt_s x7, 12 -> 3`. Words are
 // unsigned.
 
@@ -68,7 +69,40 @@ fn write_step<W: Write>(step: &Step, writer: &mut W) -> io::Result<()> {
             let mark = width.mark();
             write!(writer, "{mark}object{object}[{number}] = {from}")
         }
+        Step::LoadNear { .. } | Step::StoreNear { .. } => write_near(step, writer),
         Step::Branch { .. } | Step::BranchImmediate { .. } => write_branch(step, writer),
+    }
+}
+
+// Writes an access whose number is a register's word plus a word, and no other step.
+fn write_near<W: Write>(step: &Step, writer: &mut W) -> io::Result<()> {
+    match step {
+        Step::LoadNear {
+            width,
+            object,
+            to,
+            index,
+            word,
+        } => {
+            let mark = width.mark();
+            write!(writer, "{to} = {mark}object{object}[{index} + {word}]")
+        }
+        Step::StoreNear {
+            width,
+            object,
+            index,
+            word,
+            from,
+        } => {
+            let mark = width.mark();
+            write!(writer, "{mark}object{object}[{index} + {word}] = {from}")
+        }
+        Step::One(_)
+        | Step::Immediate { .. }
+        | Step::LoadAt { .. }
+        | Step::StoreAt { .. }
+        | Step::Branch { .. }
+        | Step::BranchImmediate { .. } => Ok(()),
     }
 }
 
@@ -95,9 +129,12 @@ fn write_branch<W: Write>(step: &Step, writer: &mut W) -> io::Result<()> {
             let (sense, name) = (sense(*nonzero), immediate_name(*operator));
             write!(writer, "branch {sense}{name} {from}, {word} -> {to}")
         }
-        Step::One(_) | Step::Immediate { .. } | Step::LoadAt { .. } | Step::StoreAt { .. } => {
-            Ok(())
-        }
+        Step::One(_)
+        | Step::Immediate { .. }
+        | Step::LoadAt { .. }
+        | Step::StoreAt { .. }
+        | Step::LoadNear { .. }
+        | Step::StoreNear { .. } => Ok(()),
     }
 }
 

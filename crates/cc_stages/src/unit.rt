@@ -11,6 +11,7 @@ use crate::code::{Listing, list_unit};
 use crate::fault::StagesFault;
 use crate::function::write_function;
 use crate::stage::Stage;
+use cc_link::Mode;
 use cc_types::TypedUnit;
 use std::alloc::Global;
 use std::io::{self, Write};
@@ -49,6 +50,7 @@ fn write_code<W: Write>(
 // Writes all stages of each function, or of the one that is wanted.
 fn write_all<W: Write>(
     alloc: Global,
+    mode: Mode,
     unit: &Arc<TypedUnit>,
     wanted: Option<usize>,
     code: &Result<Listing, StagesFault>,
@@ -58,14 +60,14 @@ fn write_all<W: Write>(
 {
     for function in 0..unit.functions() {
         if wanted.is_none_or(|wanted| wanted == function) {
-            write_function(alloc, unit, function, writer)?;
+            write_function(alloc, mode, unit, function, writer)?;
             write_code(unit, function, code, writer)?;
         }
     }
     Ok(())
 }
 
-/// Writes the stages of each function of a unit in the order of definitions, or those of the function of that name alone. Each stage begins
+/// Writes the stages of each function of a unit in a mode, in the order of definitions, or those of the function of that name alone. Each stage begins
 /// with a line `== f: RTL`; then come its lines, as docs/INTERMEDIATE.md has them. The last stage has the function's lines of the image's
 /// listing. The writer is not flushed.
 ///
@@ -75,6 +77,7 @@ fn write_all<W: Write>(
 /// anywhere then.
 pub fn stages<W: Write>(
     alloc: Global,
+    mode: Mode,
     unit: &Arc<TypedUnit>,
     function: Option<&[u8]>,
     writer: &mut W,
@@ -89,8 +92,8 @@ pub fn stages<W: Write>(
         },
         None => None,
     };
-    let code = list_unit(alloc, unit);
-    write_all(alloc, unit, wanted, &code, writer)?;
+    let code = list_unit(alloc, mode, unit);
+    write_all(alloc, mode, unit, wanted, &code, writer)?;
     match code {
         Ok(_) => Ok(()),
         Err(fault) => Err(fault),

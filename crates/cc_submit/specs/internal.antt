@@ -1,3 +1,5 @@
 -- What only private contracts speak of.
--- What stands behind a line that `submit` sends.
+-- What is sent of a line.
 pub mod Sent
+-- What is done of a submission.
+pub mod Finished

@@ -1,39 +1,59 @@
 // A script that is left for a server, and what became of it.
 
-ghost use Rattle.std.specs.Prelude.{◌≡◌, ◌≢◌, ◌++◌, ◌∷◌, [], None, Ok, IfOk};
+ghost use Rattle.std.specs.Prelude.{◌≡◌, ◌++◌, ◌∷◌, [], IfOk, codes, string_bytes};
+ghost use Rattle.std.specs.Option.{option_map};
 ghost use Rattle.cc_script.specs.Line.{asked_of};
-ghost use Rattle.cc_spool.specs.declared.submission.Submission.TheVariants.{Answered};
+ghost use Rattle.cc_spool.specs.Submitted.{HasWrittenIfOk};
 ghost use Rattle.cc_script.specs.declared.command.Dialect.TheVariants.{Served};
-ghost use Rattle.cc_submit.specs.internal.Sent.{asks_source, has_source, is_whole};
+ghost use Rattle.cc_submit.specs.Printed.{Prints, PrintsWell, Says, SaysRefused, Submits, asks_source, fetches, has_source, is_command, is_whole};
+ghost use Rattle.cc_submit.specs.internal.Finished.{Ends, Finishes, FinishesFault, FinishesSource, FinishesWell, came_of, status_of};
+ghost use Rattle.cc_submit.specs.internal.Sent.{is_fetch};
 
 use cc_answers::{Persons, Telling, explain_bad_line, explain_no_command, explain_words, words_of};
 use cc_command_line::Submitter;
 use cc_screen::Screen;
 use cc_script::{Dialect, ScriptCommand, ScriptFault, command_of};
+use cc_sources::{Origin, join};
 use cc_spool::{FolderLayout, SpoolFault, Submission, fault_lines, source_in, submit};
 use cc_task::Task;
-use cc_tasks::perform_and_explain;
+use cc_tasks::{perform_and_explain, perform_texts_and_explain, read_or_refuse};
 use std::alloc::{AllocError, Global};
 use std::io::{self, BufWriter, Input, IsTerminal, Print, Read, Write};
 
 /// The most bytes of a source that are sent: one more than a source may have, so that the server sees that it is too long.
 const MOST_SOURCE: usize = 65_537;
 
+const NO_MEMORY: &[u8] = b"fault 40 OutOfMemory\n";
+
 const READ_FAULT: &[u8] = b"fault 53 ReadFault\n";
 
-const NO_MEMORY: &[u8] = b"fault 40 OutOfMemory\n";
+const FOLDER_FAULT: &[u8] = b"fault 56 FolderFault\n";
+
+const NOT_TAKEN: &[u8] = b"fault 58 NotTaken\n";
+
+/// How a command ended.
+#[derive(Drop)]
+pub struct Ended {
+    /// What became of the script; none if it could not be left in the folder, or the line is no command. What was to be a source and was
+    /// cut short is lost.
+    pub came: Option<Submission>,
+    /// The status.
+    pub status: u8,
+    /// Whether all that was to be printed is.
+    pub is_written: bool,
+}
 
 // What is sent.
 #[derive(Drop)]
-enum Sent {
+enum Sent<'a> {
     // The script on standard input.
     Script,
     // A line that takes no source.
     Line(Vec<u8>),
     // The same, whose answer is a source.
     Fetch(Vec<u8>),
-    // A line with its source, and how many bytes the line has.
-    Source(Vec<u8>, usize),
+    // A line with its source, how many bytes the line has, and where the source comes from.
+    Source(Vec<u8>, usize, Origin<'a>),
 }
 
 // Whether a line takes a source: it is one with a length behind it.
@@ -62,6 +82,19 @@ fn is_whole(line: &str) -> bool
     }
 }
 
+// Whether it is a script from standard input, or a line that is a command, with how many bytes of a source come after it if it takes one.
+fn is_command(alloc: Global, line: Option<&str>) -> Result<bool, AllocError>
+    ensures { IfOk result (λ is. is ≡ is_command (option_map (λ l. l.now) line.entry)) }
+{
+    let Some(line) = line else {
+        return Ok(true);
+    };
+    if is_whole(line) {
+        return Ok(true);
+    }
+    takes_source(alloc, line)
+}
+
 // Whether the answer to a line is a source.
 fn asks_source(line: &str) -> bool
     ensures { result ≡ asks_source (asked_of Served line.now) }
@@ -72,8 +105,20 @@ fn asks_source(line: &str) -> bool
     )
 }
 
+// The source that is given, up to a byte more than it may have.
+fn source<R: Input>(rt: &R, alloc: Global, origin: Origin<'_>) -> io::Result<Vec<u8>> {
+    match origin {
+        Origin::Input => source_on_input(rt, alloc),
+        Origin::Texts(texts) => {
+            let mut source = join(alloc, texts)?;
+            source.truncate(MOST_SOURCE);
+            Ok(source)
+        }
+    }
+}
+
 // The source on standard input, up to a byte more than it may have.
-fn source<R: Input>(rt: &R, alloc: Global) -> io::Result<Vec<u8>> {
+fn source_on_input<R: Input>(rt: &R, alloc: Global) -> io::Result<Vec<u8>> {
     let mut reader = rt.reader();
     let mut source = Vec::new(alloc);
     let mut piece = [0u8; 4096];
@@ -92,32 +137,36 @@ fn source<R: Input>(rt: &R, alloc: Global) -> io::Result<Vec<u8>> {
     Ok(source)
 }
 
-// What is sent for a line; none where it is no command.
-fn sent_of<R: Input>(rt: &R, alloc: Global, line: Option<&String>) -> io::Result<Option<Sent>> {
+// What is sent of a line that is a command.
+fn sent_of<'a, R: Input>(
+    rt: &R,
+    alloc: Global,
+    line: Option<&str>,
+    origin: Origin<'a>,
+) -> io::Result<Sent<'a>>
+    ensures fetch { IfOk result (λ sent. is_fetch sent ≡ fetches (option_map (λ l. l.now) line.entry)) }
+{
     let Some(line) = line else {
-        return Ok(Some(Sent::Script));
+        return Ok(Sent::Script);
     };
-    let line = line.as_str();
     let mut bytes = Vec::new(alloc);
+    if asks_source(line) {
+        bytes.extend_from_slice(line.as_bytes())?;
+        bytes.push(b'\n')?;
+        return Ok(Sent::Fetch(bytes));
+    }
     if takes_source(alloc, line)? {
-        let source = source(rt, alloc)?;
+        let source = source(rt, alloc, origin)?;
         let text = format!(in alloc; "{line} {}\n", source.len())?;
         bytes.extend_from_slice(text.as_bytes())?;
         let begin = bytes.len();
         bytes.extend_from_slice(source.as_slice())?;
         bytes.push(b'\n')?;
-        return Ok(Some(Sent::Source(bytes, begin)));
-    }
-    if !is_whole(line) {
-        return Ok(None);
+        return Ok(Sent::Source(bytes, begin, origin));
     }
     bytes.extend_from_slice(line.as_bytes())?;
     bytes.push(b'\n')?;
-    Ok(Some(if asks_source(line) {
-        Sent::Fetch(bytes)
-    } else {
-        Sent::Line(bytes)
-    }))
+    Ok(Sent::Line(bytes))
 }
 
 // Leaves what is sent in the folder, and writes the answer.
@@ -126,10 +175,12 @@ fn send<R: Input, W: Write, E: Write>(
     layout: &FolderLayout,
     process: u32,
     wait: Option<u32>,
-    sent: &Sent,
+    sent: &Sent<'_>,
     writer: &mut W,
     watched: &mut E,
-) -> io::Result<Submission> {
+) -> io::Result<Submission>
+    ensures { HasWrittenIfOk (W.contents writer.old) (W.contents writer.new) result }
+{
     match sent {
         Sent::Script => submit(
             layout,
@@ -140,7 +191,7 @@ fn send<R: Input, W: Write, E: Write>(
             watched,
             wait,
         ),
-        Sent::Line(bytes) | Sent::Fetch(bytes) | Sent::Source(bytes, _) => submit(
+        Sent::Line(bytes) | Sent::Fetch(bytes) | Sent::Source(bytes, _, _) => submit(
             layout,
             process,
             bytes.as_slice(),
@@ -152,20 +203,24 @@ fn send<R: Input, W: Write, E: Write>(
     }
 }
 
-// Writes the line of a fault; the status.
-fn fault<W: Write>(fault: SpoolFault, writer: &mut W) -> u8
-    ensures { result ≡ 1 }
+// Writes bytes; whether they are written.
+fn put<W: Write>(text: &[u8], writer: &mut W) -> bool
+    ensures { Says result (W.contents writer.old) (W.contents writer.new) text.now }
 {
-    let _ = writeln!(writer, "fault {} {fault}", fault.number());
-    let _ = writer.flush();
-    1
+    match writer.write_all(text) {
+        Ok(()) => writer.flush().is_ok(),
+        Err(_) => {
+            let _ = writer.flush();
+            false
+        }
+    }
 }
 
 // Tells a person what is known of the fault that an answer told last: of one that stands in the source what `check` tells of that.
 fn explain<R: AllocGlobal, E: Write>(
     rt: &R,
     number: u32,
-    sent: &Sent,
+    sent: &Sent<'_>,
     told: &mut E,
 ) -> io::Result<()> {
     if number == SpoolFault::Interrupted.number() {
@@ -181,37 +236,51 @@ fn explain<R: AllocGlobal, E: Write>(
     if words_of(number).is_some() {
         return explain_words(number, told);
     }
-    if let Sent::Source(bytes, begin) = sent
-        && let Some(mut source) = bytes.as_slice().get(*begin..bytes.len().saturating_sub(1))
+    if let Sent::Source(bytes, begin, origin) = sent
+        && let Some(source) = bytes.as_slice().get(*begin..bytes.len().saturating_sub(1))
     {
-        let _status = perform_and_explain(rt, Task::Check, &mut source, &mut io::sink(), told);
+        explain_source(rt, source, *origin, told);
     }
     Ok(())
 }
 
-// Writes the line of the fault by which the system refused a call in the folder: 40 if it was memory, else 56; the status.
-fn refused<W: Write>(why: &io::Error, writer: &mut W) -> u8
-    ensures { result ≡ 1 }
-{
-    if why.kind() != io::ErrorKind::OutOfMemory {
-        return fault(SpoolFault::FolderFault, writer);
-    }
-    let _ = writer.write_all(NO_MEMORY);
-    let _ = writer.flush();
-    1
+// Tells a person what `check` tells of a source.
+fn explain_source<R: AllocGlobal, E: Write>(
+    rt: &R,
+    source: &[u8],
+    origin: Origin<'_>,
+    told: &mut E,
+) {
+    let mut source = source;
+    let writer = &mut io::sink();
+    let _status = match origin {
+        Origin::Input => perform_and_explain(rt, Task::Check, &mut source, writer, told),
+        Origin::Texts(texts) => perform_texts_and_explain(rt, Task::Check, texts, writer, told),
+    };
 }
 
-// Writes the line of a fault of the folder, and tells why and where the script is; the status.
+// Writes the line of the fault by which the system refused a call in the folder: 40 if it was memory, else 56; whether it is written.
+fn refused<W: Write>(why: &io::Error, writer: &mut W) -> bool
+    ensures { SaysRefused result (W.contents writer.old) (W.contents writer.new) [] }
+{
+    if why.kind() == io::ErrorKind::OutOfMemory {
+        put(NO_MEMORY, writer)
+    } else {
+        put(FOLDER_FAULT, writer)
+    }
+}
+
+// Writes the line of a fault of the folder, and tells why and where the script is; whether the line is written.
 fn folder_fault<W: Write, E: Write>(
     folder: &str,
     why: &io::Error,
     name: Option<&str>,
     writer: &mut W,
     told: &mut E,
-) -> u8
-    ensures { result ≡ 1 }
+) -> bool
+    ensures { SaysRefused result (W.contents writer.old) (W.contents writer.new) [] }
 {
-    let status = refused(why, writer);
+    let is_written = refused(why, writer);
     let _ = writeln!(told, "cclib: the folder {folder} can't be used: {why}");
     let _ = match name {
         None => writeln!(told, "cclib: nothing of the script is done"),
@@ -221,14 +290,29 @@ fn folder_fault<W: Write, E: Write>(
         ),
     };
     let _ = told.flush();
-    status
+    is_written
 }
 
-// Tells that a script was taken back; the status.
-fn not_taken<W: Write, E: Write>(asked: &Submitter, writer: &mut W, told: &mut E) -> u8
-    ensures { result ≡ 1 }
+// The same of an answer that was not read to its end: what was written of it may have ended within a line.
+fn cut_short<W: Write, E: Write>(
+    folder: &str,
+    why: &io::Error,
+    name: &str,
+    writer: &mut W,
+    told: &mut E,
+) -> bool
+    ensures { SaysRefused result (W.contents writer.old) (W.contents writer.new) (10 ∷ []) }
 {
-    let status = fault(SpoolFault::NotTaken, writer);
+    let is_ended = put(b"\n", writer);
+    let is_written = folder_fault(folder, why, Some(name), writer, told);
+    is_ended && is_written
+}
+
+// Tells that a script was taken back; whether the line is written.
+fn not_taken<W: Write, E: Write>(asked: &Submitter, writer: &mut W, told: &mut E) -> bool
+    ensures { Says result (W.contents writer.old) (W.contents writer.new) (codes "fault 58 NotTaken\n") }
+{
+    let is_written = put(NOT_TAKEN, writer);
     let folder = asked.folder.as_str();
     let _ = match asked.wait {
         None => writeln!(
@@ -241,47 +325,48 @@ fn not_taken<W: Write, E: Write>(asked: &Submitter, writer: &mut W, told: &mut E
         ),
     };
     let _ = told.flush();
-    status
+    is_written
 }
 
-// Writes what became of a script, and tells a person of it; the status.
-fn finish<R: AllocGlobal, W: Write, E: Write>(
+// The status of what became of a script.
+fn status_of(done: &io::Result<Submission>) -> u8
+    ensures { result ≡ status_of (came_of done.now) }
+{
+    match done {
+        Ok(Submission::Answered(None)) => 0,
+        _ => 1,
+    }
+}
+
+// Writes what became of a script after its answer, and tells a person of it; whether that is written.
+fn tell<R: AllocGlobal, W: Write, E: Write>(
     rt: &R,
-    done: io::Result<Submission>,
+    done: &io::Result<Submission>,
     asked: &Submitter,
-    sent: &Sent,
+    sent: &Sent<'_>,
     writer: &mut W,
     told: &mut E,
-) -> u8
-    ensures well { done ≡ Ok (Answered None) → result ≡ 0 }
-    ensures fault { done ≢ Ok (Answered None) → result ≡ 1 }
+) -> bool
+    ensures { Ends (came_of done.now) (W.contents writer.old) (W.contents writer.new) result }
 {
     let folder = asked.folder.as_str();
-    match &done {
-        Ok(Submission::Answered(None)) => 0,
+    match done {
+        Ok(Submission::Answered(None)) => true,
         Ok(Submission::Answered(Some(number))) => {
             let _ = explain(rt, *number, sent, told);
-            1
+            true
         }
         Ok(Submission::NotTaken) => not_taken(asked, writer, told),
-        Ok(Submission::Unread) => {
-            let _ = writer.write_all(READ_FAULT);
-            let _ = writer.flush();
-            1
-        }
+        Ok(Submission::Unread) => put(READ_FAULT, writer),
         Ok(Submission::Unwritten(name)) => {
             let _ = writeln!(
                 told,
                 "cclib: the answer could not be written; it stays as {folder}/done/{name}"
             );
             let _ = told.flush();
-            1
+            false
         }
-        Ok(Submission::CutShort(name, why)) => {
-            // What was written of the answer may have ended within a line.
-            let _ = writer.write_all(b"\n");
-            folder_fault(folder, why, Some(name.as_str()), writer, told)
-        }
+        Ok(Submission::CutShort(name, why)) => cut_short(folder, why, name.as_str(), writer, told),
         Ok(Submission::Lost(name, why)) => folder_fault(
             folder,
             why,
@@ -293,69 +378,131 @@ fn finish<R: AllocGlobal, W: Write, E: Write>(
     }
 }
 
-// Writes the source that an answer is, and nothing else; or the lines of the faults that it tells. Whether it is a source.
-fn write_source<W: Write>(alloc: Global, answer: &[u8], writer: &mut W) -> io::Result<bool> {
-    let is_source = match source_in(alloc, answer)? {
-        Some(source) => {
-            writer.write_all(source)?;
-            true
-        }
-        None => {
-            let lines = fault_lines(alloc, answer)?;
-            writer.write_all(lines.as_slice())?;
-            false
-        }
+// Writes what became of a script after its answer, and tells a person of it.
+fn finish<R: AllocGlobal, W: Write, E: Write>(
+    rt: &R,
+    done: io::Result<Submission>,
+    asked: &Submitter,
+    sent: &Sent<'_>,
+    writer: &mut W,
+    told: &mut E,
+) -> Ended
+    ensures { Finishes (came_of done) (W.contents writer.old) (W.contents writer.new) result }
+{
+    let is_written = tell(rt, &done, asked, sent, writer, told);
+    let status = status_of(&done);
+    let came = match done {
+        Ok(submission) => Some(submission),
+        Err(_) => None,
     };
-    writer.flush()?;
-    Ok(is_source)
+    Ended {
+        came,
+        status,
+        is_written,
+    }
 }
 
-// Writes what became of a line whose answer is a source, and tells a person of it; the status.
+// Writes the source that an answer is which tells no fault, and nothing else.
+fn finish_well<W: Write, E: Write>(
+    alloc: Global,
+    answer: &[u8],
+    writer: &mut W,
+    told: &mut E,
+) -> Ended
+    ensures { FinishesWell answer.now (W.contents writer.old) (W.contents writer.new) result }
+{
+    let (status, is_written) = match source_in(alloc, answer) {
+        Ok(Some(source)) => {
+            let is_written = put(source, writer);
+            if !is_written {
+                let _ = told.write_all(b"cclib: the source could not be written\n");
+            }
+            (if is_written { 0 } else { 1 }, is_written)
+        }
+        Ok(None) => {
+            let _ = told.write_all(b"cclib: the answer is no source\n");
+            (1, true)
+        }
+        Err(AllocError) => {
+            let _ = told.write_all(b"cclib: the source could not be written\n");
+            (1, false)
+        }
+    };
+    let _ = told.flush();
+    Ended {
+        came: Some(Submission::Answered(None)),
+        status,
+        is_written,
+    }
+}
+
+// Writes the lines of the faults that an answer tells which was to be a source, and tells a person of the last.
+fn finish_fault<R: AllocGlobal, W: Write, E: Write>(
+    rt: &R,
+    number: u32,
+    answer: &[u8],
+    sent: &Sent<'_>,
+    writer: &mut W,
+    told: &mut E,
+) -> Ended
+    ensures { FinishesFault number result }
+{
+    let is_written = match fault_lines(rt.alloc(), answer) {
+        Ok(lines) => put(lines.as_slice(), writer),
+        Err(AllocError) => false,
+    };
+    if is_written {
+        let _ = explain(rt, number, sent, told);
+    } else {
+        let _ = told.write_all(b"cclib: the source could not be written\n");
+        let _ = told.flush();
+    }
+    Ended {
+        came: Some(Submission::Answered(Some(number))),
+        status: 1,
+        is_written,
+    }
+}
+
+// Writes what became of a line whose answer is a source, and tells a person of it.
 fn finish_source<R: AllocGlobal, W: Write, E: Write>(
     rt: &R,
     done: io::Result<Submission>,
     answer: &[u8],
     asked: &Submitter,
-    sent: &Sent,
+    sent: &Sent<'_>,
     writer: &mut W,
     told: &mut E,
-) -> u8
-    ensures { done ≢ Ok (Answered None) → result ≡ 1 }
+) -> Ended
+    ensures { FinishesSource answer.now (came_of done) (W.contents writer.old) (W.contents writer.new) result }
 {
-    let done = match done {
-        Ok(Submission::Answered(number)) => match write_source(rt.alloc(), answer, writer) {
-            Ok(is_source) => {
-                if number.is_none() && !is_source {
-                    let _ = told.write_all(b"cclib: the answer is no source\n");
-                    let _ = told.flush();
-                    return 1;
-                }
-                Ok(Submission::Answered(number))
-            }
-            Err(_) => {
-                let _ = told.write_all(b"cclib: the source could not be written\n");
-                let _ = told.flush();
-                return 1;
-            }
-        },
+    match done {
+        Ok(Submission::Answered(None)) => finish_well(rt.alloc(), answer, writer, told),
+        Ok(Submission::Answered(Some(number))) => {
+            finish_fault(rt, number, answer, sent, writer, told)
+        }
         // Nothing of the answer was written.
-        Ok(Submission::CutShort(name, why)) => Ok(Submission::Lost(name, why)),
-        other => other,
-    };
-    finish(rt, done, asked, sent, writer, told)
+        Ok(Submission::CutShort(name, why)) => {
+            let lost = Ok(Submission::Lost(name, why));
+            finish(rt, lost, asked, sent, writer, told)
+        }
+        other => finish(rt, other, asked, sent, writer, told),
+    }
 }
 
-// Leaves what is sent in the folder, writes the answer, and tells a person of it; the status.
+// Leaves what is sent in the folder, writes the answer, and tells a person of it.
 fn leave<R: AllocGlobal + Input, W: Write, E: Write + Drop>(
     rt: &R,
     layout: &FolderLayout,
     process: u32,
     asked: &Submitter,
-    sent: &Sent,
+    sent: &Sent<'_>,
     persons: Persons,
     writer: &mut W,
     told: &mut Telling<E>,
-) -> u8 {
+) -> Ended
+    ensures { Prints (is_fetch sent.now) result.came (W.contents writer.old) (W.contents writer.new) result.is_written result.status }
+{
     let wait = asked.wait;
     // That it waits is told to who sees it, and not to a file.
     told.is_quiet = persons.is_quiet || !persons.is_watched;
@@ -370,13 +517,59 @@ fn leave<R: AllocGlobal + Input, W: Write, E: Write + Drop>(
     finish(rt, done, asked, sent, writer, told)
 }
 
-/// Leaves a script for the server of a folder, and prints its answer; the status. On a terminal control bytes of the answer are shown as `?`.
-/// The error is lack of memory before it began.
+/// Leaves a script for the server of a folder, and writes its answer; what came of it and the status: 0 if an answer came, was written whole
+/// and tells no fault, 2 if the line is no command, else 1. Of an answer that is a source its bytes alone are written. The source of a line that
+/// takes one is in the texts, or on standard input. The error is lack of memory before it began.
+pub fn submit_to<R: AllocGlobal + Input, W: Write, E: Write + Drop>(
+    rt: &R,
+    layout: &FolderLayout,
+    process: u32,
+    asked: &Submitter,
+    origin: Origin<'_>,
+    persons: Persons,
+    writer: &mut W,
+    told: &mut Telling<E>,
+) -> Result<Ended, AllocError>
+    ensures { IfOk result (λ ended. Submits (option_map string_bytes asked.now.line) (W.contents writer.old) (W.contents writer.new) ended) }
+{
+    let line = match &asked.line {
+        Some(line) => Some(line.as_str()),
+        None => None,
+    };
+    if !is_command(rt.alloc(), line)? {
+        let _ = explain_no_command(&mut told.errors);
+        return Ok(Ended {
+            came: None,
+            status: 2,
+            is_written: true,
+        });
+    }
+    let sent = match sent_of(rt, rt.alloc(), line, origin) {
+        Ok(sent) => sent,
+        Err(why) if why.kind() == io::ErrorKind::OutOfMemory => return Err(AllocError),
+        Err(_) => {
+            let is_written = put(READ_FAULT, writer);
+            return Ok(Ended {
+                came: Some(Submission::Unread),
+                status: 1,
+                is_written,
+            });
+        }
+    };
+    let ended = leave(rt, layout, process, asked, &sent, persons, writer, told);
+    drop(sent);
+    Ok(ended)
+}
+
+/// Leaves a script for the server of a folder, and prints its answer, as `submit_to` does; the status. The source of a line that takes one is in
+/// the files of these names, or on standard input if there are none. On a terminal control bytes of the answer are shown as `?`. The error is
+/// lack of memory before it began.
 pub fn submit_script<R: AllocGlobal + Input + Print, E: Write + Drop>(
     rt: &R,
     files: &HostRuntime,
     process: u32,
     asked: &Submitter,
+    names: &[String],
     persons: Persons,
     errors: E,
 ) -> Result<u8, AllocError> {
@@ -392,30 +585,26 @@ pub fn submit_script<R: AllocGlobal + Input + Print, E: Write + Drop>(
         errors,
         is_quiet: persons.is_quiet,
     };
-    let layout = FolderLayout::new(*files, alloc, asked.folder.as_str())?;
-    let sent = match sent_of(rt, alloc, asked.line.as_ref()) {
-        Ok(Some(sent)) => sent,
-        Ok(None) => {
-            let _ = explain_no_command(&mut told.errors);
-            return Ok(2);
-        }
-        Err(why) if why.kind() == io::ErrorKind::OutOfMemory => return Err(AllocError),
-        Err(_) => {
-            let _ = writer.write_all(READ_FAULT);
-            let _ = writer.flush();
-            return Ok(1);
-        }
+    let Some(texts) = read_or_refuse(rt, files, names, &mut writer, &mut told)? else {
+        return Ok(1);
     };
-    let status = leave(
+    let origin = if names.is_empty() {
+        Origin::Input
+    } else {
+        Origin::Texts(texts.as_slice())
+    };
+    let layout = FolderLayout::new(*files, alloc, asked.folder.as_str())?;
+    let ended = submit_to(
         rt,
         &layout,
         process,
         asked,
-        &sent,
+        origin,
         persons,
         &mut writer,
         &mut told,
-    );
-    drop(sent);
+    )?;
+    let status = ended.status;
+    drop(ended);
     Ok(status)
 }

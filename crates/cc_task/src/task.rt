@@ -3,6 +3,15 @@
 /// The largest number of steps or instructions that a task may have.
 pub const MOST_STEPS: u64 = 1_000_000_000;
 
+/// How an image is compiled.
+#[derive(Clone, Copy, Debug, Drop, PartialEq, Eq)]
+pub enum Kind {
+    /// It owes nothing once the program goes wrong.
+    Plain,
+    /// It goes on for ever then, and writes nothing more.
+    Checked,
+}
+
 /// What the program is asked to do with a text.
 #[derive(Drop)]
 pub enum Task {
@@ -11,9 +20,11 @@ pub enum Task {
     /// Run the program for at most this many steps on these input words.
     Interpret(u64, Vec<u32>),
     /// Compile the program and run its image for at most this many instructions on these input words.
-    Run(u64, Vec<u32>),
+    Run(Kind, u64, Vec<u32>),
     /// Compile the program and list its image.
-    Asm,
+    Asm(Kind),
     /// Compile the program and write its image as Intel HEX.
-    Image,
+    Image(Kind),
+    /// Compile the program and say what its image takes.
+    Size(Kind),
 }

@@ -1,6 +1,6 @@
 pub mod Parting
 pub mod Showing
--- What was read from a reader.
-pub mod Reading
+-- Where the functions of an image are.
+pub mod Placing
 -- What a task writes.
 pub mod Working

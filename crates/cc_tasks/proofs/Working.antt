@@ -1,11 +1,13 @@
 -- What a task writes for what it reads.
 use Rattle.std.proofs.Common.{◌≡◌, ◌∙◌, ℕ, List, [], take, Option, Some, None, Result, Ok, Err, OnOk, refl, sym, ap, subst, inl, inr}
-use Rattle.std.specs.Prelude.{◌⊎◌, IfOk, IfErr}
+use Rattle.std.specs.Prelude.{◌⊎◌, IfOk, IfErr, IsErrAnd}
 use Rattle.std.proofs.KnownBytes.{Appends-kept}
 use Rattle.std.specs.Io.KnownBytes.{Appends, Keeps}
+use Rattle.cc_sources.specs.Reading.{IsTextOf}
 use Rattle.cc_task.specs.declared.task.Task.{Task}
-use Rattle.cc_tasks.specs.Answer.{Answers, IsRefused}
-use Rattle.cc_tasks.specs.Written.{IsAnswered, IsTurnedDown, HasNoAnswer, IsPerformed, IsTextOf, Writes, answer_text, fault_text}
+use Rattle.cc_c_laws.specs.declared.mode.Mode.{Mode}
+use Rattle.cc_tasks.specs.Answer.{Answers, IsRefused, mode_for}
+use Rattle.cc_tasks.specs.Written.{IsAnswered, IsTurnedDown, HasNoAnswer, IsPerformed, Writes, answer_text, fault_text}
 use Rattle.cc_tasks.specs.internal.Working.{Flushes, RefusesBy, IsAnsweredFor, IsRefusedFor, TellsOf, IsDoneFor, status_of}
 use Rattle.cc_tasks.specs.declared.answer.Answer.{Answer}
 use Rattle.cc_tasks.specs.declared.fault.Fault.{Fault}
@@ -30,9 +32,9 @@ told_answer (Ok done) task text a b it is written = record { answer = it; answer
 told_answer (Err fault) task text a b it is written = inl written
 
 -- a fault whose line was written
-pub told_fault : (task : Task) (text : List ℕ) (a b : Option (List ℕ)) (fault told : Fault) → IsRefused text fault → RefusesBy fault text a b told → IsRefusedFor text a b told
+pub told_fault : (task : Task) (text : List ℕ) (a b : Option (List ℕ)) (fault told : Fault) → IsRefused (mode_for task) text fault → RefusesBy fault text a b told → IsRefusedFor (mode_for task) text a b told
 told_fault task text a b fault told why (inl unwritten) = inl unwritten
-told_fault task text a b fault told why (inr by) = inr (subst (λ (f : Fault). IsRefused text f × Appends a b (fault_text text f)) (sym by.0) (why, by.1))
+told_fault task text a b fault told why (inr by) = inr (subst (λ (f : Fault). IsRefused (mode_for task) text f × Appends a b (fault_text text f)) (sym by.0) (why, by.1))
 
 -- some text of a reader
 text_of : Option (List ℕ) → List ℕ
@@ -45,15 +47,20 @@ is_text_of None = tt
 is_text_of (Some bytes) = refl
 
 -- a text that could not be read
-pub unread : (input a b : Option (List ℕ)) (fault told : Fault) → (fault ≡ Read) ⊎ (fault ≡ OutOfMemory) → RefusesBy fault [] a b told → HasNoAnswer input a b told
-unread input a b fault told why (inl unwritten) = inl unwritten
-unread input a b fault told (inl is) (inr by) = inr (inl (by.0 ∙ is, subst (λ (f : Fault). Appends a b (fault_text [] f)) is by.1))
-unread input a b fault told (inr is) (inr by) = inr (inr (subst (λ (f : Fault). IsTurnedDown input a b f) (sym (by.0 ∙ is)) (record {
+pub unread : (input a b : Option (List ℕ)) (fault told : Fault) → (fault ≡ Read) ⊎ (fault ≡ OutOfMemory) → RefusesBy fault [] a b told → (mode : Mode) → HasNoAnswer mode input a b told
+unread input a b fault told why (inl unwritten) mode = inl unwritten
+unread input a b fault told (inl is) (inr by) mode = inr (inl (by.0 ∙ is, subst (λ (f : Fault). Appends a b (fault_text [] f)) is by.1))
+unread input a b fault told (inr is) (inr by) mode = inr (inr (subst (λ (f : Fault). IsTurnedDown mode input a b f) (sym (by.0 ∙ is)) (record {
   text = text_of input;
   read = is_text_of input;
   refused = tt;
   written = subst (λ (f : Fault). Appends a b (fault_text [] f)) is by.1;
 })))
+
+-- a task that was not done, since memory ran out before a text was there
+pub undone : {T : Type 0} (answer : Result T Fault) (task : Task) (input a b : Option (List ℕ)) → IsErrAnd answer (λ told. RefusesBy OutOfMemory [] a b told) → IsDoneFor task input a b answer
+undone (Ok did) task input a b by = absurd by
+undone (Err told) task input a b by = unread input a b OutOfMemory told (inr refl) by (mode_for task)
 
 -- a task that was done for the text that was read
 pub done : {T : Type 0} (answer : Result T Fault) (task : Task) (input a b c : Option (List ℕ)) (text : List ℕ) → IsTextOf input text → b ≡ a → TellsOf task text b c answer → IsDoneFor task input a c answer

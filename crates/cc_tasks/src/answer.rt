@@ -1,16 +1,21 @@
 // The answer to a task for a text.
 
-ghost use Rattle.std.specs.Prelude.{IfOk, IfErr};
-ghost use Rattle.cc_link.specs.Agree.{Agree};
-ghost use Rattle.cc_tasks.specs.Answer.{IsAccepted, IsRan, IsExecuted, IsListed, IsImage, Answers, IsRefused};
+ghost use Rattle.std.specs.Prelude.{◌≡◌, ℕ, List, IfOk, IfErr};
+ghost use Rattle.cc_c_laws.specs.declared.mode.Mode.{Mode};
+ghost use Rattle.cc_c_laws.specs.declared.mode.Mode.TheVariants.{Plain};
+ghost use Rattle.cc_link.specs.Agree.{Agree, AgreeIn};
+ghost use Rattle.cc_link.specs.Compile.{IsBuildRefusalIn};
+ghost use Rattle.cc_tasks.specs.Answer.{IsAccepted, IsRan, IsExecuted, IsListed, IsImage, IsMeasured, Answers, IsRefused, mode_of, mode_for};
 
 use super::fault::Fault;
+use super::sizing::{Measure, measured};
 use cc_answers::{ImageRun, run_image};
 use cc_hex::image::write;
-use cc_link::{BuildFault, CompiledUnit, compile, typed_unit};
+use cc_link::{BuildFault, CompiledUnit, Mode, compile_in, typed_unit};
 use cc_meaning::{Outcome, interpret};
 use cc_rv32::listing::list;
-use cc_task::Task;
+use cc_size::size_in;
+use cc_task::{Kind, Task};
 use std::alloc::Global;
 
 /// What a task answers, before it is written.
@@ -26,12 +31,14 @@ pub enum Answer {
     Listed(Vec<u8>),
     /// The program's image as Intel HEX.
     Image(Vec<u8>),
+    /// What the program's image takes.
+    Sized(Measure),
 }
 
 // That the text is a program.
 fn accepted(alloc: Global, text: &[u8]) -> Result<Answer, Fault>
     ensures answer { IfOk result (λ answer. IsAccepted text.now answer) }
-    ensures refused { IfErr result (λ fault. IsRefused text.now fault) }
+    ensures refused { IfErr result (λ fault. IsRefused Plain text.now fault) }
 {
     let _program = match typed_unit(alloc, text) {
         Ok(program) => program,
@@ -43,7 +50,7 @@ fn accepted(alloc: Global, text: &[u8]) -> Result<Answer, Fault>
 // What the program does on the input words. 40 where memory was refused as it ran.
 fn ran(alloc: Global, text: &[u8], words: &[u32], steps: u64) -> Result<Answer, Fault>
     ensures answer { IfOk result (λ answer. IsRan steps words.now text.now answer) }
-    ensures refused { IfErr result (λ fault. IsRefused text.now fault) }
+    ensures refused { IfErr result (λ fault. IsRefused Plain text.now fault) }
 {
     match typed_unit(alloc, text) {
         Ok(program) => match interpret(alloc, &program, words, steps) {
@@ -54,25 +61,51 @@ fn ran(alloc: Global, text: &[u8], words: &[u32], steps: u64) -> Result<Answer, 
     }
 }
 
-// The compiled unit of a text.
-fn compiled(alloc: Global, text: &[u8]) -> Result<CompiledUnit, Fault>
-    ensures agrees { IfOk result (λ unit. Agree text.now unit.image) }
-    ensures refused { IfErr result (λ fault. IsRefused text.now fault) }
+/// The mode of an image.
+pub fn mode_of(kind: Kind) -> Mode
+    ensures { result ≡ mode_of kind }
 {
-    match compile(alloc, text) {
+    match kind {
+        Kind::Plain => Mode::Plain,
+        Kind::Checked => Mode::Checked,
+    }
+}
+
+// The program's fault for one of compiling.
+fn fault_of_build(fault: BuildFault) -> Fault
+    ensures { (mode : Mode) (text : List ℕ) → IsBuildRefusalIn mode text fault → IsRefused mode text result }
+{
+    match fault {
+        BuildFault::Text(fault) => Fault::Text(fault),
+        BuildFault::Piece(fault) => Fault::Piece(fault),
+        BuildFault::Link(fault) => Fault::Link(fault),
+    }
+}
+
+// The compiled unit of a text in a mode.
+fn compiled(alloc: Global, mode: Mode, text: &[u8]) -> Result<CompiledUnit, Fault>
+    ensures agrees { IfOk result (λ unit. Agree text.now unit.image) }
+    ensures follows { IfOk result (λ unit. AgreeIn mode text.now unit.image) }
+    ensures refused { IfErr result (λ fault. IsRefused mode text.now fault) }
+{
+    match compile_in(alloc, mode, text) {
         Ok(unit) => Ok(unit),
-        Err(BuildFault::Text(fault)) => Err(Fault::Text(fault)),
-        Err(BuildFault::Piece(fault)) => Err(Fault::Piece(fault)),
-        Err(BuildFault::Link(fault)) => Err(Fault::Link(fault)),
+        Err(fault) => Err(fault_of_build(fault)),
     }
 }
 
 // What the program's image does on the input words. 40 where memory was refused as it ran.
-fn executed(alloc: Global, text: &[u8], words: &[u32], steps: u64) -> Result<Answer, Fault>
-    ensures answer { IfOk result (λ answer. IsExecuted steps words.now text.now answer) }
-    ensures refused { IfErr result (λ fault. IsRefused text.now fault) }
+fn executed(
+    alloc: Global,
+    mode: Mode,
+    text: &[u8],
+    words: &[u32],
+    steps: u64,
+) -> Result<Answer, Fault>
+    ensures answer { IfOk result (λ answer. IsExecuted mode steps words.now text.now answer) }
+    ensures refused { IfErr result (λ fault. IsRefused mode text.now fault) }
 {
-    let unit = match compiled(alloc, text) {
+    let unit = match compiled(alloc, mode, text) {
         Ok(unit) => unit,
         Err(fault) => return Err(fault),
     };
@@ -83,11 +116,11 @@ fn executed(alloc: Global, text: &[u8], words: &[u32], steps: u64) -> Result<Ans
 }
 
 // The listing of the program's image.
-fn listed(alloc: Global, text: &[u8]) -> Result<Answer, Fault>
-    ensures answer { IfOk result (λ answer. IsListed text.now answer) }
-    ensures refused { IfErr result (λ fault. IsRefused text.now fault) }
+fn listed(alloc: Global, mode: Mode, text: &[u8]) -> Result<Answer, Fault>
+    ensures answer { IfOk result (λ answer. IsListed mode text.now answer) }
+    ensures refused { IfErr result (λ fault. IsRefused mode text.now fault) }
 {
-    match compiled(alloc, text) {
+    match compiled(alloc, mode, text) {
         Err(fault) => Err(fault),
         Ok(unit) => match list(alloc, &unit.stored().image) {
             Ok(lines) => Ok(Answer::Listed(lines)),
@@ -97,11 +130,11 @@ fn listed(alloc: Global, text: &[u8]) -> Result<Answer, Fault>
 }
 
 // The program's image as Intel HEX.
-fn in_hex(alloc: Global, text: &[u8]) -> Result<Answer, Fault>
-    ensures answer { IfOk result (λ answer. IsImage text.now answer) }
-    ensures refused { IfErr result (λ fault. IsRefused text.now fault) }
+fn in_hex(alloc: Global, mode: Mode, text: &[u8]) -> Result<Answer, Fault>
+    ensures answer { IfOk result (λ answer. IsImage mode text.now answer) }
+    ensures refused { IfErr result (λ fault. IsRefused mode text.now fault) }
 {
-    match compiled(alloc, text) {
+    match compiled(alloc, mode, text) {
         Err(fault) => Err(fault),
         Ok(unit) => match write(alloc, &unit.stored().image) {
             Ok(lines) => Ok(Answer::Image(lines)),
@@ -110,19 +143,38 @@ fn in_hex(alloc: Global, text: &[u8]) -> Result<Answer, Fault>
     }
 }
 
-/// The answer to a task for a text: `check` and `interpret` by its tree, `run`, `asm` and `image` by its image, which agrees with it.
+// What the program's image takes.
+fn sized(alloc: Global, mode: Mode, text: &[u8]) -> Result<Answer, Fault>
+    ensures answer { IfOk result (λ answer. IsMeasured mode text.now answer) }
+    ensures refused { IfErr result (λ fault. IsRefused mode text.now fault) }
+{
+    let sized = match size_in(alloc, mode, text) {
+        Ok(sized) => sized,
+        Err(fault) => return Err(fault_of_build(fault)),
+    };
+    match measured(alloc, sized) {
+        Ok(measure) => Ok(Answer::Sized(measure)),
+        Err(_) => Err(Fault::OutOfMemory),
+    }
+}
+
+/// The answer to a task for a text: `check` and `interpret` by its tree, `run`, `asm`, `image` and `size` by its image, which agrees with it and follows
+/// what the program shows in its mode.
 ///
-/// Refusals: those of `typed_unit`; for `run`, `asm` and `image` then 22, 24 and 25 of `compile`; 40 where memory was
+/// Refusals: those of `typed_unit`; for `run`, `asm`, `image` and `size` then 22, 24 and 25 of `compile_in`; 40 where memory was
 /// refused.
 pub fn answer_for(alloc: Global, task: &Task, text: &[u8]) -> Result<Answer, Fault>
     ensures answer { IfOk result (λ answer. Answers task.now text.now answer) }
-    ensures refused { IfErr result (λ fault. IsRefused text.now fault) }
+    ensures refused { IfErr result (λ fault. IsRefused (mode_for task.now) text.now fault) }
 {
     match task {
         Task::Check => accepted(alloc, text),
         Task::Interpret(steps, words) => ran(alloc, text, words.as_slice(), *steps),
-        Task::Run(steps, words) => executed(alloc, text, words.as_slice(), *steps),
-        Task::Asm => listed(alloc, text),
-        Task::Image => in_hex(alloc, text),
+        Task::Run(kind, steps, words) => {
+            executed(alloc, mode_of(*kind), text, words.as_slice(), *steps)
+        }
+        Task::Asm(kind) => listed(alloc, mode_of(*kind), text),
+        Task::Image(kind) => in_hex(alloc, mode_of(*kind), text),
+        Task::Size(kind) => sized(alloc, mode_of(*kind), text),
     }
 }

@@ -51,8 +51,8 @@ impl PartFault {
     }
 }
 
-// A part of a unit.
-fn part_of(alloc: Global, unit: &StoredUnit, part: Part) -> Result<Vec<u8>, AllocError>
+/// A part of a unit: its image as Intel HEX, or its source's bytes.
+pub fn part_of(alloc: Global, unit: &StoredUnit, part: Part) -> Result<Vec<u8>, AllocError>
     ensures { IfOk result (λ bytes. IsPart part unit.now bytes.items) }
 {
     match part {
@@ -85,8 +85,8 @@ pub fn part_in(
     }
 }
 
-// Writes which names of the map are near. Nothing where memory for that runs out.
-fn explain_absent<W: Write>(
+/// Writes which names of the map are near. Nothing where memory for that runs out.
+pub fn explain_absent<W: Write>(
     alloc: Global,
     units: &UnitMap,
     name: &[u8],

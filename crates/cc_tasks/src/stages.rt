@@ -5,12 +5,15 @@ ghost use Rattle.cc_tasks.specs.internal.Shown.{IsUnknown, IsTextRefused};
 ghost use Rattle.cc_tasks.specs.internal.Stages.{fault_of_stages};
 ghost use Rattle.cc_tasks.specs.declared.fault.Fault.TheVariants.{UnknownFunction};
 
-use super::explain::{explain_fault, explain_program};
+use super::answer::mode_of;
+use super::explain::{Matter, explanation_of_fault, explanation_of_program, write_explanation};
 use super::fault::Fault;
 use super::unknown::explain_unknown;
 use super::work::{Performed, read_text, refused, status};
 use cc_link::typed_unit;
+use cc_sources::Origin;
 use cc_stages::{StagesFault, stages};
+use cc_task::Kind;
 use cc_types::TypedUnit;
 use std::alloc::{AllocError, Global};
 use std::io::{self, Read, Write};
@@ -31,6 +34,7 @@ fn fault_of(fault: StagesFault) -> Fault
 // Writes the stages of the functions of a text, or of the one of that name. What was written stays written where a fault comes behind it.
 fn show<W: Write>(
     alloc: Global,
+    kind: Kind,
     text: &[u8],
     function: Option<&[u8]>,
     writer: &mut W,
@@ -42,7 +46,7 @@ fn show<W: Write>(
         Ok(unit) => unit,
         Err(fault) => return Err(Fault::Text(fault)),
     };
-    match stages(alloc, &unit, function, writer) {
+    match stages(alloc, mode_of(kind), &unit, function, writer) {
         Ok(()) => Ok(()),
         Err(fault) => Err(fault_of(fault)),
     }
@@ -51,11 +55,12 @@ fn show<W: Write>(
 // Writes the stages, or the fault's line behind what was written of them.
 fn tell<W: Write>(
     alloc: Global,
+    kind: Kind,
     text: &[u8],
     function: Option<&[u8]>,
     writer: &mut W,
 ) -> Result<(), Fault> {
-    match show(alloc, text, function, writer) {
+    match show(alloc, kind, text, function, writer) {
         Ok(()) => match writer.flush() {
             Ok(()) => Ok(()),
             Err(_) => Err(Fault::Write),
@@ -65,17 +70,18 @@ fn tell<W: Write>(
     }
 }
 
-// Shows the text of a reader.
-fn try_perform<R: Read, W: Write>(
+/// Shows the text of a reader.
+pub(crate) fn try_stages<R: Read, W: Write>(
     alloc: Global,
+    kind: Kind,
     function: Option<&[u8]>,
     reader: &mut R,
     writer: &mut W,
 ) -> Performed {
     match read_text(alloc, reader, writer) {
         Ok(text) => {
-            let told = match tell(alloc, text.as_slice(), function, writer) {
-                Ok(()) => Ok(None),
+            let told = match tell(alloc, kind, text.as_slice(), function, writer) {
+                Ok(()) => Ok(Matter::Text),
                 Err(fault) => Err(fault),
             };
             Performed { text, told }
@@ -112,20 +118,25 @@ fn explain_name<W: Write>(
     }
 }
 
-// Explains what was told of a text.
-fn explain<W: Write>(
+/// Explains what was told of a text that comes from there.
+pub(crate) fn explain_stages<W: Write>(
     alloc: Global,
     function: Option<&[u8]>,
     performed: &Performed,
+    origin: Origin<'_>,
     writer: &mut W,
 ) {
     let text = performed.text.as_slice();
-    let written = match &performed.told {
-        Ok(_) => explain_program(alloc, text, writer),
-        Err(Fault::UnknownFunction) => explain_name(alloc, text, function.unwrap_or(b""), writer),
-        Err(fault) => explain_fault(alloc, text, fault, writer),
+    let explanation = match &performed.told {
+        Ok(_) => explanation_of_program(alloc, text),
+        Err(fault) => explanation_of_fault(alloc, text, fault),
     };
-    let _ = written;
+    let _ = match &performed.told {
+        Err(Fault::UnknownFunction) => {
+            explain_name(alloc, text, function.unwrap_or(b""), writer)
+        }
+        _ => write_explanation(alloc, text, origin, &explanation, writer),
+    };
     let _ = writer.flush();
 }
 
@@ -137,13 +148,14 @@ fn explain<W: Write>(
 /// no line is written.
 pub fn perform_stages<H: AllocGlobal, R: Read, W: Write>(
     rt: &H,
+    kind: Kind,
     function: Option<&[u8]>,
     reader: &mut R,
     writer: &mut W,
 ) -> u8
     ensures { result ≤ 1 }
 {
-    let performed = try_perform(rt.alloc(), function, reader, writer);
+    let performed = try_stages(rt.alloc(), kind, function, reader, writer);
     status(performed)
 }
 
@@ -151,6 +163,7 @@ pub fn perform_stages<H: AllocGlobal, R: Read, W: Write>(
 /// does; of a name that no function has, which one is near.
 pub fn perform_and_explain_stages<H: AllocGlobal, R: Read, W: Write, E: Write>(
     rt: &H,
+    kind: Kind,
     function: Option<&[u8]>,
     reader: &mut R,
     writer: &mut W,
@@ -158,7 +171,13 @@ pub fn perform_and_explain_stages<H: AllocGlobal, R: Read, W: Write, E: Write>(
 ) -> u8
     ensures { result ≤ 1 }
 {
-    let performed = try_perform(rt.alloc(), function, reader, writer);
-    explain(rt.alloc(), function, &performed, explanations);
+    let performed = try_stages(rt.alloc(), kind, function, reader, writer);
+    explain_stages(
+        rt.alloc(),
+        function,
+        &performed,
+        Origin::Input,
+        explanations,
+    );
     status(performed)
 }

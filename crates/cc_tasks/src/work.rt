@@ -2,15 +2,23 @@
 
 ghost use Rattle.std.specs.Prelude.{◌≡◌, IfOk, IfErr, OnOk};
 ghost use Rattle.std.specs.Io.KnownBytes.{Appends};
-ghost use Rattle.cc_tasks.specs.Written.{answer_text, cause_name, outcome_text, stop_text, HasNoAnswer, IsPerformed, IsTextOf, Writes};
+ghost use Rattle.cc_c_laws.specs.declared.mode.Mode.{Mode};
+ghost use Rattle.cc_sources.specs.Reading.{IsTextOf};
+ghost use Rattle.cc_tasks.specs.Written.{answer_text, cause_name, outcome_text, stop_text, HasNoAnswer, IsPerformed, Writes};
 ghost use Rattle.cc_tasks.specs.internal.Working.{Flushes, IsDoneFor, RefusesBy, TellsOf, status_of};
 
 use super::answer::{Answer, answer_for};
-use super::explain::{explain_fault, explain_program, explain_wrong};
+use super::explain::{
+    Matter, explanation_of_fault, explanation_of_going, explanation_of_program,
+    explanation_of_wrong, write_explanation,
+};
 use super::fault::Fault;
+use super::sizing::write_measure;
 use super::source::read_source;
 use cc_answers::{write_run, write_words};
 use cc_meaning::{Cause, Outcome, Stop};
+use cc_rv32::outcome::MachineOutcome;
+use cc_sources::Origin;
 use cc_task::Task;
 use std::alloc::Global;
 use std::io::{self, Read, Write};
@@ -26,7 +34,8 @@ fn cause_name(cause: Cause) -> &'static str
     }
 }
 
-fn write_stop<W: Write>(stop: Stop, writer: &mut W) -> io::Result<()>
+/// Writes how a run of the interpreter stops.
+pub fn write_stop<W: Write>(stop: Stop, writer: &mut W) -> io::Result<()>
     ensures { OnOk result (Appends (W.contents writer.old) (W.contents writer.new) (stop_text stop)) }
 {
     match stop {
@@ -54,6 +63,7 @@ fn write_answer<W: Write>(answer: &Answer, writer: &mut W) -> io::Result<()>
         Answer::Executed(run) => write_run(run, writer),
         Answer::Listed(lines) => writer.write_all(lines.as_slice()),
         Answer::Image(lines) => writer.write_all(lines.as_slice()),
+        Answer::Sized(it) => write_measure(it, writer),
     }
 }
 
@@ -70,14 +80,18 @@ pub(crate) fn flushed<W: Write>(write: io::Result<()>, writer: &mut W) -> Result
     }
 }
 
-// Why the run went wrong that an answer tells of, where it did.
-fn cause_of(answer: &Answer) -> Option<Cause> {
+// What an answer leaves to be explained.
+fn matter_of(answer: &Answer) -> Matter {
     match answer {
         Answer::Ran(outcome) => match outcome.stop {
-            Stop::Wrong(cause) => Some(cause),
-            Stop::Going | Stop::Ended(_) => None,
+            Stop::Wrong(cause) => Matter::Wrong(cause),
+            Stop::Going | Stop::Ended(_) => Matter::Text,
         },
-        Answer::Accepted | Answer::Executed(_) | Answer::Listed(_) | Answer::Image(_) => None,
+        Answer::Executed(run) => match run.outcome {
+            MachineOutcome::Going => Matter::Going,
+            MachineOutcome::Exited(_) | MachineOutcome::Trapped => Matter::Text,
+        },
+        Answer::Accepted | Answer::Listed(_) | Answer::Image(_) | Answer::Sized(_) => Matter::Text,
     }
 }
 
@@ -96,26 +110,21 @@ pub(crate) fn refused<W: Write>(fault: Fault, text: &[u8], writer: &mut W) -> Fa
     }
 }
 
-// Writes an answer. The result is why its run went wrong, if it did.
+// Writes an answer. The result is what it leaves to be explained.
 #[tactic(auto, using(crate::proofs::Working::written))]
-fn tell_answer<W: Write>(answer: &Answer, writer: &mut W) -> Result<Option<Cause>, Fault>
+fn tell_answer<W: Write>(answer: &Answer, writer: &mut W) -> Result<Matter, Fault>
     ensures { Writes (W.contents writer.old) (W.contents writer.new) (answer_text answer.now) result }
 {
     let write = write_answer(answer, writer);
     match flushed(write, writer) {
-        Ok(()) => Ok(cause_of(answer)),
+        Ok(()) => Ok(matter_of(answer)),
         Err(fault) => Err(fault),
     }
 }
 
-// Does a task for a text: writes the answer, or the fault's line, and answers why the run went wrong, where it did.
+// Does a task for a text: writes the answer, or the fault's line, and answers what is left to be explained.
 #[tactic(auto, using(crate::proofs::Working::told_answer, crate::proofs::Working::told_fault))]
-fn tell<W: Write>(
-    alloc: Global,
-    task: &Task,
-    text: &[u8],
-    writer: &mut W,
-) -> Result<Option<Cause>, Fault>
+fn tell<W: Write>(alloc: Global, task: &Task, text: &[u8], writer: &mut W) -> Result<Matter, Fault>
     ensures { TellsOf task.now text.now (W.contents writer.old) (W.contents writer.new) result }
 {
     match answer_for(alloc, task, text) {
@@ -124,11 +133,11 @@ fn tell<W: Write>(
     }
 }
 
-/// A text as far as it was read, and what a task told of it: the fault, or why the run went wrong, where it did.
+/// A text as far as it was read, and what a task told of it: the fault, or what is left to be explained.
 #[derive(Drop)]
 pub(crate) struct Performed {
     pub(crate) text: Vec<u8>,
-    pub(crate) told: Result<Option<Cause>, Fault>,
+    pub(crate) told: Result<Matter, Fault>,
 }
 
 /// The text of a reader; where it can't be read, the fault's line is written.
@@ -139,7 +148,7 @@ pub(crate) fn read_text<R: Read, W: Write>(
 ) -> Result<Vec<u8>, Fault>
     ensures text { IfOk result (λ text. IsTextOf (R.remaining reader.old) text.items) }
     ensures kept { OnOk result (W.contents writer.new ≡ W.contents writer.old) }
-    ensures unread { IfErr result (HasNoAnswer (R.remaining reader.old) (W.contents writer.old) (W.contents writer.new)) }
+    ensures unread { IfErr result (λ fault. (mode : Mode) → HasNoAnswer mode (R.remaining reader.old) (W.contents writer.old) (W.contents writer.new) fault) }
 {
     match read_source(alloc, reader) {
         Ok(text) => Ok(text),
@@ -147,9 +156,9 @@ pub(crate) fn read_text<R: Read, W: Write>(
     }
 }
 
-// Does a task.
+/// Does a task.
 #[tactic(auto, using(crate::proofs::Working::done))]
-fn try_perform<R: Read, W: Write>(
+pub(crate) fn try_perform<R: Read, W: Write>(
     alloc: Global,
     task: &Task,
     reader: &mut R,
@@ -169,15 +178,22 @@ fn try_perform<R: Read, W: Write>(
     }
 }
 
-// Explains what a task told of a text.
-fn explain<W: Write>(alloc: Global, task: &Task, performed: &Performed, writer: &mut W) {
+/// Explains what a task told of a text that comes from there.
+pub(crate) fn explain<W: Write>(
+    alloc: Global,
+    task: &Task,
+    performed: &Performed,
+    origin: Origin<'_>,
+    writer: &mut W,
+) {
     let text = performed.text.as_slice();
-    let written = match &performed.told {
-        Ok(None) => explain_program(alloc, text, writer),
-        Ok(Some(cause)) => explain_wrong(alloc, task, text, *cause, writer),
-        Err(fault) => explain_fault(alloc, text, fault, writer),
+    let explanation = match &performed.told {
+        Ok(Matter::Text) => explanation_of_program(alloc, text),
+        Ok(Matter::Wrong(cause)) => explanation_of_wrong(alloc, task, text, *cause),
+        Ok(Matter::Going) => explanation_of_going(alloc, task, text),
+        Err(fault) => explanation_of_fault(alloc, text, fault),
     };
-    let _ = written;
+    let _ = write_explanation(alloc, text, origin, &explanation, writer);
     let _ = writer.flush();
 }
 
@@ -209,7 +225,8 @@ pub fn perform<H: AllocGlobal, R: Read, W: Write>(
 }
 
 /// Does a task as `perform` does, and writes to `explanations` what helps a person with a fault or with a run that went wrong: the
-/// place, as editors read it, what was found there and what was expected, and the line of the text; of another program what is warned of.
+/// place, as editors read it, what was found there and what was expected, and the line of the text; so of a checked image that has stopped
+/// in place; of another program what is warned of.
 /// Of a write to `writer` that fails it says so. Where memory for an explanation runs out, or it can not be written, there is none; the
 /// status is the same.
 #[tactic(auto, using(crate::proofs::Working::performed))]
@@ -223,6 +240,6 @@ pub fn perform_and_explain<H: AllocGlobal, R: Read, W: Write, E: Write>(
     ensures { IsPerformed task (R.remaining reader.old) (W.contents writer.old) (W.contents writer.new) result }
 {
     let performed = try_perform(rt.alloc(), &task, reader, writer);
-    explain(rt.alloc(), &task, &performed, explanations);
+    explain(rt.alloc(), &task, &performed, Origin::Input, explanations);
     status(performed)
 }

@@ -32,16 +32,17 @@ pub struct Refused {
 /// goes wrong and the RTL does not. Else it is refused, and the pair comes back as it was:
 /// with 24 there is no solution, and the fault names a label at which none can be; with 40 memory ran out.
 pub fn validate(alloc: Global, pair: RtlPair, ltl: Ltl) -> Result<LtlPair, Refused>
-    ensures answer { IfOk result (λ made. made ≡ record { unit = pair.unit; function = pair.function; ltl = ltl }) }
+    ensures answer { IfOk result (λ made. made ≡ record { mode = pair.mode; unit = pair.unit; function = pair.function; ltl = ltl }) }
     ensures solved { IfOk result (λ _. HasSolution pair.rtl ltl) }
-    ensures follows { IfOk result (λ made. FollowsRtl (tree_of made) made.function pair.rtl made.ltl) }
+    ensures follows { IfOk result (λ made. FollowsRtl made.mode (tree_of made) made.function pair.rtl made.ltl) }
     ensures refused { IfErr result (λ refused. IsRefusal pair.rtl ltl refused.fault) }
     ensures hands_back { IfErr result (λ refused. refused.pair ≡ pair) }
 {
     match decide(alloc, pair.code(), &ltl) {
         Ok(()) => {
+            let mode = pair.mode();
             let function = pair.function();
-            Ok(LtlPair::new(pair.into_unit(), function, ltl))
+            Ok(LtlPair::new(mode, pair.into_unit(), function, ltl))
         }
         Err(fault) => {
             drop(ltl);

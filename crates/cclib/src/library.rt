@@ -5,7 +5,9 @@ ghost use Rattle.std.specs.Prelude.{◌≤◌};
 use cc_answers::{Persons, Telling, greet};
 use cc_command_line::Session;
 use cc_filing::{disk_of, no_disk, tell_wide_disk};
-use cc_session::{Gate, SessionEnd, session, session_and_explain};
+use cc_session::{Gate, SessionEnd, session_and_explain_in};
+use cc_tasks::mode_of;
+use cc_watch::FaultWatch;
 use std::alloc::AllocError;
 use std::io::{self, BufWriter, Input, Print, Write};
 use std::sync::Wait;
@@ -49,12 +51,13 @@ where
     requires some { 1 ≤ asked.now.workers }
     requires few { asked.now.workers ≤ 8 }
 {
-    let (Ok(mut writer), Ok(errors)) = (
+    let (Ok(buffered), Ok(errors)) = (
         BufWriter::new(rt.alloc(), io::writer(rt)),
         BufWriter::new(rt.alloc(), errors),
     ) else {
         return Err(AllocError);
     };
+    let mut writer = FaultWatch::new(buffered);
     let mut told = Telling {
         errors,
         is_quiet: persons.is_quiet,
@@ -65,34 +68,25 @@ where
     };
     let _ = tell_wide_disk(files, asked.disk.as_str(), &mut told);
     let mut reader = rt.reader();
-    let (disk, end) = if persons.is_quiet {
-        session(
-            rt,
-            rt.alloc(),
-            &mut reader,
-            &mut writer,
-            disk,
-            asked.workers,
-        )
-    } else {
-        if persons.is_typed {
-            let _ = greet(&mut told);
-        }
-        let progress = Progress {
-            rt: *rt,
-            is_shown: persons.is_watched,
-        };
-        session_and_explain(
-            rt,
-            rt.alloc(),
-            &mut reader,
-            &mut writer,
-            &mut told,
-            disk,
-            asked.workers,
-            progress,
-        )
+    if persons.is_typed {
+        let _ = greet(&mut told);
+    }
+    let progress = Progress {
+        rt: *rt,
+        is_shown: persons.is_watched && !persons.is_quiet,
     };
+    let (disk, end) = session_and_explain_in(
+        rt,
+        rt.alloc(),
+        mode_of(asked.kind),
+        &mut reader,
+        &mut writer,
+        &mut told,
+        disk,
+        asked.workers,
+        progress,
+    );
     drop(disk);
-    Ok(status(end))
+    let is_refused = asked.is_strict && writer.has_fault();
+    Ok(if is_refused { 1 } else { status(end) })
 }

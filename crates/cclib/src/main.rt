@@ -1,22 +1,25 @@
-//! The program `cclib`: reads a C program from standard input, and checks, interprets, runs or lists it, or does a script over a library.
+//! The program `cclib`: reads a C program from standard input or from files, and checks, interprets, runs or lists it, or does a script over a library.
 //! How a command line is read is the matter of `cc_command_line`, how a task is done that of `cc_tasks`, a script that of `cc_session`, the
-//! file of a library and what is taken out of one that of `cc_filing`, a server's client that of `cc_submit`. `library` has a session over
-//! a file, `serving` a server, `stack` what the stack needs.
+//! file of a library and what is taken out of one that of `cc_filing`, what looks into libraries that of `cc_keeping`, a server's client that of
+//! `cc_submit`. `keeping` looks into libraries, `library` has a session over a file, `serving` a server, `stack` what the stack needs, `texts`
+//! a program that comes in files.
 #![tactic(auto)]
 
+mod keeping;
 mod library;
 mod serving;
 mod stack;
+mod texts;
 
 ghost use Rattle.cc_command_line.specs.Work.{IsAllowed};
 
 use cc_answers::Persons;
 use cc_command_line::{Invocation, NoRequest, Work, read_or_tell, tell_bytes};
 use cc_descriptors::{System, take_free};
-use cc_filing::take_out_of_file;
 use cc_submit::submit_script;
-use cc_task::Task;
+use cc_task::{Kind, Task};
 use cc_tasks::{Fault, perform, perform_and_explain, perform_and_explain_stages, perform_stages};
+use keeping::{look_into, take_out};
 use library::library_session;
 use serving::serve_folder;
 use stack::reserve_stack;
@@ -27,6 +30,7 @@ use std::process::{self, ExitCode};
 use std::rt::{Clock, Env, Files};
 use std::sync::Wait;
 use std::thread::Threads;
+use texts::{start_stages_of_texts, start_texts};
 
 /// Does what the command line asks; the status is 0 for an answer, 1 for a fault, 2 for a refused command line.
 ///
@@ -55,10 +59,15 @@ fn main(rt: HostRuntime) -> ExitCode {
 // Does a task; the error is lack of memory before it began.
 fn start<R: AllocGlobal + Input + Print, E: Write + Drop>(
     rt: &R,
+    files: &HostRuntime,
     task: Task,
+    names: &[String],
     is_quiet: bool,
     errors: E,
 ) -> Result<u8, AllocError> {
+    if !names.is_empty() {
+        return start_texts(rt, files, task, names, is_quiet, errors);
+    }
     let (Ok(mut writer), Ok(mut errors)) = (
         BufWriter::new(rt.alloc(), io::writer(rt)),
         BufWriter::new(rt.alloc(), errors),
@@ -76,7 +85,31 @@ fn start<R: AllocGlobal + Input + Print, E: Write + Drop>(
 // Shows what the compiler makes of a text; the error is lack of memory before it began.
 fn start_stages<R: AllocGlobal + Input + Print, E: Write + Drop>(
     rt: &R,
+    files: &HostRuntime,
+    kind: Kind,
     function: Option<String>,
+    names: &[String],
+    is_quiet: bool,
+    errors: E,
+) -> Result<u8, AllocError> {
+    let name = match &function {
+        Some(name) => Some(name.as_bytes()),
+        None => None,
+    };
+    let status = if names.is_empty() {
+        start_stages_of_input(rt, kind, name, is_quiet, errors)
+    } else {
+        start_stages_of_texts(rt, files, kind, name, names, is_quiet, errors)
+    };
+    drop(function);
+    status
+}
+
+// The same of the text on standard input.
+fn start_stages_of_input<R: AllocGlobal + Input + Print, E: Write + Drop>(
+    rt: &R,
+    kind: Kind,
+    name: Option<&[u8]>,
     is_quiet: bool,
     errors: E,
 ) -> Result<u8, AllocError> {
@@ -84,21 +117,14 @@ fn start_stages<R: AllocGlobal + Input + Print, E: Write + Drop>(
         BufWriter::new(rt.alloc(), io::writer(rt)),
         BufWriter::new(rt.alloc(), errors),
     ) else {
-        drop(function);
         return Err(AllocError);
     };
-    let name = match &function {
-        Some(name) => Some(name.as_bytes()),
-        None => None,
-    };
     let mut reader = rt.reader();
-    let status = if is_quiet {
-        perform_stages(rt, name, &mut reader, &mut writer)
+    Ok(if is_quiet {
+        perform_stages(rt, kind, name, &mut reader, &mut writer)
     } else {
-        perform_and_explain_stages(rt, name, &mut reader, &mut writer, &mut errors)
-    };
-    drop(function);
-    Ok(status)
+        perform_and_explain_stages(rt, kind, name, &mut reader, &mut writer, &mut errors)
+    })
 }
 
 // The status where there is no work; the error is lack of memory.
@@ -143,16 +169,21 @@ where
     let words: Vec<String> = words.collect(rt.alloc())?;
     let asked = read_or_tell(rt, rt.alloc(), words.as_slice());
     drop(words);
-    let Invocation { work, is_quiet } = match asked {
+    let Invocation {
+        work,
+        is_quiet,
+        files: names,
+    } = match asked {
         Ok(request) => request,
         Err(nothing) => return status_of(nothing),
     };
     persons.is_quiet = is_quiet;
     if goes_deep(&work) && reserve_stack(rt.alloc()).is_err() {
         drop(work);
+        drop(names);
         return Err(AllocError);
     }
-    do_work(rt, files, errors, persons, work)
+    do_work(rt, files, errors, persons, work, names.as_slice())
 }
 
 // Whether a work may need more of the stack than a process begins with: each but a client's, which sends texts as they are.
@@ -160,13 +191,14 @@ fn goes_deep(work: &Work) -> bool {
     !matches!(work, Work::Submit(_))
 }
 
-// Does a work.
+// Does a work; if its program is in files, these are named.
 fn do_work<R, E: Write + Drop>(
     rt: &R,
     files: &HostRuntime,
     errors: E,
     persons: Persons,
     work: Work,
+    names: &[String],
 ) -> Result<u8, AllocError>
 where
     R: AllocGlobal
@@ -186,14 +218,17 @@ where
     requires allowed { IsAllowed work }
 {
     match work {
-        Work::One(task) => start(rt, task, persons.is_quiet, errors),
-        Work::Stages(function) => start_stages(rt, function, persons.is_quiet, errors),
-        Work::TakeOut(wanted) => take_out_of_file(rt, files, &wanted, persons.is_quiet, errors),
+        Work::One(task) => start(rt, files, task, names, persons.is_quiet, errors),
+        Work::Stages(kind, function) => {
+            start_stages(rt, files, kind, function, names, persons.is_quiet, errors)
+        }
+        Work::TakeOut(wanted) => take_out(rt, files, &wanted, persons.is_quiet, errors),
+        Work::Keep(asked) => look_into(rt, files, &asked, persons.is_quiet, errors),
         Work::Library(asked) => library_session(rt, files, &asked, persons, errors),
         Work::Serve(asked) => serve_folder(rt, files, &asked, persons.is_quiet, errors),
         Work::Submit(asked) => {
             let process = process::id(files.process());
-            submit_script(rt, files, process, &asked, persons, errors)
+            submit_script(rt, files, process, &asked, names, persons, errors)
         }
     }
 }

@@ -11,7 +11,8 @@ use cc_filing::{
     AnswerCounts, Keeper, NoFolder, Taken, count_all, no_folder, spools_of, take_to_serve,
     tell_generation, tell_kept,
 };
-use cc_session::{BOUNDS, Generation, GenerationEnd, Served, SessionEnd, Steward, serve_on};
+use cc_session::{BOUNDS, Generation, GenerationEnd, Served, SessionEnd, Steward, serve_on_in};
+use cc_tasks::mode_of;
 use std::alloc::AllocError;
 use std::io::{self, BufWriter, Print, Write};
 use std::rt::Clock;
@@ -133,9 +134,10 @@ where
     };
     let mut serving = Serving { keeper };
     let workers = asked.workers;
-    let Served { disk, spools, end } = serve_on(
+    let Served { disk, spools, end } = serve_on_in(
         rt,
         alloc,
+        mode_of(asked.kind),
         spools,
         writer,
         told,

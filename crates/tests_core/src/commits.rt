@@ -9,6 +9,7 @@ use crate::script::Line::{
 use cc_core::fault::{BuildRefusal, CoreFault};
 use cc_core::sequence::Sequence;
 use std::test::Fail;
+use tests_texts::verdict::passes;
 
 // A source that the build refuses, one whose pieces it refuses, and one of two pieces.
 const BAD: &str = "#xx";
@@ -39,16 +40,13 @@ const ONE_OF_TWO: [(Line, u32); 5] = [
 #[test]
 fn two_clients_add_one_name(rt: HostRuntime) -> Result<(), Fail> {
     let alloc = rt.alloc();
-    assert!(rt; goes_on(alloc, &TWO_CLIENTS, &[], &(None, None, None, 0))?);
-    assert!(rt;
-        goes_on(
-            alloc,
-            &TWO_CLIENTS,
-            &ONE_OF_TWO,
-            &(Some(TWO), None, None, 1)
-        )?
-    );
-    Ok(())
+    passes(goes_on(alloc, &TWO_CLIENTS, &[], &(None, None, None, 0)))?;
+    passes(goes_on(
+        alloc,
+        &TWO_CLIENTS,
+        &ONE_OF_TWO,
+        &(Some(TWO), None, None, 1),
+    ))
 }
 
 // Begin's numbers: the source's, the piece's, the build's for the pieces, and then the map's. Then a unit comes, a new one in its
@@ -83,8 +81,7 @@ const CHANGED: [(Line, u32); 25] = [
 
 #[test]
 fn refused_and_changed(rt: HostRuntime) -> Result<(), Fail> {
-    assert!(rt; begins(rt.alloc(), 200, &CHANGED, &(None, None, None, 3))?);
-    Ok(())
+    passes(begins(rt.alloc(), 200, &CHANGED, &(None, None, None, 3)))
 }
 
 // Events that are not possible: before a piece is made, while a worker has one, and while another client's commit goes on.
@@ -112,8 +109,7 @@ const NOT_NOW: [(Line, u32); 19] = [
 
 #[test]
 fn not_now(rt: HostRuntime) -> Result<(), Fail> {
-    assert!(rt; begins(rt.alloc(), 200, &NOT_NOW, &(None, None, None, 0))?);
-    Ok(())
+    passes(begins(rt.alloc(), 200, &NOT_NOW, &(None, None, None, 0)))
 }
 
 // Two pieces come out of order, and one of them is refused; then both are, and the number of the least comes; then both are made.
@@ -142,8 +138,7 @@ const TWO_PIECES: [(Line, u32); 20] = [
 
 #[test]
 fn two_pieces(rt: HostRuntime) -> Result<(), Fail> {
-    assert!(rt; begins(rt.alloc(), 200, &TWO_PIECES, &(Some(LONG), None, None, 1))?);
-    Ok(())
+    passes(begins(rt.alloc(), 200, &TWO_PIECES, &(Some(LONG), None, None, 1)))
 }
 
 // The record of a name of one byte and a source of three takes 28 bytes: gate, length, 4 bytes up to the name, 7 of the source,
@@ -158,8 +153,7 @@ const FULL: [(Line, u32); 5] = [
 
 #[test]
 fn full_area(rt: HostRuntime) -> Result<(), Fail> {
-    assert!(rt; begins(rt.alloc(), 64, &FULL, &(Some(ONE), Some(TWO), None, 2))?);
-    Ok(())
+    passes(begins(rt.alloc(), 64, &FULL, &(Some(ONE), Some(TWO), None, 2)))
 }
 
 // With a certificate a record takes its length, 4 bytes, and its bytes more: an area of 64 bytes has room for 31, and not for 32.
@@ -180,17 +174,23 @@ const CERTIFIED: [(Line, u32); 7] = [
 
 #[test]
 fn a_certificate_that_has_no_room(rt: HostRuntime) -> Result<(), Fail> {
-    assert!(rt; begins(rt.alloc(), 64, &CERTIFIED, &(Some(ROOM), None, None, 1))?);
-    Ok(())
+    passes(begins(rt.alloc(), 64, &CERTIFIED, &(Some(ROOM), None, None, 1)))
 }
 
 // Lists give back what they were made of; numbers are those of the faults.
 #[test]
 fn lists_and_numbers(rt: HostRuntime) -> Result<(), Fail> {
-    assert!(rt; CoreFault::OutOfMemory.number() == 40 && BuildRefusal::OutOfMemory.number() == 40);
-    assert!(rt; BuildRefusal::Refused(22).number() == 22);
+    let numbers = [
+        CoreFault::OutOfMemory.number(),
+        BuildRefusal::OutOfMemory.number(),
+        BuildRefusal::Refused(22).number(),
+    ];
     let list = Sequence::new(Vec::from_slice(rt.alloc(), TWO.as_bytes())?);
-    assert!(rt; list.get(1).copied() == Some(b'w') && list.get(3).is_none());
-    assert!(rt; list.into_vec().as_slice() == TWO.as_bytes());
-    Ok(())
+    let items = [list.get(1).copied(), list.get(3).copied()];
+    let bytes = list.into_vec();
+    passes(Ok(
+        numbers == [40, 40, 22]
+            && items == [Some(b'w'), None]
+            && bytes.as_slice() == TWO.as_bytes(),
+    ))
 }

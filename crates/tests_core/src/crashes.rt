@@ -10,6 +10,7 @@ use crate::script::Line::{
 use cc_core::laws::{crash_law, survival_law, turn_law};
 use std::alloc::Global;
 use std::test::Fail;
+use tests_texts::verdict::passes;
 
 // The eight events of one commit, from its job to its last device event.
 const COMMIT: [Line; 8] = [
@@ -67,7 +68,7 @@ const CRASHES: [Row; 12] = [
 #[test]
 fn a_crash_at_each_event(rt: HostRuntime) -> Result<(), Fail> {
     for row in &CRASHES {
-        assert!(rt; recovers(rt.alloc(), *row)?);
+        passes(recovers(rt.alloc(), *row))?;
     }
     Ok(())
 }
@@ -103,16 +104,14 @@ const FAILED: [(Line, u32); 22] = [
 #[test]
 fn until_the_recovery(rt: HostRuntime) -> Result<(), Fail> {
     let first = &COMMIT[..7];
-    assert!(rt; goes_on(rt.alloc(), first, &FAILED, &(Some(ONE), Some(ONE), None, 1))?);
-    Ok(())
+    passes(goes_on(rt.alloc(), first, &FAILED, &(Some(ONE), Some(ONE), None, 1)))
 }
 
 // No record is recovered from a new disk.
 #[test]
 fn an_empty_recovery(rt: HostRuntime) -> Result<(), Fail> {
     let wanted = (None, None, None, 0);
-    assert!(rt; begins(rt.alloc(), 200, &[(Crash(0xa5), 0), (Recover, 0)], &wanted)?);
-    Ok(())
+    passes(begins(rt.alloc(), 200, &[(Crash(0xa5), 0), (Recover, 0)], &wanted))
 }
 
 // The laws hold of this build too.

@@ -20,6 +20,7 @@ use cc_library::Library;
 use std::alloc::Global;
 use std::sync::Arc;
 use std::test::Fail;
+use tests_texts::verdict::passes;
 
 // The library with one unit more, which is right for its source.
 fn with_unit(
@@ -102,11 +103,10 @@ fn goes_on(alloc: Global, last: &[(Line, u32)], wanted: &Held) -> Result<bool, F
 fn a_third_unit(rt: HostRuntime) -> Result<(), Fail> {
     let alloc = rt.alloc();
     let two: Held = (Some(ONE), Some(TWO), None, 2);
-    assert!(rt; leaves(alloc, opened(alloc)?, &[], &two)?);
-    assert!(rt; goes_on(alloc, &ACKNOWLEDGED, &(Some(ONE), Some(TWO), Some(ONE), 3))?);
-    assert!(rt; goes_on(alloc, &TORN, &(Some(ONE), Some(TWO), Some(ONE), 2))?);
-    assert!(rt; goes_on(alloc, &LOST, &two)?);
-    Ok(())
+    passes(leaves(alloc, opened(alloc)?, &[], &two))?;
+    passes(goes_on(alloc, &ACKNOWLEDGED, &(Some(ONE), Some(TWO), Some(ONE), 3)))?;
+    passes(goes_on(alloc, &TORN, &(Some(ONE), Some(TWO), Some(ONE), 2)))?;
+    passes(goes_on(alloc, &LOST, &two))
 }
 
 // A header with areas of 64 bytes, of which the second is in use.
@@ -163,35 +163,34 @@ fn is_withdrawn(alloc: Global, header: &[u8; 16], record: &[u8; 41]) -> Result<b
 
 #[test]
 fn the_second_area(rt: HostRuntime) -> Result<(), Fail> {
-    assert!(rt; is_withdrawn(rt.alloc(), &SECOND, &RECORD)?);
-    Ok(())
+    passes(is_withdrawn(rt.alloc(), &SECOND, &RECORD))
 }
 
-// Why a disk with these bytes is not opened, 0 where it is; it is handed back with its size.
-fn refusal(alloc: Global, header: &[u8; 16], record: &[u8; 41]) -> Result<u32, Fail> {
+// Whether a disk with these bytes is not opened, with this number; it is handed back with its size.
+fn is_refused(
+    alloc: Global,
+    header: &[u8; 16],
+    record: &[u8; 41],
+    number: u32,
+) -> Result<bool, Fail> {
     match State::open(alloc, Nothing {}, raw(alloc, header, record)?) {
         Ok(state) => {
             drop(state);
-            Ok(0)
+            Ok(false)
         }
-        Err((fault, disk)) => Ok(if disk.size() == 150 {
-            fault.number()
-        } else {
-            0
-        }),
+        Err((fault, disk)) => Ok(disk.size() == 150 && fault.number() == number),
     }
 }
 
 #[test]
 fn not_a_library(rt: HostRuntime) -> Result<(), Fail> {
-    assert!(rt; refusal(rt.alloc(), &[0; 16], &RECORD)? == 38);
+    passes(is_refused(rt.alloc(), &[0; 16], &RECORD, 38))?;
     // The length of the record is past its area.
     let mut long = RECORD;
     long[1] = 0x3b;
-    assert!(rt; refusal(rt.alloc(), &SECOND, &long)? == 37);
+    passes(is_refused(rt.alloc(), &SECOND, &long, 37))?;
     // Its kind is to replace a unit, and there is none.
     let mut replaces = RECORD;
     replaces[6] = 0x02;
-    assert!(rt; refusal(rt.alloc(), &SECOND, &replaces)? == 37);
-    Ok(())
+    passes(is_refused(rt.alloc(), &SECOND, &replaces, 37))
 }

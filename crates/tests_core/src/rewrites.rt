@@ -8,6 +8,7 @@ use crate::script::Line::{
 };
 use std::alloc::Global;
 use std::test::Fail;
+use tests_texts::verdict::passes;
 
 // Two records of one name.
 const TWICE: [Line; 4] = [
@@ -80,8 +81,7 @@ fn add_all(lines: &mut Vec<(Line, u32)>) -> Result<(), Fail> {
 fn a_rewrite_makes_room(rt: HostRuntime) -> Result<(), Fail> {
     let mut lines = Vec::new(rt.alloc());
     add_all(&mut lines)?;
-    assert!(rt; begins(rt.alloc(), 64, &lines, &(Some(TWO), Some(ONE), None, 3))?);
-    Ok(())
+    passes(begins(rt.alloc(), 64, &lines, &(Some(TWO), Some(ONE), None, 3)))
 }
 
 // A failure in a rewrite answers nothing, and closes the journal: no rewrite and no commit begins until the disk is opened
@@ -109,8 +109,7 @@ const CLOSED: [(Line, u32); 18] = [
 
 #[test]
 fn a_failure_closes(rt: HostRuntime) -> Result<(), Fail> {
-    assert!(rt; goes_on(rt.alloc(), &TWICE, &CLOSED, &(None, None, None, 3))?);
-    Ok(())
+    passes(goes_on(rt.alloc(), &TWICE, &CLOSED, &(None, None, None, 3)))
 }
 
 // The four device steps of a rewrite.
@@ -147,8 +146,8 @@ fn survives(alloc: Global, steps: usize, fails: bool, byte: u8) -> Result<bool, 
 fn a_crash_at_each_step(rt: HostRuntime) -> Result<(), Fail> {
     for steps in 0..5 {
         for byte in &[0x00, 0xa5, 0xff] {
-            assert!(rt; survives(rt.alloc(), steps, false, *byte)?);
-            assert!(rt; survives(rt.alloc(), steps, true, *byte)?);
+            passes(survives(rt.alloc(), steps, false, *byte))?;
+            passes(survives(rt.alloc(), steps, true, *byte))?;
         }
     }
     Ok(())
@@ -158,7 +157,7 @@ fn a_crash_at_each_step(rt: HostRuntime) -> Result<(), Fail> {
 #[test]
 fn each_area_byte(rt: HostRuntime) -> Result<(), Fail> {
     for byte in 0..=255 {
-        assert!(rt; survives(rt.alloc(), 3, false, byte)?);
+        passes(survives(rt.alloc(), 3, false, byte))?;
     }
     Ok(())
 }

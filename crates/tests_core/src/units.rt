@@ -10,6 +10,7 @@ use cc_core::state::State;
 use cc_headline::{CcBuild, run};
 use std::alloc::Global;
 use std::test::Fail;
+use tests_texts::verdict::passes;
 
 /// Its input times 7.
 const SEVEN: &str = "int main(void){write_word(read_word()*7);return 0;}";
@@ -51,8 +52,7 @@ const TWO_CLIENTS: [(Line, u32); 20] = [
 fn two_clients_add_one_name(rt: HostRuntime) -> Result<(), Fail> {
     let alloc = rt.alloc();
     let state = State::new(alloc, CcBuild {}, 4000)?;
-    assert!(rt; leaves(alloc, state, &TWO_CLIENTS, Some((FACTORIAL, 720)))?);
-    Ok(())
+    passes(leaves(alloc, state, &TWO_CLIENTS, Some((FACTORIAL, 720))))
 }
 
 // A source's own fault, a function's, and the map's; then one unit in another's place, and none.
@@ -80,8 +80,7 @@ const REFUSED: [(Line, u32); 17] = [
 fn refused(rt: HostRuntime) -> Result<(), Fail> {
     let alloc = rt.alloc();
     let state = State::new(alloc, CcBuild {}, 4000)?;
-    assert!(rt; leaves(alloc, state, &REFUSED, Some((SEVEN, 42)))?);
-    Ok(())
+    passes(leaves(alloc, state, &REFUSED, Some((SEVEN, 42))))
 }
 
 // The unit is acknowledged; then another is to take its place.
@@ -110,7 +109,7 @@ fn crash_before_the_gate(rt: HostRuntime) -> Result<(), Fail> {
     for byte in [0x00, 0x5a, 0xa5, 0xff] {
         let state = played(alloc, &REPLACED)?;
         let last = [(Crash(byte), 0), (Recover, 0)];
-        assert!(rt; leaves(alloc, state, &last, Some((SEVEN, 42)))?);
+        passes(leaves(alloc, state, &last, Some((SEVEN, 42))))?;
     }
     Ok(())
 }
@@ -127,7 +126,7 @@ fn crash_in_the_gate(rt: HostRuntime) -> Result<(), Fail> {
             (Crash(byte), 0),
             (Recover, 0),
         ];
-        assert!(rt; leaves(alloc, state, &last, Some(wanted))?);
+        passes(leaves(alloc, state, &last, Some(wanted)))?;
     }
     Ok(())
 }
@@ -143,6 +142,5 @@ fn withdrawn(rt: HostRuntime) -> Result<(), Fail> {
         (Crash(0xa5), 0),
         (Recover, 0),
     ];
-    assert!(rt; leaves(alloc, state, &last, None)?);
-    Ok(())
+    passes(leaves(alloc, state, &last, None))
 }

@@ -1,11 +1,13 @@
 // Arrays of `unsigned char`: what `check` says of them, and what runs do with them.
 
 use super::calls::typed_unit;
+use super::texts::Refused;
 use cc_meaning::{Cause, Stop, interpret};
 use cc_syntax::{Place, parse};
 use cc_typing::check;
 use std::alloc::Global;
 use std::test::Fail;
+use tests_texts::verdict::{each_passes, passes};
 
 /// A fault's number, line and column.
 fn placed(number: u32, place: Option<Place>) -> (u32, usize, usize) {
@@ -30,7 +32,7 @@ fn answer(alloc: Global, text: &[u8]) -> (u32, usize, usize) {
 }
 
 /// Texts, and the number, the line and the column of what `check` answers; zeros where it answers a unit.
-static CHECKED: [(&[u8], u32, usize, usize); 16] = [
+static CHECKED: [Refused; 16] = [
     // four elements are a word, and the last word of an array is filled up
     (b"unsigned char a[262144];int main(void){}", 0, 0, 0),
     (b"unsigned char a[262145];int main(void){}", 21, 1, 15),
@@ -77,15 +79,18 @@ static CHECKED: [(&[u8], u32, usize, usize); 16] = [
 ];
 
 #[test]
-fn units_and_faults(rt: HostRuntime) {
-    for (index, (text, number, line, column)) in CHECKED.iter().enumerate() {
-        let is_right = answer(rt.alloc(), text) == (*number, *line, *column);
-        assert!(rt; is_right, "text {index}");
-    }
+fn units_and_faults(rt: HostRuntime) -> Result<(), Fail> {
+    each_passes(rt.alloc(), CHECKED.as_slice(), is_answered)
+}
+
+fn is_answered(alloc: Global, row: &Refused) -> Result<bool, Fail> {
+    Ok(answer(alloc, row.0) == (row.1, row.2, row.3))
 }
 
 /// Programs, and what each writes before it ends with 0, within nine steps and on no input.
-static WRITTEN: [(&[u8], &[u32]); 7] = [
+type Written = (&'static [u8], &'static [u32]);
+
+static WRITTEN: [Written; 7] = [
     (
         b"unsigned char c[2]={300,-1};int main(void){write_word(c[0]);write_word(c[1]);c[0]+=220;write_word(c[0]);write_word(c[1]<<24);write_word(-1<c[1]);}",
         &[44, 255, 8, 0xff00_0000, 1],
@@ -122,21 +127,17 @@ static WRITTEN: [(&[u8], &[u32]); 7] = [
 ];
 
 /// Whether a run of a program within nine steps writes these words and ends with 0.
-fn writes(alloc: Global, text: &[u8], words: &[u32]) -> Result<bool, Fail> {
-    let typed = typed_unit(alloc, text)?;
+fn writes(alloc: Global, row: &Written) -> Result<bool, Fail> {
+    let typed = typed_unit(alloc, row.0)?;
     let outcome = interpret(alloc, &typed, &[], 9);
     drop(typed);
     let outcome = outcome?;
-    Ok(outcome.stop == Stop::Ended(0) && outcome.output.as_slice() == words)
+    Ok(outcome.stop == Stop::Ended(0) && outcome.output.as_slice() == row.1)
 }
 
 #[test]
 fn runs(rt: HostRuntime) -> Result<(), Fail> {
-    for (index, (text, words)) in WRITTEN.iter().enumerate() {
-        let is_right = writes(rt.alloc(), text, words)?;
-        assert!(rt; is_right, "program {index}");
-    }
-    Ok(())
+    each_passes(rt.alloc(), WRITTEN.as_slice(), writes)
 }
 
 #[test]
@@ -145,7 +146,5 @@ fn an_index_outside(rt: HostRuntime) -> Result<(), Fail> {
     let typed = typed_unit(rt.alloc(), text)?;
     let outcome = interpret(rt.alloc(), &typed, &[], 9);
     drop(typed);
-    let is_wrong = outcome?.stop == Stop::Wrong(Cause::Index);
-    assert!(rt; is_wrong);
-    Ok(())
+    passes(Ok(outcome?.stop == Stop::Wrong(Cause::Index)))
 }

@@ -96,21 +96,15 @@ static TYPE_FAULTS: [(TypeFault, u32); 12] = [
 
 #[test]
 fn numbers_and_places_of_faults(rt: HostRuntime) {
-    for (fault, number) in SYNTAX_FAULTS.iter() {
+    let of_syntax = SYNTAX_FAULTS.iter().all(|(fault, number)| {
         let wanted = if *number < 7 { Some(HERE) } else { None };
-        assert!(rt;
-            fault.number() == *number && fault.place() == wanted,
-            "{number}"
-        );
-    }
-    for (fault, number) in TYPE_FAULTS.iter() {
+        fault.number() == *number && fault.place() == wanted
+    });
+    let of_types = TYPE_FAULTS.iter().all(|(fault, number)| {
         let wanted = if *number < 40 { Some(HERE) } else { None };
-        assert!(rt;
-            fault.number() == *number && fault.place() == wanted,
-            "{number}"
-        );
-    }
-    assert!(rt; MeaningFault::OutOfMemory.number() == 40);
+        fault.number() == *number && fault.place() == wanted
+    });
+    assert!(rt; of_syntax && of_types && MeaningFault::OutOfMemory.number() == 40);
 }
 
 /// Whether this is the tree of `unsigned f(int i){return -i;}`.

@@ -1,8 +1,10 @@
 // What `parse` says of texts.
 
-use super::texts::{REFUSED, REPEATED, SPELLED};
+use super::texts::{REFUSED, REPEATED, Refused, Repeated, SPELLED};
 use cc_syntax::{Place, parse};
 use std::alloc::{AllocError, Global};
+use std::test::Fail;
+use tests_texts::verdict::each_passes;
 
 /// The number, the line and the column of a text's fault; zeros where it is a unit.
 fn answer(alloc: Global, text: &[u8]) -> (u32, usize, usize) {
@@ -15,19 +17,22 @@ fn answer(alloc: Global, text: &[u8]) -> (u32, usize, usize) {
     }
 }
 
-#[test]
-fn texts_that_are_units(rt: HostRuntime) {
-    for (index, text) in SPELLED.iter().enumerate() {
-        assert!(rt; answer(rt.alloc(), text) == (0, 0, 0), "text {index}");
-    }
+fn is_unit(alloc: Global, text: &&'static [u8]) -> Result<bool, Fail> {
+    Ok(answer(alloc, text) == (0, 0, 0))
 }
 
 #[test]
-fn texts_that_are_none(rt: HostRuntime) {
-    for (index, (text, number, line, column)) in REFUSED.iter().enumerate() {
-        let is_right = answer(rt.alloc(), text) == (*number, *line, *column);
-        assert!(rt; is_right, "text {index}");
-    }
+fn texts_that_are_units(rt: HostRuntime) -> Result<(), Fail> {
+    each_passes(rt.alloc(), SPELLED.as_slice(), is_unit)
+}
+
+fn is_refused(alloc: Global, row: &Refused) -> Result<bool, Fail> {
+    Ok(answer(alloc, row.0) == (row.1, row.2, row.3))
+}
+
+#[test]
+fn texts_that_are_none(rt: HostRuntime) -> Result<(), Fail> {
+    each_passes(rt.alloc(), REFUSED.as_slice(), is_refused)
 }
 
 /// A text of `before`, `middle` this many times, and `behind`.
@@ -47,25 +52,12 @@ fn repeated(
     Ok(text)
 }
 
-/// The answer for such a text, and none where memory ran out.
-fn answer_for(
-    alloc: Global,
-    before: &str,
-    middle: &str,
-    behind: &str,
-    times: usize,
-) -> Option<(u32, usize, usize)> {
-    match repeated(alloc, before, middle, behind, times) {
-        Ok(text) => Some(answer(alloc, text.as_slice())),
-        Err(_) => None,
-    }
+fn is_answered(alloc: Global, row: &Repeated) -> Result<bool, Fail> {
+    let text = repeated(alloc, row.0, row.1, row.2, row.3)?;
+    Ok(answer(alloc, text.as_slice()) == (row.4, row.5, row.6))
 }
 
 #[test]
-fn repeated_parts(rt: HostRuntime) {
-    for (before, middle, behind, times, number, line, column) in REPEATED.iter() {
-        let found = answer_for(rt.alloc(), before, middle, behind, *times);
-        let is_right = found == Some((*number, *line, *column));
-        assert!(rt; is_right, "{before}{middle}..{behind} {times}");
-    }
+fn repeated_parts(rt: HostRuntime) -> Result<(), Fail> {
+    each_passes(rt.alloc(), REPEATED.as_slice(), is_answered)
 }

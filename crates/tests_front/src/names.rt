@@ -9,6 +9,7 @@ use cc_syntax::{BinaryOperator, Scalar, Statement, UnaryOperator};
 use cc_types::{Definition, TypedUnit};
 use std::alloc::{AllocError, Global};
 use std::test::Fail;
+use tests_texts::verdict::passes;
 
 fn declare_all<'a>(
     names: &mut Environment<'a>,
@@ -62,17 +63,19 @@ fn numbers_of_names(rt: HostRuntime) -> Result<(), Fail> {
     let typed = typed_unit(rt.alloc(), text.as_slice())?;
     let is_right = are_resolved(rt.alloc(), &typed);
     drop(typed);
-    assert!(rt; matches!(is_right, Ok(true)));
-    Ok(())
+    passes(Ok(is_right?))
 }
 
 #[test]
 fn operations_of_operators(rt: HostRuntime) {
     let quotient = operation(BinaryOperator::Divide, Scalar::Unsigned);
-    assert!(rt; matches!(quotient, BinaryOperation::DivideUnsigned));
     let below = operation(BinaryOperator::Less, Scalar::Int);
-    assert!(rt; matches!(below, BinaryOperation::LessSigned));
     let minus = unary_operation(UnaryOperator::Minus);
-    assert!(rt; matches!(minus, Some(UnaryOperation::Negate)));
-    assert!(rt; unary_operation(UnaryOperator::Plus).is_none());
+    let plus = unary_operation(UnaryOperator::Plus);
+    assert!(rt;
+        matches!(quotient, BinaryOperation::DivideUnsigned)
+            && matches!(below, BinaryOperation::LessSigned)
+            && matches!(minus, Some(UnaryOperation::Negate))
+            && plus.is_none()
+    );
 }

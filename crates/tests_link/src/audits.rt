@@ -14,6 +14,7 @@ use cc_validate::{Refused, validate};
 use std::alloc::Global;
 use std::sync::Arc;
 use std::test::Fail;
+use tests_texts::verdict::{each_passes, passes};
 use tests_texts::worked::LONG;
 
 /// What an audit says, as a word.
@@ -33,10 +34,10 @@ fn certificate_of(unit: &StoredUnit) -> Result<&[u8], Fail> {
     }
 }
 
-// What an audit says of a unit's three parts.
-fn audited(alloc: Global, unit: &StoredUnit) -> Result<&'static str, Fail> {
+// Whether an audit confirms a unit.
+fn is_confirmed(alloc: Global, unit: &StoredUnit) -> Result<bool, Fail> {
     let bytes = certificate_of(unit)?;
-    Ok(said(audit(alloc, unit.source.bytes(), Some(bytes), &unit.image)?))
+    Ok(said(audit(alloc, unit.source.bytes(), Some(bytes), &unit.image)?) == "confirmed")
 }
 
 // What it says of the unit with another certificate.
@@ -89,49 +90,45 @@ static TEXTS: [&str; 6] = [
     LONG,
 ];
 
-#[test]
-fn what_was_compiled(rt: HostRuntime) -> Result<(), Fail> {
-    for text in TEXTS.iter() {
-        let unit = compile(rt.alloc(), text.as_bytes())?;
-        let word = audited(rt.alloc(), unit.stored());
-        drop(unit);
-        assert!(rt; word? == "confirmed", "{text}");
-    }
-    Ok(())
+fn is_confirmed_as_compiled(alloc: Global, text: &&'static str) -> Result<bool, Fail> {
+    let unit = compile(alloc, text.as_bytes())?;
+    let right = is_confirmed(alloc, unit.stored());
+    drop(unit);
+    right
 }
 
-// What an audit says of a unit with one word of code changed, of the words one in `stride`; the first that is not refused.
-fn first_word_confirmed(
-    alloc: Global,
-    unit: &StoredUnit,
-    stride: usize,
-) -> Result<Option<usize>, Fail> {
+#[test]
+fn what_was_compiled(rt: HostRuntime) -> Result<(), Fail> {
+    each_passes(rt.alloc(), TEXTS.as_slice(), is_confirmed_as_compiled)
+}
+
+// Whether an audit refuses the unit with the word of code at this place changed.
+fn refuses_word(alloc: Global, unit: &StoredUnit, place: usize) -> Result<bool, Fail> {
+    let mut code = Vec::from_slice(alloc, unit.image.code.words())?;
+    if place < code.len() {
+        code[place] = code[place] ^ 0x80;
+    }
+    let image = image_of(alloc, code.as_slice(), unit.image.globals.words())?;
     let certificate = certificate_of(unit)?;
-    let count = unit.image.code.words().len();
-    for place in 0..count {
-        if place % stride.max(1) == 0 {
-            let mut code = Vec::from_slice(alloc, unit.image.code.words())?;
-            if place < code.len() {
-                code[place] = code[place] ^ 0x80;
-            }
-            let image = image_of(alloc, code.as_slice(), unit.image.globals.words())?;
-            let word = with_source(alloc, unit.source.bytes(), certificate, &image)?;
-            if word != "unconfirmed" {
-                return Ok(Some(place));
-            }
+    Ok(with_source(alloc, unit.source.bytes(), certificate, &image)? == "unconfirmed")
+}
+
+// The same of one word in sixteen.
+fn refuses_words(alloc: Global, unit: &StoredUnit) -> Result<bool, Fail> {
+    for place in 0..unit.image.code.words().len() {
+        if place % 16 == 0 && !refuses_word(alloc, unit, place)? {
+            return Ok(false);
         }
     }
-    Ok(None)
+    Ok(true)
 }
 
 #[test]
 fn a_word_of_code_changed(rt: HostRuntime) -> Result<(), Fail> {
     let unit = compile(rt.alloc(), LONG.as_bytes())?;
-    let found = first_word_confirmed(rt.alloc(), unit.stored(), 16);
+    let right = refuses_words(rt.alloc(), unit.stored());
     drop(unit);
-    let found = found?;
-    assert!(rt; found.is_none(), "{found:?}");
-    Ok(())
+    passes(right)
 }
 
 // The words of a unit's globals with one more, and with one other.
@@ -152,8 +149,7 @@ fn globals_changed(rt: HostRuntime) -> Result<(), Fail> {
     let unit = compile(rt.alloc(), OBJECTS.as_bytes())?;
     let right = other_globals(rt.alloc(), unit.stored());
     drop(unit);
-    assert!(rt; right?);
-    Ok(())
+    passes(right)
 }
 
 // The certificate with the number of functions that it begins with replaced.
@@ -174,7 +170,7 @@ fn with_byte(alloc: Global, bytes: &[u8], byte: u8) -> Result<Vec<u8>, Fail> {
 }
 
 // Whether an audit refuses the unit with each of these certificates: one byte shorter, one longer, with another number of functions, without
-// a byte, with its number of functions alone, and with lengths that lie.
+// a byte, with its number of functions alone, and with lengths that lie; and says so of one without a certificate.
 fn refuses_all(alloc: Global, unit: &StoredUnit) -> Result<bool, Fail> {
     let own = certificate_of(unit)?;
     let mut refused = true;
@@ -195,49 +191,44 @@ fn refuses_all(alloc: Global, unit: &StoredUnit) -> Result<bool, Fail> {
         let word = with_certificate(alloc, unit, Some(table.as_slice()))?;
         refused = refused && word == "unconfirmed";
     }
-    Ok(refused)
+    Ok(refused && with_certificate(alloc, unit, None)? == "none")
 }
 
 #[test]
 fn other_certificates(rt: HostRuntime) -> Result<(), Fail> {
     let alloc = rt.alloc();
     let unit = compile(alloc, LONG.as_bytes())?;
-    let refused = refuses_all(alloc, unit.stored())?;
-    let none = with_certificate(alloc, unit.stored(), None)?;
+    let refused = refuses_all(alloc, unit.stored());
     drop(unit);
-    assert!(rt; refused && none == "none");
-    Ok(())
+    passes(refused)
 }
 
-// The first byte of the certificate with which, set to another value, the unit is still confirmed; each step-th byte is tried.
-fn first_byte_confirmed(
-    alloc: Global,
-    unit: &StoredUnit,
-    step: usize,
-) -> Result<Option<usize>, Fail> {
+// Whether an audit refuses the unit with the byte of the certificate at this place changed.
+fn refuses_byte(alloc: Global, unit: &StoredUnit, own: &[u8], place: usize) -> Result<bool, Fail> {
+    let mut other = Vec::from_slice(alloc, own)?;
+    if place < other.len() {
+        other[place] = other[place] ^ 1;
+    }
+    Ok(with_certificate(alloc, unit, Some(other.as_slice()))? == "unconfirmed")
+}
+
+// The same of each byte.
+fn refuses_bytes(alloc: Global, unit: &StoredUnit) -> Result<bool, Fail> {
     let own = certificate_of(unit)?;
     for place in 0..own.len() {
-        if place % step.max(1) == 0 {
-            let mut other = Vec::from_slice(alloc, own)?;
-            if place < other.len() {
-                other[place] = other[place] ^ 1;
-            }
-            if with_certificate(alloc, unit, Some(other.as_slice()))? != "unconfirmed" {
-                return Ok(Some(place));
-            }
+        if !refuses_byte(alloc, unit, own, place)? {
+            return Ok(false);
         }
     }
-    Ok(None)
+    Ok(true)
 }
 
 #[test]
 fn a_byte_changed(rt: HostRuntime) -> Result<(), Fail> {
     let unit = compile(rt.alloc(), OBJECTS.as_bytes())?;
-    let found = first_byte_confirmed(rt.alloc(), unit.stored(), 1);
+    let right = refuses_bytes(rt.alloc(), unit.stored());
     drop(unit);
-    let found = found?;
-    assert!(rt; found.is_none(), "{found:?}");
-    Ok(())
+    passes(right)
 }
 
 // Texts that are no program's, and another program's.
@@ -249,30 +240,24 @@ static STRANGERS: [&str; 5] = [
     "int main(void){return 1;}",
 ];
 
-#[test]
-fn other_texts(rt: HostRuntime) -> Result<(), Fail> {
-    let alloc = rt.alloc();
-    let unit = compile(alloc, "int main(void){}".as_bytes())?;
-    let stored = unit.stored();
+// Whether an audit refuses each of these texts with a unit's certificate and image, and confirms one that has a space more.
+fn refuses_strangers(alloc: Global, unit: &StoredUnit) -> Result<bool, Fail> {
+    let certificate = certificate_of(unit)?;
     for text in STRANGERS.iter() {
-        let word = with_source(
-            alloc,
-            text.as_bytes(),
-            certificate_of(stored)?,
-            &stored.image,
-        )?;
-        assert!(rt; word == "unconfirmed", "{text}");
+        if with_source(alloc, text.as_bytes(), certificate, &unit.image)? != "unconfirmed" {
+            return Ok(false);
+        }
     }
     // Comments are no part of the program, and the text is another.
-    let word = with_source(
-        alloc,
-        "int main(void){} ".as_bytes(),
-        certificate_of(stored)?,
-        &stored.image,
-    )?;
+    Ok(with_source(alloc, b"int main(void){} ", certificate, &unit.image)? == "confirmed")
+}
+
+#[test]
+fn other_texts(rt: HostRuntime) -> Result<(), Fail> {
+    let unit = compile(rt.alloc(), "int main(void){}".as_bytes())?;
+    let right = refuses_strangers(rt.alloc(), unit.stored());
     drop(unit);
-    assert!(rt; word == "confirmed");
-    Ok(())
+    passes(right)
 }
 
 // The piece of a function whose LTL has a slot for each value, behind the pass that makes nops of dead nodes.
@@ -303,29 +288,30 @@ fn spilled_unit(alloc: Global, text: &[u8]) -> Result<CompiledUnit, Fail> {
     Ok(made?)
 }
 
+fn is_confirmed_as_spilled(alloc: Global, text: &&'static str) -> Result<bool, Fail> {
+    let spilled = spilled_unit(alloc, text.as_bytes())?;
+    let right = is_confirmed(alloc, spilled.stored());
+    drop(spilled);
+    right
+}
+
+// Whether the compiler's own unit of that text is another, and not confirmed by the other one's certificate.
+fn is_another(alloc: Global, spilled: &StoredUnit, own: &StoredUnit) -> Result<bool, Fail> {
+    let certificate = certificate_of(spilled)?;
+    let word = with_source(alloc, LONG.as_bytes(), certificate, &own.image)?;
+    Ok(word == "unconfirmed" && !own.is_same(spilled))
+}
+
 // Another allocation than the compiler's own is confirmed too, and its code is another.
 #[test]
 fn slots_for_all(rt: HostRuntime) -> Result<(), Fail> {
-    let alloc = rt.alloc();
-    for text in TEXTS.iter() {
-        let spilled = spilled_unit(alloc, text.as_bytes())?;
-        let word = audited(alloc, spilled.stored())?;
-        assert!(rt; word == "confirmed", "{text}");
-        drop(spilled);
-    }
-    let spilled = spilled_unit(alloc, LONG.as_bytes())?;
-    let own = compile(alloc, LONG.as_bytes())?;
-    let other = with_source(
-        alloc,
-        LONG.as_bytes(),
-        certificate_of(spilled.stored())?,
-        &own.stored().image,
-    )?;
-    let same = own.stored().is_same(spilled.stored());
+    each_passes(rt.alloc(), TEXTS.as_slice(), is_confirmed_as_spilled)?;
+    let spilled = spilled_unit(rt.alloc(), LONG.as_bytes())?;
+    let own = compile(rt.alloc(), LONG.as_bytes())?;
+    let right = is_another(rt.alloc(), spilled.stored(), own.stored());
     drop(own);
     drop(spilled);
-    assert!(rt; other == "unconfirmed" && !same);
-    Ok(())
+    passes(right)
 }
 
 // A certificate is the number of functions, and of each its length and the bytes of its LTL.
@@ -349,19 +335,21 @@ fn is_spelled(alloc: Global, unit: &StoredUnit, functions: usize) -> Result<bool
     Ok(right && rest.is_empty())
 }
 
+fn spells(alloc: Global, row: &(&'static str, usize)) -> Result<bool, Fail> {
+    let unit = compile(alloc, row.0.as_bytes())?;
+    let right = is_spelled(alloc, unit.stored(), row.1);
+    drop(unit);
+    right
+}
+
 #[test]
 fn what_a_certificate_spells(rt: HostRuntime) -> Result<(), Fail> {
-    for (text, functions) in [
+    let rows = [
         (TEXTS[0], 1),
         (TEXTS[2], 2),
         (OBJECTS, 2),
         (BYTES, 1),
         (LONG, 2),
-    ] {
-        let unit = compile(rt.alloc(), text.as_bytes())?;
-        let right = is_spelled(rt.alloc(), unit.stored(), functions);
-        drop(unit);
-        assert!(rt; right?, "{text}");
-    }
-    Ok(())
+    ];
+    each_passes(rt.alloc(), &rows, spells)
 }

@@ -6,6 +6,7 @@ use cc_link::compile;
 use std::alloc::Global;
 use std::test::Fail;
 use tests_texts::parts::text_of;
+use tests_texts::verdict::each_passes;
 
 /// The mask of the immediate, the function and the opcode of an instruction.
 const IMMEDIATE: u32 = 0xfff0_707f;
@@ -98,8 +99,8 @@ fn asked(
 }
 
 // Whether a condition between two texts takes as many instructions more than `a` as its form says.
-fn takes(alloc: Global, before: &str, form: Form, behind: &str) -> Result<bool, Fail> {
-    let (condition, more, mask, bits) = form;
+fn takes(alloc: Global, before: &str, form: &Form, behind: &str) -> Result<bool, Fail> {
+    let (condition, more, mask, bits) = *form;
     let (least, _) = asked(alloc, before, "a", behind, 0, 0)?;
     let (count, has) = asked(alloc, before, condition, behind, mask, bits)?;
     Ok(count == least.saturating_add(more) && has)
@@ -107,25 +108,23 @@ fn takes(alloc: Global, before: &str, form: Form, behind: &str) -> Result<bool, 
 
 #[test]
 fn instructions_of_values(rt: HostRuntime) -> Result<(), Fail> {
-    for form in VALUES.iter() {
-        let right = takes(rt.alloc(), "write_word(", *form, ");}")?;
-        assert!(rt; right, "{}", form.0);
-    }
-    Ok(())
+    each_passes(rt.alloc(), VALUES.as_slice(), |alloc, form| {
+        takes(alloc, "write_word(", form, ");}")
+    })
 }
 
 #[test]
 fn instructions_of_branches(rt: HostRuntime) -> Result<(), Fail> {
-    for form in BRANCHES.iter() {
-        let right = takes(rt.alloc(), "if(", *form, ")write_word(1);}")?;
-        assert!(rt; right, "{}", form.0);
-    }
-    Ok(())
+    each_passes(rt.alloc(), BRANCHES.as_slice(), |alloc, form| {
+        takes(alloc, "if(", form, ")write_word(1);}")
+    })
 }
 
 /// A type, a constant, words of input, the first telling how many more there are, and how each of them compares: 1 for <, 2 for <=, 4
 /// for >, 8 for >=, 16 for ==, 32 for !=, so less 35, the same 26, more 44 (C99 6.5.8, 6.5.9).
-static EDGES: [(&str, &str, &[u32], &[i32]); 19] = [
+type Edge = (&'static str, &'static str, &'static [u32], &'static [i32]);
+
+static EDGES: [Edge; 19] = [
     (
         "int",
         "0",
@@ -233,13 +232,8 @@ static EDGES: [(&str, &str, &[u32], &[i32]); 19] = [
 ];
 
 // Whether a program that compares each word with a constant writes these.
-fn compares<'a>(
-    alloc: Global,
-    kind: &'a str,
-    constant: &'a str,
-    input: &[u32],
-    words: &[i32],
-) -> Result<bool, Fail> {
+fn compares(alloc: Global, edge: &Edge) -> Result<bool, Fail> {
+    let (kind, constant, input, words) = *edge;
     let text = text_of(
         alloc,
         &[
@@ -268,9 +262,5 @@ fn compares<'a>(
 
 #[test]
 fn comparisons_at_the_edges(rt: HostRuntime) -> Result<(), Fail> {
-    for (kind, constant, input, words) in EDGES.iter() {
-        let right = compares(rt.alloc(), kind, constant, input, words)?;
-        assert!(rt; right, "{kind} {constant}");
-    }
-    Ok(())
+    each_passes(rt.alloc(), EDGES.as_slice(), compares)
 }

@@ -1,10 +1,13 @@
 //! Tests of the compiler from text to run: the worked rows, the pieces of a unit in every order, each refusal, the limits, comparisons with
-//! constants, and eight programs whose words are gcc's. `audits` has those of the audit, `stages` those of what is shown of each stage,
+//! constants, and eight programs whose words are gcc's. `audits` has those of the audit, `checked` those of checked images, `sizes` of what units take,
+//! `stages` those of what is shown of each stage,
 //! `memory` what a refused growth leaves.
 #![tactic(auto)]
 
 #[cfg(test)]
 mod audits;
+#[cfg(test)]
+mod checked;
 #[cfg(test)]
 mod comparisons;
 #[cfg(test)]
@@ -29,5 +32,7 @@ mod refusals;
 mod registers;
 #[cfg(test)]
 mod rows;
+#[cfg(test)]
+mod sizes;
 #[cfg(test)]
 mod stages;

@@ -10,7 +10,8 @@ use cc_types::TypedUnit;
 use std::alloc::Global;
 use std::sync::Arc;
 use std::test::Fail;
-use tests_texts::parts::{Part, main_of, text_of};
+use tests_texts::parts::{main_of, text_of};
+use tests_texts::verdict::{each_passes, passes};
 use tests_texts::worked::LONG;
 
 // Whether a text writes that word alone without input, within so many instructions, and ends with 0.
@@ -27,20 +28,20 @@ fn writes_one(alloc: Global, text: Vec<u8>, word: i32, steps: u64) -> Result<boo
 #[test]
 fn most_calls_with_large_frames(rt: HostRuntime) -> Result<(), Fail> {
     let text = deep(rt.alloc())?;
-    assert!(rt; writes_one(rt.alloc(), text, 162_498_007, 100_000_000)?);
-    Ok(())
+    passes(writes_one(rt.alloc(), text, 162_498_007, 100_000_000))
 }
 
 // The sum of 1 to 63.
 #[test]
 fn most_functions(rt: HostRuntime) -> Result<(), Fail> {
     let text = many(rt.alloc())?;
-    assert!(rt; writes_one(rt.alloc(), text, 2_016, 100_000)?);
-    Ok(())
+    passes(writes_one(rt.alloc(), text, 2_016, 100_000))
 }
 
 /// Loops that never end, and how many instructions they may take.
-static ENDLESS: [(&str, u64); 8] = [
+type Endless = (&'static str, u64);
+
+static ENDLESS: [Endless; 8] = [
     ("int main(void){for(;;);}", 1000),
     ("int main(void){for(;;);}", 1_000_000),
     ("int main(void){for(;;);write_word(1);}", 1_000_000),
@@ -51,40 +52,37 @@ static ENDLESS: [(&str, u64); 8] = [
     ("int f(void){for(;;);}int main(void){f();}", 1_000_000),
 ];
 
+fn goes_on(alloc: Global, row: &Endless) -> Result<bool, Fail> {
+    let run = Run {
+        input: &[],
+        steps: row.1,
+        words: &[],
+        outcome: MachineOutcome::Going,
+    };
+    runs(alloc, row.0.as_bytes(), run)
+}
+
 #[test]
 fn endless_loops(rt: HostRuntime) -> Result<(), Fail> {
-    for (text, steps) in ENDLESS.iter() {
-        let run = Run {
-            input: &[],
-            steps: *steps,
-            words: &[],
-            outcome: MachineOutcome::Going,
-        };
-        let right = runs(rt.alloc(), text.as_bytes(), run)?;
-        assert!(rt; right, "{text} {steps}");
-    }
-    Ok(())
+    each_passes(rt.alloc(), ENDLESS.as_slice(), goes_on)
 }
 
 static ZEROS: [i32; 1_364] = [0; 1_364];
 
 /// How often `write_word(0);` and then `read_word();` stand in `main`: a function that has 4,096 nodes, the most, is the last.
-static MAINS: [(usize, usize); 3] = [(1_000, 0), (1_364, 0), (1_364, 1)];
+type Main = (usize, usize);
+
+static MAINS: [Main; 3] = [(1_000, 0), (1_364, 0), (1_364, 1)];
 
 #[test]
 fn long_functions(rt: HostRuntime) -> Result<(), Fail> {
-    for (writes, reads) in MAINS.iter() {
-        let parts = main_of(*writes, *reads);
-        let right = writes_zeros(rt.alloc(), &parts, *writes)?;
-        assert!(rt; right, "{writes} {reads}");
-    }
-    Ok(())
+    each_passes(rt.alloc(), MAINS.as_slice(), writes_zeros)
 }
 
-// Whether the text of these parts writes this many zeros.
-fn writes_zeros(alloc: Global, parts: &[Part<'_>], count: usize) -> Result<bool, Fail> {
-    let text = text_of(alloc, parts)?;
-    let run = ends_well(&[], 1_000_000, &ZEROS[..count.min(1_364)]);
+// Whether it writes so many zeros.
+fn writes_zeros(alloc: Global, row: &Main) -> Result<bool, Fail> {
+    let text = text_of(alloc, &main_of(row.0, row.1))?;
+    let run = ends_well(&[], 1_000_000, &ZEROS[..row.0.min(1_364)]);
     let right = runs(alloc, text.as_slice(), run);
     drop(text);
     right
@@ -138,53 +136,49 @@ fn most_words_of_code(rt: HostRuntime) -> Result<(), Fail> {
     let unit = typed_unit(rt.alloc(), LONG.as_bytes())?;
     let right = most_words(rt.alloc(), &unit);
     drop(unit);
-    assert!(rt; right?);
-    Ok(())
+    passes(right)
 }
 
 // A loop that goes three times round, and once through its inner part, with a branch over each part and a jump back.
 const LOOP: &str =
     "int x;int main(void){int i;for(i=0;i<3;i++)if(i==1){x=x+5;}else x=x+1000;write_word(x);}";
 
-// How many moves in front of that block make the image run wrong, of those about which the branches over it begin to be too short: they
-// reach 1,023 words on and 1,024 back.
-fn first_wrong(
+// Whether the image runs right with this many moves in front of that block.
+fn runs_padded(
     alloc: Global,
     unit: &Arc<TypedUnit>,
     block: usize,
-) -> Result<Option<(usize, usize)>, Fail> {
+    moves: usize,
+) -> Result<bool, Fail> {
     let run = ends_well(&[], 100_000, &[2_005]);
+    let linked = padded(alloc, unit, &[(block, moves)])?;
+    Ok(matches!(words_of(alloc, linked, run)?, Some((_, true))))
+}
+
+// Whether it does with as many as about which the branches over the block begin to be too short: they reach 1,023 words on and 1,024 back.
+fn runs_near_and_far(alloc: Global, unit: &Arc<TypedUnit>, block: usize) -> Result<bool, Fail> {
     for moves in 980..1_028 {
-        let linked = padded(alloc, unit, &[(block, moves)])?;
-        match words_of(alloc, linked, run)? {
-            Some((_, true)) => {}
-            _ => return Ok(Some((block, moves))),
+        if !runs_padded(alloc, unit, block, moves)? {
+            return Ok(false);
         }
     }
-    Ok(None)
+    Ok(true)
 }
 
 // The same of three blocks: within the inner part, and around it.
-fn first_wrong_of_all(
-    alloc: Global,
-    unit: &Arc<TypedUnit>,
-) -> Result<Option<(usize, usize)>, Fail> {
+fn all_run(alloc: Global, unit: &Arc<TypedUnit>) -> Result<bool, Fail> {
     let count = blocks(alloc, unit, 0)?;
-    for block in [count / 4, count / 2, (count / 4).saturating_mul(3)] {
-        let wrong = first_wrong(alloc, unit, block)?;
-        if wrong.is_some() {
-            return Ok(wrong);
-        }
-    }
-    Ok(None)
+    Ok(
+        runs_near_and_far(alloc, unit, count / 4)?
+            && runs_near_and_far(alloc, unit, count / 2)?
+            && runs_near_and_far(alloc, unit, (count / 4).saturating_mul(3))?,
+    )
 }
 
 #[test]
 fn branches_near_and_far(rt: HostRuntime) -> Result<(), Fail> {
     let unit = typed_unit(rt.alloc(), LOOP.as_bytes())?;
-    let wrong = first_wrong_of_all(rt.alloc(), &unit);
+    let right = all_run(rt.alloc(), &unit);
     drop(unit);
-    let wrong = wrong?;
-    assert!(rt; wrong.is_none(), "{wrong:?}");
-    Ok(())
+    passes(right)
 }

@@ -4,6 +4,7 @@ use cc_link::{CompiledUnit, compile};
 use std::alloc::Global;
 use std::test::Fail;
 use tests_texts::programs::REGS;
+use tests_texts::verdict::passes;
 
 #[test]
 fn every_growth_of_compile(rt: HostRuntime) -> Result<(), Fail> {
@@ -17,8 +18,7 @@ fn every_growth_of_compile(rt: HostRuntime) -> Result<(), Fail> {
         (0, 0, 40) => are_same(&first, &second),
         _ => false,
     };
-    assert!(rt; right);
-    Ok(())
+    passes(Ok(right))
 }
 
 // The program's unit, or the number that it is refused with.

@@ -9,6 +9,7 @@ use cc_types::TypedUnit;
 use std::alloc::{AllocError, Global};
 use std::sync::Arc;
 use std::test::Fail;
+use tests_texts::verdict::passes;
 use tests_texts::worked::LONG;
 
 /// The piece of the function with this number.
@@ -122,14 +123,14 @@ static LISTS: [(&[usize], Answer); 17] = [
     (&[1, 2, 1], Answer::Stranger(0, 1)),
 ];
 
-// The first of the lists that comes to something else.
-fn wrong_list(alloc: Global, unit: &Arc<TypedUnit>, pieces: &[Piece]) -> Option<&'static [usize]> {
+// Whether each of the lists comes to its answer.
+fn are_answered(alloc: Global, unit: &Arc<TypedUnit>, pieces: &[Piece]) -> bool {
     for (places, answer) in LISTS.iter() {
         if answer_for(alloc, unit, pieces, places) != *answer {
-            return Some(*places);
+            return false;
         }
     }
-    None
+    true
 }
 
 #[test]
@@ -142,13 +143,12 @@ fn lists_of_pieces(rt: HostRuntime) -> Result<(), Fail> {
     add_pieces(alloc, &mut pieces, &unit)?;
     add_pieces(alloc, &mut pieces, &other)?;
     add_pieces(alloc, &mut pieces, &again)?;
-    let wrong = wrong_list(alloc, &unit, pieces.as_slice());
+    let right = are_answered(alloc, &unit, pieces.as_slice());
     drop(pieces);
     drop(unit);
     drop(other);
     drop(again);
-    assert!(rt; wrong.is_none(), "{wrong:?}");
-    Ok(())
+    passes(Ok(right))
 }
 
 // The unit of 24 locals, its two pieces made and given up in the other order.
@@ -169,8 +169,7 @@ fn function_by_function(rt: HostRuntime) -> Result<(), Fail> {
     let right = image_runs(rt.alloc(), &unit, run)?;
     let kept = unit.stored().source.bytes() == LONG.as_bytes();
     drop(unit);
-    assert!(rt; right && kept);
-    Ok(())
+    passes(Ok(right && kept))
 }
 
 /// Four functions, of which each calls others, before and behind it.
@@ -214,19 +213,19 @@ const FOUR_RUN: Run<'static> = Run {
     outcome: MachineOutcome::Exited(12),
 };
 
-// The first order in which the pieces make another unit than in order.
-fn wrong_order(
+// Whether the pieces make the same unit in each order, and its image runs.
+fn are_same(
     alloc: Global,
     unit: &Arc<TypedUnit>,
     pieces: &[Piece],
     whole: &CompiledUnit,
-) -> Result<Option<[usize; 4]>, Fail> {
+) -> Result<bool, Fail> {
     for order in ORDERS.iter() {
         if !is_same(alloc, unit, pieces, order.as_slice(), whole)? {
-            return Ok(Some(*order));
+            return Ok(false);
         }
     }
-    Ok(None)
+    image_runs(alloc, whole, FOUR_RUN)
 }
 
 #[test]
@@ -236,12 +235,9 @@ fn every_order(rt: HostRuntime) -> Result<(), Fail> {
     let mut pieces = Vec::new(alloc);
     add_pieces(alloc, &mut pieces, &unit)?;
     let whole = linked(alloc, &unit, pieces.as_slice(), &[0, 1, 2, 3])?;
-    let right = image_runs(alloc, &whole, FOUR_RUN)?;
-    let wrong = wrong_order(alloc, &unit, pieces.as_slice(), &whole)?;
+    let right = are_same(alloc, &unit, pieces.as_slice(), &whole);
     drop(whole);
     drop(pieces);
     drop(unit);
-    assert!(rt; right);
-    assert!(rt; wrong.is_none(), "{wrong:?}");
-    Ok(())
+    passes(right)
 }

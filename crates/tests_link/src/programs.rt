@@ -1,11 +1,15 @@
 // The programs of `bench/programs` write what gcc's programs write.
 
 use super::helpers::{ends_well, runs};
+use std::alloc::Global;
 use std::test::Fail;
 use tests_texts::programs::{CRC, FIB, GCD, MATMUL, NEST, REGS, SIEVE, SORT};
+use tests_texts::verdict::each_passes;
 
 /// A program, its input, and the word that it writes when gcc compiles it (`gcc -fwrapv`, at -O0 and at -O2).
-static PROGRAMS: [(&str, &str, u32, i32); 12] = [
+type Row = (&'static str, &'static str, u32, i32);
+
+static PROGRAMS: [Row; 12] = [
     ("crc", CRC, 1, 657473348),
     ("crc", CRC, 300, -983735680),
     ("fib", FIB, 1, 1),
@@ -20,14 +24,13 @@ static PROGRAMS: [(&str, &str, u32, i32); 12] = [
     ("sort", SORT, 1, -341245471),
 ];
 
+fn is_run(alloc: Global, row: &Row) -> Result<bool, Fail> {
+    let (inputs, words) = ([row.2], [row.3]);
+    let run = ends_well(inputs.as_slice(), 100_000_000, words.as_slice());
+    runs(alloc, row.1.as_bytes(), run)
+}
+
 #[test]
 fn words_of_gcc(rt: HostRuntime) -> Result<(), Fail> {
-    for (name, text, input, word) in PROGRAMS.iter() {
-        let inputs = [*input];
-        let words = [*word];
-        let run = ends_well(inputs.as_slice(), 100_000_000, words.as_slice());
-        let right = runs(rt.alloc(), text.as_bytes(), run)?;
-        assert!(rt; right, "{name} {input}");
-    }
-    Ok(())
+    each_passes(rt.alloc(), PROGRAMS.as_slice(), is_run)
 }

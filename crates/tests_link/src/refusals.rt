@@ -4,9 +4,12 @@ use cc_link::{BuildFault, PieceFault, compile, verdicts_are_determined};
 use std::alloc::Global;
 use std::test::Fail;
 use tests_texts::parts::{Part, text_of};
+use tests_texts::verdict::{each_passes, passes};
 
 /// A text, the number of its fault, and its line and column.
-static TEXTS: [(&str, u32, usize, usize); 29] = [
+type Row = (&'static str, u32, usize, usize);
+
+static TEXTS: [Row; 29] = [
     // spelling
     ("int main(void){@}", 1, 1, 16),
     ("/*", 2, 1, 1),
@@ -70,12 +73,13 @@ fn fault_of(alloc: Global, text: &[u8]) -> (u32, usize, usize) {
     }
 }
 
+fn is_refused(alloc: Global, row: &Row) -> Result<bool, Fail> {
+    Ok(fault_of(alloc, row.0.as_bytes()) == (row.1, row.2, row.3))
+}
+
 #[test]
-fn texts(rt: HostRuntime) {
-    for (text, number, line, column) in TEXTS.iter() {
-        let found = fault_of(rt.alloc(), text.as_bytes());
-        assert!(rt; found == (*number, *line, *column), "{text}");
-    }
+fn texts(rt: HostRuntime) -> Result<(), Fail> {
+    each_passes(rt.alloc(), TEXTS.as_slice(), is_refused)
 }
 
 #[test]
@@ -86,17 +90,12 @@ fn a_text_past_65536_bytes(rt: HostRuntime) -> Result<(), Fail> {
     let refused = fault_of(rt.alloc(), past.as_slice()) == (7, 0, 0);
     drop(longest);
     drop(past);
-    assert!(rt; compiled && refused);
-    Ok(())
+    passes(Ok(compiled && refused))
 }
 
 // Whether a function of the text of these parts has too many nodes, and its name stands there.
-fn is_too_large(
-    alloc: Global,
-    parts: &[Part<'_>],
-    offset: usize,
-    bytes: usize,
-) -> Result<bool, Fail> {
+fn is_too_large(alloc: Global, row: &Large) -> Result<bool, Fail> {
+    let (parts, offset, bytes) = *row;
     let text = text_of(alloc, parts)?;
     let refused = match compile(alloc, text.as_slice()) {
         Err(BuildFault::Piece(PieceFault::FunctionTooLarge { at, length })) => {
@@ -113,7 +112,9 @@ fn is_too_large(
 
 /// The parts of texts with a function of more than 4,096 nodes, the offset of its name, and the name's bytes: a write takes three
 /// nodes, and each function three more. Of several such functions it is the first, and none before the first is in its way.
-static LARGE: [(&[Part<'static>], usize, usize); 4] = [
+type Large = (&'static [Part<'static>], usize, usize);
+
+static LARGE: [Large; 4] = [
     (
         &[
             ("int main(void){", 1),
@@ -159,11 +160,7 @@ static LARGE: [(&[Part<'static>], usize, usize); 4] = [
 
 #[test]
 fn functions_with_too_many_nodes(rt: HostRuntime) -> Result<(), Fail> {
-    for (parts, offset, bytes) in LARGE.iter() {
-        let right = is_too_large(rt.alloc(), parts, *offset, *bytes)?;
-        assert!(rt; right, "{offset}");
-    }
-    Ok(())
+    each_passes(rt.alloc(), LARGE.as_slice(), is_too_large)
 }
 
 // The contract is the law; the call does nothing.

@@ -5,6 +5,7 @@ use super::numbered::summed;
 use cc_link::compile;
 use std::alloc::{AllocError, Global};
 use std::test::Fail;
+use tests_texts::verdict::{each_passes, passes};
 
 // The words from 1 to 250.
 fn numbers(alloc: Global) -> Result<Vec<u32>, AllocError> {
@@ -28,8 +29,7 @@ fn sums(alloc: Global) -> Result<bool, Fail> {
 
 #[test]
 fn two_hundred_and_fifty_variables(rt: HostRuntime) -> Result<(), Fail> {
-    assert!(rt; sums(rt.alloc())?);
-    Ok(())
+    passes(sums(rt.alloc()))
 }
 
 // mul by the table of the standard: opcode 0110011, funct3 000, funct7 0000001.
@@ -37,9 +37,9 @@ fn is_product(word: u32) -> bool {
     word & 0xfe00_707f == 0x0200_0033
 }
 
-// How many instructions of a text's image are mul.
-fn products(alloc: Global, text: &str) -> Result<usize, Fail> {
-    let unit = compile(alloc, text.as_bytes())?;
+// Whether so many instructions of a text's image are mul.
+fn has_products(alloc: Global, row: &Row) -> Result<bool, Fail> {
+    let unit = compile(alloc, row.0.as_bytes())?;
     let mut count = 0usize;
     for word in unit.stored().image.code.words() {
         if is_product(*word) {
@@ -47,11 +47,13 @@ fn products(alloc: Global, text: &str) -> Result<usize, Fail> {
         }
     }
     drop(unit);
-    Ok(count)
+    Ok(count == row.1)
 }
 
 /// Texts, and how many products are left in their code: what nobody needs has gone, and what only that read.
-static PRODUCTS: [(&str, usize); 4] = [
+type Row = (&'static str, usize);
+
+static PRODUCTS: [Row; 4] = [
     (
         "int main(void){int x=read_word();int y=x*7;write_word(x);}",
         0,
@@ -72,9 +74,5 @@ static PRODUCTS: [(&str, usize); 4] = [
 
 #[test]
 fn products_that_nobody_needs(rt: HostRuntime) -> Result<(), Fail> {
-    for (text, wanted) in PRODUCTS.iter() {
-        let found = products(rt.alloc(), text)?;
-        assert!(rt; found == *wanted, "{text} {found}");
-    }
-    Ok(())
+    each_passes(rt.alloc(), PRODUCTS.as_slice(), has_products)
 }

@@ -2,7 +2,9 @@
 
 use super::helpers::{Run, runs};
 use cc_rv32::outcome::MachineOutcome;
+use std::alloc::Global;
 use std::test::Fail;
+use tests_texts::verdict::each_passes;
 use tests_texts::worked::LONG;
 
 /// Two quotients.
@@ -16,7 +18,15 @@ pub const WORDS: &[u32] = &[
 const ENDED: MachineOutcome = MachineOutcome::Exited(0);
 
 /// A program, its input, how many instructions it may take, the words that it writes, and what it comes to.
-static ROWS: [(&str, &[u32], u64, &[i32], MachineOutcome); 18] = [
+type Row = (
+    &'static str,
+    &'static [u32],
+    u64,
+    &'static [i32],
+    MachineOutcome,
+);
+
+static ROWS: [Row; 18] = [
     ("int main(void){}", &[], 1000, &[], ENDED),
     ("int main(void){}", &[], 0, &[], MachineOutcome::Going),
     (QUOTIENTS, &[], 1000, &[-3, -1], ENDED),
@@ -122,17 +132,18 @@ static ROWS: [(&str, &[u32], u64, &[i32], MachineOutcome); 18] = [
     ),
 ];
 
+fn is_run(alloc: Global, row: &Row) -> Result<bool, Fail> {
+    let (text, input, steps, words, outcome) = *row;
+    let run = Run {
+        input,
+        steps,
+        words,
+        outcome,
+    };
+    runs(alloc, text.as_bytes(), run)
+}
+
 #[test]
 fn worked_programs(rt: HostRuntime) -> Result<(), Fail> {
-    for (text, input, steps, words, outcome) in ROWS.iter() {
-        let run = Run {
-            input,
-            steps: *steps,
-            words,
-            outcome: *outcome,
-        };
-        let right = runs(rt.alloc(), text.as_bytes(), run)?;
-        assert!(rt; right, "{text} {steps}");
-    }
-    Ok(())
+    each_passes(rt.alloc(), ROWS.as_slice(), is_run)
 }

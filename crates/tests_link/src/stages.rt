@@ -5,7 +5,7 @@
 #[cfg(test)]
 mod row;
 
-use cc_link::{compile, typed_unit};
+use cc_link::{Mode, compile, typed_unit};
 use cc_rv32::listing::list;
 use cc_stages::{StagesFault, stages};
 use row::ROW;
@@ -13,14 +13,15 @@ use std::alloc::{AllocError, Global};
 use std::test::Fail;
 use tests_texts::parts::{Part, text_of};
 use tests_texts::programs::{CRC, FIB, GCD, MATMUL, NEST, REGS, SIEVE, SORT};
+use tests_texts::verdict::{each_passes, passes};
 use tests_texts::worked::LONG;
 
 /// A function with each form of step.
 const FORMS: &str =
-    "unsigned char c[2];int a[3];int f(int n,int k){do n=n+1;while(n>=k);do a[n&1]=c[1];while(n<=0);c[0]=a[2];if(n<k)return n<<3;return -n;}int main(void){write_word(f(read_word(),9));}";
+    "unsigned char c[2];int a[3];int f(int n,int k){do n=n+1;while(n>=k);do a[n&1]=c[1];while(n<=0);c[0]=a[2];c[0]=c[k-8];a[k-7]=n;if(n<k)return n<<3;return -n;}int main(void){write_word(f(read_word(),9));}";
 
-/// Its steps. The word of each constant stands in the operation that reads it, an element of a known number has the number, and a
-/// comparison and the test of its value are one branch.
+/// Its steps. The word of each constant stands in the operation that reads it, an element of a known number has the number, one whose number
+/// is a difference with a word has the register and the word's negative, and a comparison and the test of its value are one branch.
 const FORMS_SELECTED: &str = "== f: Selected
 f0 slots 0
 1:
@@ -33,10 +34,13 @@ f0 slots 0
   branch le_s x10, 0 -> 6
   x28 = object1[2]
   byte object0[0] = x28
-  branch lt_s x10, x11 -> 21
+  x28 = byte object0[x11 + 4294967288]
+  byte object0[0] = x28
+  object1[x11 + 4294967289] = x10
+  branch lt_s x10, x11 -> 29
   x10 = neg x10
   return
-21:
+29:
   x10 = shl x10, 3
   return
 ";
@@ -53,7 +57,7 @@ struct Written {
 fn shown(alloc: Global, text: &[u8], function: Option<&[u8]>) -> Result<Written, Fail> {
     let unit = typed_unit(alloc, text)?;
     let mut written = Vec::new(alloc);
-    let number = match stages(alloc, &unit, function, &mut written) {
+    let number = match stages(alloc, Mode::Plain, &unit, function, &mut written) {
         Ok(()) => 0,
         Err(fault) => {
             let number = fault.number();
@@ -92,8 +96,8 @@ fn row_text(alloc: Global, function: &str) -> Result<Vec<u8>, AllocError> {
 }
 
 // Whether the stages of the row are these, of all functions (an empty name) or of one.
-fn shows_row(alloc: Global, function: &str) -> Result<bool, Fail> {
-    let wanted = match function {
+fn shows_row(alloc: Global, function: &&'static str) -> Result<bool, Fail> {
+    let wanted = match *function {
         "" => None,
         name => Some(name.as_bytes()),
     };
@@ -107,11 +111,7 @@ fn shows_row(alloc: Global, function: &str) -> Result<bool, Fail> {
 
 #[test]
 fn texts_of_the_row(rt: HostRuntime) -> Result<(), Fail> {
-    for function in ["", "f", "main"] {
-        let right = shows_row(rt.alloc(), function)?;
-        assert!(rt; right, "{function}");
-    }
-    Ok(())
+    each_passes(rt.alloc(), &["", "f", "main"], shows_row)
 }
 
 #[test]
@@ -120,8 +120,7 @@ fn each_form_of_step(rt: HostRuntime) -> Result<(), Fail> {
     let text = str::from_utf8(found.text.as_slice())?;
     let right = found.number == 0 && text.contains(FORMS_SELECTED);
     drop(found);
-    assert!(rt; right);
-    Ok(())
+    passes(Ok(right))
 }
 
 // The labels of a stage: those that its code leads to, and those that stand.
@@ -185,16 +184,17 @@ fn stages_lacking_labels(alloc: Global, text: &str) -> Result<(usize, usize), Fa
     Ok((count, lacking))
 }
 
+fn all_labels_stand(alloc: Global, program: &&'static str) -> Result<bool, Fail> {
+    let found = shown(alloc, program.as_bytes(), None)?;
+    let text = str::from_utf8(found.text.as_slice())?;
+    let (count, lacking) = stages_lacking_labels(alloc, text)?;
+    drop(found);
+    Ok(count >= 7 && count % 7 == 0 && lacking == 0)
+}
+
 #[test]
 fn labels_stand(rt: HostRuntime) -> Result<(), Fail> {
-    for program in PROGRAMS.iter() {
-        let found = shown(rt.alloc(), program.as_bytes(), None)?;
-        let text = str::from_utf8(found.text.as_slice())?;
-        let (count, lacking) = stages_lacking_labels(rt.alloc(), text)?;
-        drop(found);
-        assert!(rt; count >= 7 && count % 7 == 0 && lacking == 0, "{program}");
-    }
-    Ok(())
+    each_passes(rt.alloc(), PROGRAMS.as_slice(), all_labels_stand)
 }
 
 // The lines of code in the stages of a text.
@@ -227,7 +227,7 @@ fn behind_start(listing: &[u8]) -> &[u8] {
 }
 
 // Whether the code in the stages of a program is its image's listing.
-fn code_is_listing(alloc: Global, program: &str) -> Result<bool, Fail> {
+fn code_is_listing(alloc: Global, program: &&'static str) -> Result<bool, Fail> {
     let found = shown(alloc, program.as_bytes(), None)?;
     let lines = code_lines(alloc, str::from_utf8(found.text.as_slice())?)?;
     let unit = compile(alloc, program.as_bytes())?;
@@ -243,22 +243,20 @@ fn code_is_listing(alloc: Global, program: &str) -> Result<bool, Fail> {
 
 #[test]
 fn all_code_is_the_listing(rt: HostRuntime) -> Result<(), Fail> {
-    for program in PROGRAMS.iter() {
-        let right = code_is_listing(rt.alloc(), program)?;
-        assert!(rt; right, "{program}");
-    }
-    Ok(())
+    each_passes(rt.alloc(), PROGRAMS.as_slice(), code_is_listing)
+}
+
+fn is_unknown(alloc: Global, name: &&'static str) -> Result<bool, Fail> {
+    let found = shown(alloc, LONG.as_bytes(), Some(name.as_bytes()))?;
+    let right = found.number == 59 && found.text.is_empty();
+    drop(found);
+    Ok(right)
 }
 
 #[test]
 fn unknown_names(rt: HostRuntime) -> Result<(), Fail> {
-    for name in ["g", "", "mai", "main1", "write_word", "x"] {
-        let found = shown(rt.alloc(), LONG.as_bytes(), Some(name.as_bytes()))?;
-        let right = found.number == 59 && found.text.is_empty();
-        drop(found);
-        assert!(rt; right, "{name}");
-    }
-    Ok(())
+    let names = ["g", "", "mai", "main1", "write_word", "x"];
+    each_passes(rt.alloc(), &names, is_unknown)
 }
 
 /// The parts of a text whose `main` would have more than 4,096 nodes.
@@ -281,13 +279,11 @@ fn ends_large(alloc: Global, function: Option<&[u8]>, end: &str) -> Result<bool,
 
 #[test]
 fn a_function_with_too_many_nodes(rt: HostRuntime) -> Result<(), Fail> {
-    let refused = "  skip\n== main: RTL\nrefused: more than 4096 nodes\n";
+    let refused = "  v0 = 0\n== main: RTL\nrefused: more than 4096 nodes\n";
     let other = "  return\n== f: code\nnone: the program has no image\n";
-    let all = ends_large(rt.alloc(), None, refused)?;
-    let alone = ends_large(rt.alloc(), Some(b"main"), refused)?;
-    let another = ends_large(rt.alloc(), Some(b"f"), other)?;
-    assert!(rt; all && alone && another);
-    Ok(())
+    passes(ends_large(rt.alloc(), None, refused))?;
+    passes(ends_large(rt.alloc(), Some(b"main"), refused))?;
+    passes(ends_large(rt.alloc(), Some(b"f"), other))
 }
 
 #[test]
@@ -295,10 +291,9 @@ fn a_writer_that_fails(rt: HostRuntime) -> Result<(), Fail> {
     let unit = typed_unit(rt.alloc(), FORMS.as_bytes())?;
     let mut room = [0u8; 300];
     let mut writer = room.as_mut_slice();
-    let told = stages(rt.alloc(), &unit, None, &mut writer);
+    let told = stages(rt.alloc(), Mode::Plain, &unit, None, &mut writer);
     let right = matches!(told, Err(StagesFault::Write));
     drop(told);
     drop(unit);
-    assert!(rt; right);
-    Ok(())
+    passes(Ok(right))
 }

@@ -628,3 +628,27 @@ fn traps_outside_the_code(rt: HostRuntime) {
         assert!(rt; leaves_the_code(rt.alloc(), word), "at {word:08x}");
     }
 }
+
+// What as many steps as a call can have come to, and one more.
+fn all_steps(machine: &mut Machine) -> Result<(MachineOutcome, MachineOutcome), MachineFault> {
+    let whole = machine.run(u64::MAX)?;
+    Ok((whole, machine.step()?))
+}
+
+// A jump to itself goes on for ever, which takes no time.
+fn stays_in_place(alloc: Global, jump: u32) -> bool {
+    let Some(mut machine) = machine(alloc, &[0x0000_0013, jump], &[], &[]) else {
+        return false;
+    };
+    let found = all_steps(&mut machine);
+    drop(machine);
+    matches!(found, Ok((MachineOutcome::Going, MachineOutcome::Going)))
+}
+
+// jal x0, 0 and jal x1, 0
+#[test]
+fn jumps_to_themselves(rt: HostRuntime) {
+    for jump in [0x0000_006f, 0x0000_00ef] {
+        assert!(rt; stays_in_place(rt.alloc(), jump), "at {jump:08x}");
+    }
+}

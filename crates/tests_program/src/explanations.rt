@@ -1,6 +1,6 @@
 // What is explained of faults and of runs that go wrong, beside what is answered.
 
-use cc_task::Task;
+use cc_task::{Kind, Task};
 use cc_tasks::perform_and_explain;
 use std::alloc::Global;
 
@@ -95,7 +95,13 @@ fn explains_a_large_function<H: AllocGlobal>(rt: &H) -> bool {
     let mut reader = text.as_slice();
     let mut written = Vec::new(rt.alloc());
     let mut explained = Vec::new(rt.alloc());
-    let status = perform_and_explain(rt, Task::Asm, &mut reader, &mut written, &mut explained);
+    let status = perform_and_explain(
+        rt,
+        Task::Asm(Kind::Plain),
+        &mut reader,
+        &mut written,
+        &mut explained,
+    );
     let told = explained
         .as_slice()
         .starts_with(b"-:1:5: 'main' is too large to be compiled".as_slice());

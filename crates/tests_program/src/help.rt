@@ -7,7 +7,7 @@ static VERSION: &str = "cclib 0.1.0
 ";
 
 static HELP: &str = "\
-Reads a C program from standard input: checks, interprets, compiles and runs it, or keeps compiled programs in a file
+Reads a C program from standard input or files: checks, interprets, compiles and runs it, or keeps compiled programs in a file
 
 Usage: cclib [OPTIONS] <COMMAND>
 
@@ -17,8 +17,14 @@ Commands:
   run        Compile the program and run its image: print the words that it writes, and how it ends
   asm        Compile the program and list its image
   stages     Show what the compiler makes of each function, stage by stage
+  size       Say how much the program's image takes: its code, its globals, and a stack that is enough
   image      Compile the program and print its image as Intel HEX, or print that of a unit of a library
   source     Print the source of a unit of a library
+  call       Run a unit of a library on input words
+  diff       Say where two libraries differ
+  log        Print what was added, replaced and withdrawn since the last compaction
+  restore    Put back what a unit of a library was
+  copy       Copy the units of a library into a new one, or some of them
   library    Keep compiled programs in a file that survives a power cut, by the commands of a script
   serve      Do the scripts that others leave in a folder, many at a time, over a library in a file
   submit     Leave a script for a server, wait for its answer and print it
@@ -31,18 +37,27 @@ Options:
 
 Examples:
   cclib check < examples/quotient.c
+  cclib check main.c table.c
   cclib interpret 1000 < examples/quotient.c
   cclib run 10000 2 104 105 < examples/checksum.c
+  cclib run --checked 10000 2 104 105 < examples/checksum.c
   cclib asm < examples/quotient.c
   cclib stages main < examples/quotient.c
+  cclib size < examples/quotient.c
   cclib image < examples/quotient.c > quotient.hex
   cclib library units.disk --format 65536 < examples/units.script
   cclib image units.disk sum > sum.hex
   cclib source units.disk sum
+  cclib call units.disk sum 1000 4 5
+  cclib diff units.disk backup.disk
+  cclib log units.disk sum
+  cclib restore units.disk sum 1
+  cclib copy units.disk larger.disk --format 1048576
   cclib serve units.disk spool
   cclib submit spool add quotient < examples/quotient.c
 
-The C program is read from standard input. The WORDs are the program's own input;
+The C program is read from standard input, or from the files that --file names, which are
+put together in their order. The WORDs are the program's own input;
 a negative one is written modulo 4294967296: 4294967293 for -3.
 
 `library` reads a script of commands in place of a program:

@@ -1,6 +1,6 @@
 // What a task writes for a text, and texts made of parts.
 
-use cc_task::Task;
+use cc_task::{Kind, Task};
 use cc_tasks::perform;
 use std::alloc::Global;
 use tests_texts::parts::{Part, text_of};
@@ -21,13 +21,13 @@ pub fn interprets<H: AllocGlobal>(rt: &H, text: &[u8], steps: u64, lines: &str) 
 
 /// Whether the image of a text writes these lines within this many instructions on no input.
 pub fn runs<H: AllocGlobal>(rt: &H, text: &[u8], steps: u64, lines: &str) -> bool {
-    let task = Task::Run(steps, Vec::new(rt.alloc()));
+    let task = Task::Run(Kind::Plain, steps, Vec::new(rt.alloc()));
     writes(rt, task, text, lines.as_bytes(), 0)
 }
 
 /// Whether `run` refuses the text of these parts with this line.
 pub fn has_no_image<H: AllocGlobal>(rt: &H, parts: &[Part<'_>], line: &str) -> bool {
-    let task = Task::Run(1000, Vec::new(rt.alloc()));
+    let task = Task::Run(Kind::Plain, 1000, Vec::new(rt.alloc()));
     match text_of(rt.alloc(), parts) {
         Ok(text) => writes(rt, task, text.as_slice(), line.as_bytes(), 1),
         Err(_) => {

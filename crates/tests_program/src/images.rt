@@ -1,7 +1,7 @@
 // Programs that are compiled: what their images write and how they end, the text of an image, and texts without an image.
 
 use super::helpers::{has_no_image, runs, writes};
-use cc_task::Task;
+use cc_task::{Kind, Task};
 
 // Small programs, the instructions of each run, what its image writes on no input and how it ends.
 static IMAGES: [(&str, u64, &str); 10] = [
@@ -72,14 +72,20 @@ static TEXTS: [(&str, &str); 2] = [
 fn texts_of_images(rt: HostRuntime) {
     for (text, lines) in TEXTS.iter() {
         assert!(rt;
-            writes(&rt, Task::Image, text.as_bytes(), lines.as_bytes(), 0),
+            writes(
+                &rt,
+                Task::Image(Kind::Plain),
+                text.as_bytes(),
+                lines.as_bytes(),
+                0
+            ),
             "for {text}"
         );
     }
     assert!(rt;
         writes(
             &rt,
-            Task::Image,
+            Task::Image(Kind::Plain),
             b"int main(void){x=1;}",
             b"fault 11 Unknown at 1:16\n",
             1

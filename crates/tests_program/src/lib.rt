@@ -4,11 +4,15 @@
 #![tactic(auto)]
 
 #[cfg(test)]
+mod checked;
+#[cfg(test)]
 mod descriptors;
 #[cfg(test)]
 mod explanations;
 #[cfg(test)]
 mod faulty;
+#[cfg(test)]
+mod files;
 #[cfg(test)]
 mod help;
 #[cfg(test)]
@@ -27,6 +31,8 @@ mod programs;
 mod refusals;
 #[cfg(test)]
 mod screens;
+#[cfg(test)]
+mod sizes;
 #[cfg(test)]
 mod spools;
 #[cfg(test)]

@@ -2,6 +2,7 @@
 
 use crate::words::are_refused;
 use cc_command_line::{Server, Submitter, Work, line};
+use cc_task::Kind;
 use std::alloc::Global;
 
 // What a command line asks of a server, of the file `a.disk` and the folder `spool`.
@@ -81,6 +82,7 @@ fn asks_for_server(alloc: Global, asked: &Asked) -> bool {
                     folder,
                     area,
                     workers,
+                    kind: Kind::Plain,
                     clients,
                     keep,
                     done,

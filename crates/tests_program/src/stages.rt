@@ -1,5 +1,6 @@
 // What is shown of a text's functions, and what is refused. That the stages are those of the compiler is tested in `tests_link`.
 
+use cc_task::Kind;
 use cc_tasks::{perform_and_explain_stages, perform_stages};
 use tests_texts::parts::text_of;
 use tests_texts::streams::{FailsBehind, Refuses};
@@ -53,7 +54,14 @@ fn show_stages<H: AllocGlobal>(rt: &H, text: &[u8], function: Option<&[u8]>) -> 
     let mut reader = text;
     let mut written = Vec::new(rt.alloc());
     let mut told = Vec::new(rt.alloc());
-    let status = perform_and_explain_stages(rt, function, &mut reader, &mut written, &mut told);
+    let status = perform_and_explain_stages(
+        rt,
+        Kind::Plain,
+        function,
+        &mut reader,
+        &mut written,
+        &mut told,
+    );
     Shown {
         status,
         written,
@@ -178,7 +186,7 @@ fn a_read_that_fails(rt: HostRuntime) {
         bytes: b"".as_slice(),
     };
     let mut written = Vec::new(rt.alloc());
-    let status = perform_stages(&rt, None, &mut reader, &mut written);
+    let status = perform_stages(&rt, Kind::Plain, None, &mut reader, &mut written);
     assert!(rt; status == 1 && written.as_slice() == b"fault 53 ReadFault\n".as_slice());
 }
 
@@ -187,7 +195,14 @@ fn a_write_that_fails(rt: HostRuntime) {
     let mut reader = TWO.as_bytes();
     let mut writer = Refuses;
     let mut told = Vec::new(rt.alloc());
-    let status = perform_and_explain_stages(&rt, None, &mut reader, &mut writer, &mut told);
+    let status = perform_and_explain_stages(
+        &rt,
+        Kind::Plain,
+        None,
+        &mut reader,
+        &mut writer,
+        &mut told,
+    );
     assert!(rt;
         status == 1 && told.as_slice() == b"cclib: the answer could not be written\n".as_slice()
     );

@@ -2,7 +2,7 @@
 
 use crate::words::are_refused;
 use cc_command_line::{Wanted, Work, line};
-use cc_task::{Part, Task};
+use cc_task::{Kind, Part, Task};
 use std::alloc::Global;
 
 // Command lines that show functions, and the one that each names.
@@ -15,7 +15,7 @@ static STAGES: [(&[&str], Option<&str>); 4] = [
 
 fn asks_for_stages(alloc: Global, words: &'static [&'static str], wanted: Option<&str>) -> bool {
     match line(alloc, words) {
-        Ok(Work::Stages(function)) => match (&function, wanted) {
+        Ok(Work::Stages(Kind::Plain, function)) => match (&function, wanted) {
             (Some(name), Some(wanted)) => name.as_str() == wanted,
             (None, None) => true,
             _ => false,
@@ -46,8 +46,20 @@ static UNITS: [(&[&str], Part); 3] = [
 
 fn asks_for_unit(alloc: Global, words: &'static [&'static str], wanted: Part) -> bool {
     match line(alloc, words) {
-        Ok(Work::TakeOut(Wanted { disk, name, part })) => {
-            disk.as_str() == "units.disk" && name.as_str() == "quotient" && part == wanted
+        Ok(
+            Work::TakeOut(
+                Wanted {
+                    disk,
+                    name,
+                    part,
+                    at,
+                },
+            ),
+        ) => {
+            disk.as_str() == "units.disk"
+                && name.as_str() == "quotient"
+                && part == wanted
+                && at.is_none()
         }
         other => {
             drop(other);
@@ -64,7 +76,7 @@ fn parts_of_units(rt: HostRuntime) {
 }
 
 fn asks_for_image(alloc: Global, words: &'static [&'static str]) -> bool {
-    matches!(line(alloc, words), Ok(Work::One(Task::Image)))
+    matches!(line(alloc, words), Ok(Work::One(Task::Image(Kind::Plain))))
 }
 
 #[test]

@@ -1,9 +1,9 @@
 // The command line.
 
 use cc_command_line::{
-    Invocation, Session, Work, line, read_invocation, read_or_tell, refused_bytes,
+    Invocation, Server, Session, Work, line, read_invocation, read_or_tell, refused_bytes,
 };
-use cc_task::Task;
+use cc_task::{Kind, Task};
 use std::alloc::Global;
 
 fn asks_to_check(alloc: Global, words: &'static [&'static str]) -> bool {
@@ -27,7 +27,9 @@ fn asks_to_interpret(
 
 fn asks_to_run(alloc: Global, words: &'static [&'static str], steps: u64, input: &[u32]) -> bool {
     match line(alloc, words) {
-        Ok(Work::One(Task::Run(found, given))) => { found == steps && given.as_slice() == input }
+        Ok(Work::One(Task::Run(Kind::Plain, found, given))) => {
+            found == steps && given.as_slice() == input
+        }
         other => {
             drop(other);
             false
@@ -36,7 +38,7 @@ fn asks_to_run(alloc: Global, words: &'static [&'static str], steps: u64, input:
 }
 
 fn asks_for_listing(alloc: Global, words: &'static [&'static str]) -> bool {
-    matches!(line(alloc, words), Ok(Work::One(Task::Asm)))
+    matches!(line(alloc, words), Ok(Work::One(Task::Asm(Kind::Plain))))
 }
 
 fn asks_for_library(
@@ -53,9 +55,11 @@ fn asks_for_library(
                     disk,
                     area,
                     workers,
+                    is_strict,
+                    kind: Kind::Plain,
                 },
             ),
-        ) => disk.as_str() == path && area == wanted && workers == count,
+        ) => disk.as_str() == path && area == wanted && workers == count && !is_strict,
         other => {
             drop(other);
             false
@@ -101,6 +105,55 @@ fn tasks(rt: HostRuntime) {
     assert!(rt; asks_for_listing(rt.alloc(), &["cclib", "asm"]));
 }
 
+fn asks_for_checked_run(alloc: Global, words: &'static [&'static str]) -> bool {
+    matches!(
+        line(alloc, words),
+        Ok(Work::One(Task::Run(Kind::Checked, 5, _)))
+    )
+}
+
+#[test]
+fn checked_images(rt: HostRuntime) {
+    let alloc = rt.alloc();
+    assert!(rt; asks_for_checked_run(alloc, &["cclib", "run", "--checked", "5", "7"]));
+    assert!(rt; asks_for_checked_run(alloc, &["cclib", "run", "5", "--checked"]));
+    let asked = line(alloc, &["cclib", "asm", "--checked"]);
+    assert!(rt; matches!(asked, Ok(Work::One(Task::Asm(Kind::Checked)))));
+    let asked = line(alloc, &["cclib", "size", "--checked"]);
+    assert!(rt; matches!(asked, Ok(Work::One(Task::Size(Kind::Checked)))));
+    let asked = line(alloc, &["cclib", "library", "units.disk", "--checked"]);
+    assert!(rt;
+        matches!(
+            asked,
+            Ok(Work::Library(Session {
+                kind: Kind::Checked,
+                ..
+            }))
+        )
+    );
+    let asked = line(
+        alloc,
+        &["cclib", "serve", "--checked", "units.disk", "spool"],
+    );
+    assert!(rt;
+        matches!(
+            asked,
+            Ok(Work::Serve(Server {
+                kind: Kind::Checked,
+                ..
+            }))
+        )
+    );
+    let asked = line(alloc, &["cclib", "size"]);
+    assert!(rt; matches!(asked, Ok(Work::One(Task::Size(Kind::Plain)))));
+    let asked = line(alloc, &["cclib", "image", "--checked"]);
+    assert!(rt; matches!(asked, Ok(Work::One(Task::Image(Kind::Checked)))));
+    let asked = line(alloc, &["cclib", "stages", "--checked"]);
+    assert!(rt; matches!(asked, Ok(Work::Stages(Kind::Checked, None))));
+    assert!(rt; is_refused(alloc, &["cclib", "image", "units.disk", "a", "--checked"]));
+    assert!(rt; is_refused(alloc, &["cclib", "check", "--checked"]));
+}
+
 // Refused with status 2, the text on standard error.
 fn is_refused(alloc: Global, words: &'static [&'static str]) -> bool {
     match line(alloc, words) {
@@ -125,7 +178,7 @@ pub fn are_refused(alloc: Global, lists: &[&'static [&'static str]]) -> bool {
     right
 }
 
-static REFUSED: [&[&str]; 20] = [
+static REFUSED: [&[&str]; 19] = [
     &["cclib", "interpret", "1000000001"],
     &["cclib", "interpret", "+5"],
     &["cclib", "interpret", "-1"],
@@ -138,7 +191,6 @@ static REFUSED: [&[&str]; 20] = [
     &["cclib", "run", "-5"],
     &["cclib", "run", "5", "-1"],
     &["cclib", "asm", "5"],
-    &["cclib", "check", "5"],
     &["cclib"],
     &["cclib", "library"],
     &["cclib", "library", "a", "--workers", "0"],
@@ -163,8 +215,15 @@ static QUIET: [(&[&str], bool); 4] = [
 
 fn asks_for_quiet(alloc: Global, words: &'static [&'static str]) -> Option<bool> {
     match read_invocation(alloc, words) {
-        Ok(Invocation { work, is_quiet }) => {
+        Ok(
+            Invocation {
+                work,
+                is_quiet,
+                files,
+            },
+        ) => {
             drop(work);
+            drop(files);
             Some(is_quiet)
         }
         Err(error) => {
@@ -249,8 +308,9 @@ fn reads_quiet_check(rt: &HostRuntime, words: &'static [&'static str]) -> bool {
             Invocation {
                 work: Work::One(Task::Check),
                 is_quiet,
+                files,
             },
-        ) => is_quiet,
+        ) => is_quiet && files.is_empty(),
         other => {
             drop(other);
             false

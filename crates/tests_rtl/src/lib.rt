@@ -10,6 +10,8 @@
 mod cminor;
 pub mod flow;
 #[cfg(test)]
+mod guarded;
+#[cfg(test)]
 mod helpers;
 #[cfg(test)]
 mod limits;

@@ -4,6 +4,7 @@ use super::helpers::{Answer, first_answer};
 use std::alloc::Global;
 use std::test::Fail;
 use tests_texts::parts::{Part, main_of, text_of};
+use tests_texts::verdict::each_passes;
 
 // Whether the first function of the text of these parts comes out so.
 fn comes_out(alloc: Global, parts: &[Part<'_>], answer: Answer) -> Result<bool, Fail> {
@@ -13,7 +14,9 @@ fn comes_out(alloc: Global, parts: &[Part<'_>], answer: Answer) -> Result<bool, 
 
 /// How often `write_word(0);` and then `read_word();` stand in `main`, and how `main` comes out: a write takes three nodes, a read
 /// one, and each function has three more.
-static MAINS: [(usize, usize, Answer); 5] = [
+type Main = (usize, usize, Answer);
+
+static MAINS: [Main; 5] = [
     (1_000, 0, Answer::Nodes(3_003)),
     (4_097, 0, Answer::Fault(22)),
     (1_364, 0, Answer::Nodes(4_095)),
@@ -21,18 +24,19 @@ static MAINS: [(usize, usize, Answer); 5] = [
     (1_364, 2, Answer::Fault(22)),
 ];
 
+fn main_comes_out(alloc: Global, row: &Main) -> Result<bool, Fail> {
+    comes_out(alloc, &main_of(row.0, row.1), row.2)
+}
+
 #[test]
 fn nodes_of_main(rt: HostRuntime) -> Result<(), Fail> {
-    for (writes, reads, answer) in MAINS.iter() {
-        let parts = main_of(*writes, *reads);
-        let right = comes_out(rt.alloc(), &parts, *answer)?;
-        assert!(rt; right, "{writes} {reads}");
-    }
-    Ok(())
+    each_passes(rt.alloc(), MAINS.as_slice(), main_comes_out)
 }
 
 /// What stands before the function, a part of its body, and how often that stands there: each has too many nodes.
-static BODIES: [(&str, &str, usize); 7] = [
+type Body = (&'static str, &'static str, usize);
+
+static BODIES: [Body; 7] = [
     ("int x;int main(void){", "x++;", 16_000),
     ("int main(void){", "write_word(0);", 4_600),
     ("int a[9];int main(void){", "a[1]+=a[2];", 5_900),
@@ -42,19 +46,24 @@ static BODIES: [(&str, &str, usize); 7] = [
     ("int x;int main(void){", "x=x&&x||read_word();", 3_200),
 ];
 
+fn body_is_too_long(alloc: Global, row: &Body) -> Result<bool, Fail> {
+    comes_out(
+        alloc,
+        &[(row.0, 1), (row.1, row.2), ("}", 1)],
+        Answer::Fault(22),
+    )
+}
+
 #[test]
 fn long_bodies(rt: HostRuntime) -> Result<(), Fail> {
-    for (before, part, times) in BODIES.iter() {
-        let parts = [(*before, 1), (*part, *times), ("}", 1)];
-        let right = comes_out(rt.alloc(), &parts, Answer::Fault(22))?;
-        assert!(rt; right, "{part}");
-    }
-    Ok(())
+    each_passes(rt.alloc(), BODIES.as_slice(), body_is_too_long)
 }
 
 /// A body of some 64 KiB that takes few nodes or none: what is opened, how often, what stands within, what closes it, and how many
 /// nodes there are.
-static SMALL: [(&str, usize, &str, usize, usize); 4] = [
+type Small = (&'static str, usize, &'static str, usize, usize);
+
+static SMALL: [Small; 4] = [
     // empty statements
     ("", 0, ";", 65_000, 3),
     // blocks within one another, with empty statements in the innermost
@@ -65,44 +74,47 @@ static SMALL: [(&str, usize, &str, usize, usize); 4] = [
     ("if(1)", 60, ";", 1, 123),
 ];
 
+fn small_comes_out(alloc: Global, row: &Small) -> Result<bool, Fail> {
+    let (opening, levels, within, times, nodes) = *row;
+    let parts = [
+        ("int main(void){", 1),
+        (opening, levels),
+        (within, times),
+        ("}", if opening == "{" { levels } else { 0 }),
+        ("}", 1),
+    ];
+    comes_out(alloc, &parts, Answer::Nodes(nodes))
+}
+
 #[test]
 fn small_bodies(rt: HostRuntime) -> Result<(), Fail> {
-    for (opening, levels, within, times, nodes) in SMALL.iter() {
-        let closes = if *opening == "{" { *levels } else { 0 };
-        let parts = [
-            ("int main(void){", 1),
-            (*opening, *levels),
-            (*within, *times),
-            ("}", closes),
-            ("}", 1),
-        ];
-        let right = comes_out(rt.alloc(), &parts, Answer::Nodes(*nodes))?;
-        assert!(rt; right, "{opening}");
-    }
-    Ok(())
+    each_passes(rt.alloc(), SMALL.as_slice(), small_comes_out)
 }
 
 /// An expression of about 512 tokens that is returned: what is repeated, how often, what stands within, what is repeated behind that,
 /// and how many nodes the function has. An object of one word takes a constant and a load.
-static EXPRESSIONS: [(&str, usize, &str, &str, usize); 4] = [
+type Expression = (&'static str, usize, &'static str, &'static str, usize);
+
+static EXPRESSIONS: [Expression; 4] = [
     ("~", 511, "1", "", 516),
     ("a[", 170, "1", "]", 175),
     ("(x+", 127, "x", ")", 387),
     ("x+", 255, "1", "", 770),
 ];
 
+fn expression_comes_out(alloc: Global, row: &Expression) -> Result<bool, Fail> {
+    let (opening, times, within, closing, nodes) = *row;
+    let parts = [
+        ("int x;int a[9];int main(void){return ", 1),
+        (opening, times),
+        (within, 1),
+        (closing, times),
+        (";}", 1),
+    ];
+    comes_out(alloc, &parts, Answer::Nodes(nodes))
+}
+
 #[test]
 fn long_expressions(rt: HostRuntime) -> Result<(), Fail> {
-    for (opening, times, within, closing, nodes) in EXPRESSIONS.iter() {
-        let parts = [
-            ("int x;int a[9];int main(void){return ", 1),
-            (*opening, *times),
-            (*within, 1),
-            (*closing, *times),
-            (";}", 1),
-        ];
-        let right = comes_out(rt.alloc(), &parts, Answer::Nodes(*nodes))?;
-        assert!(rt; right, "{opening}");
-    }
-    Ok(())
+    each_passes(rt.alloc(), EXPRESSIONS.as_slice(), expression_comes_out)
 }

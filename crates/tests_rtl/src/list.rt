@@ -24,38 +24,35 @@ fn forward(rt: &HostRuntime, list: &InstrList<u32>) -> Result<Vec<(u32, u32)>, F
 #[test]
 fn labels_stay_through_edits(rt: HostRuntime) -> Result<(), Fail> {
     let mut list = InstrList::new(rt.alloc());
-    assert_eq!(rt; list.push_back(10)?, 0);
-    assert_eq!(rt; list.push_back(20)?, 1);
-    assert_eq!(rt; list.push_back(30)?, 2);
-    assert_eq!(rt; list.unlink(1), 20);
-    assert_eq!(rt; list.insert_before(2, 25)?, 3);
+    let pushed = [
+        list.push_back(10)?,
+        list.push_back(20)?,
+        list.push_back(30)?,
+    ];
+    let taken = list.unlink(1);
+    let inserted = list.insert_before(2, 25)?;
+    assert!(rt; pushed == [0, 1, 2] && taken == 20 && inserted == 3);
     let seen = forward(&rt, &list)?;
-    assert_eq!(rt; *seen.as_slice(), *[(0, 10), (3, 25), (2, 30)].as_slice());
-    assert_eq!(rt; list.at(1), None);
-    assert_eq!(rt; list.at(4), None);
-    assert_eq!(rt; list.prev(2), Some(3));
-    assert_eq!(rt; list.prev(3), Some(0));
-    assert_eq!(rt; list.prev(0), None);
-    assert_eq!(rt; list.replace(0, 11), 10);
-    assert_eq!(rt; list.at(0), Some(&11));
-    assert_eq!(rt; list.len(), 3);
-    assert_eq!(rt; list.given(), 4);
+    assert!(rt; *seen.as_slice() == *[(0, 10), (3, 25), (2, 30)].as_slice());
+    let before = [list.prev(2), list.prev(3), list.prev(0)];
+    let replaced = list.replace(0, 11);
+    assert!(rt; before == [Some(3), Some(0), None] && replaced == 10);
+    let items = [list.at(0), list.at(1), list.at(4)];
+    assert!(rt; items == [Some(&11), None, None] && list.len() == 3 && list.given() == 4);
     Ok(())
 }
 
 #[test]
 fn a_list_empties_and_fills_again(rt: HostRuntime) -> Result<(), Fail> {
     let mut list = InstrList::new(rt.alloc());
-    assert!(rt; list.is_empty());
-    assert_eq!(rt; list.first(), None);
-    list.push_back(1)?;
-    assert_eq!(rt; list.insert_before(0, 2)?, 1);
-    assert_eq!(rt; list.unlink(0), 1);
-    assert_eq!(rt; list.unlink(1), 2);
-    assert_eq!(rt; list.first(), None);
-    assert_eq!(rt; list.push_back(3)?, 2);
+    let was_empty = list.is_empty() && list.first().is_none();
+    let labels = [list.push_back(1)?, list.insert_before(0, 2)?];
+    let items = [list.unlink(0), list.unlink(1)];
+    let is_empty = list.first().is_none();
+    let label = list.push_back(3)?;
+    assert!(rt; was_empty && is_empty && labels == [0, 1] && items == [1, 2] && label == 2);
     let seen = forward(&rt, &list)?;
-    assert_eq!(rt; *seen.as_slice(), *[(2, 3)].as_slice());
+    assert!(rt; *seen.as_slice() == *[(2, 3)].as_slice());
     Ok(())
 }
 
@@ -66,13 +63,14 @@ fn each_item_is_dropped_once(rt: HostRuntime) -> Result<(), Fail> {
     list.push_back(shared.clone()?)?;
     list.push_back(shared.clone()?)?;
     list.push_back(shared.clone()?)?;
-    assert_eq!(rt; Rc::strong_count(&shared), 4);
+    let full = Rc::strong_count(&shared);
     drop(list.unlink(1));
-    assert_eq!(rt; Rc::strong_count(&shared), 3);
+    let unlinked = Rc::strong_count(&shared);
     drop(list.replace(2, shared.clone()?));
-    assert_eq!(rt; Rc::strong_count(&shared), 3);
+    let replaced = Rc::strong_count(&shared);
     drop(list);
-    assert_eq!(rt; Rc::strong_count(&shared), 1);
+    let dropped = Rc::strong_count(&shared);
+    assert!(rt; [full, unlinked, replaced, dropped] == [4, 3, 3, 1]);
     Ok(())
 }
 
@@ -84,48 +82,54 @@ fn a_list_of_the_most_labels_takes_no_stack(rt: HostRuntime) -> Result<(), Fail>
             list.push_back(item)?;
         }
     }
-    assert_eq!(rt; list.given(), 65536);
-    assert_eq!(rt; list.at(65535), Some(&65535));
+    assert!(rt; list.given() == 65536 && list.at(65535) == Some(&65535));
     Ok(())
 }
 
-// Each of these growths may be refused (`bench/memory.sh list` refuses each in turn): then the item comes back, the list stays, and the item
-// goes in when it is added again.
-#[test]
-fn a_refused_growth_hands_the_item_back(rt: HostRuntime) -> Result<(), Fail> {
-    let mut list = InstrList::new(rt.alloc());
-    for item in 0..20u32 {
-        let before = list.len();
-        let given = list.given();
-        if given < 65536 {
-            match list.push_back(item) {
-                Ok(label) => assert_eq!(rt; label, given),
-                Err(refused) => {
-                    assert_eq!(rt; refused.value, item);
-                    assert_eq!(rt; list.given(), given);
-                    assert_eq!(rt; list.len(), before);
-                    list.push_back(refused.value)?;
-                }
-            }
+// Adds an item at the end: whether it has the next label; where memory ran out, whether it came back and the list stayed, and it goes in when
+// it is added again.
+fn pushes(list: &mut InstrList<u32>, item: u32) -> bool {
+    let (given, before) = (list.given(), list.len());
+    if given >= 65536 {
+        return false;
+    }
+    match list.push_back(item) {
+        Ok(label) => label == given,
+        Err(refused) => {
+            let stayed = refused.value == item && list.given() == given && list.len() == before;
+            stayed && list.push_back(refused.value).is_ok()
         }
+    }
+}
+
+// The same before the first item: whether it is the first then.
+fn inserts(list: &mut InstrList<u32>, item: u32) -> bool {
+    let (given, before) = (list.given(), list.len());
+    let Some(first) = list.first() else {
+        return false;
+    };
+    if given >= 65536 {
+        return false;
+    }
+    match list.insert_before(first, item) {
+        Ok(label) => list.first() == Some(label),
+        Err(refused) => {
+            let stayed = refused.value == item && list.given() == given && list.len() == before;
+            stayed && list.insert_before(first, refused.value).is_ok()
+        }
+    }
+}
+
+// Each of these growths may be refused (`bench/memory.sh list` refuses each in turn).
+#[test]
+fn a_refused_growth_hands_the_item_back(rt: HostRuntime) {
+    let mut list = InstrList::new(rt.alloc());
+    let mut right = true;
+    for item in 0..20u32 {
+        right = right && pushes(&mut list, item);
     }
     for item in 20..40u32 {
-        let before = list.len();
-        let given = list.given();
-        if given < 65536
-            && let Some(first) = list.first()
-        {
-            match list.insert_before(first, item) {
-                Ok(label) => assert_eq!(rt; list.first(), Some(label)),
-                Err(refused) => {
-                    assert_eq!(rt; refused.value, item);
-                    assert_eq!(rt; list.given(), given);
-                    assert_eq!(rt; list.len(), before);
-                    list.insert_before(first, refused.value)?;
-                }
-            }
-        }
+        right = right && inserts(&mut list, item);
     }
-    assert_eq!(rt; list.len(), 40);
-    Ok(())
+    assert!(rt; right && list.len() == 40);
 }

@@ -2,7 +2,7 @@
 
 use super::helpers::RtlStage;
 use std::test::Fail;
-use tests_texts::stages::first_unlike;
+use tests_texts::stages::shows_all;
 
 /// A text, the number of a function, and the text of its RTL.
 static SHOWN: [(&str, usize, &str); 8] = [
@@ -149,9 +149,5 @@ static SHOWN: [(&str, usize, &str); 8] = [
 
 #[test]
 fn texts_of_functions(rt: HostRuntime) -> Result<(), Fail> {
-    assert_eq!(rt;
-        first_unlike::<RtlStage>(rt.alloc(), SHOWN.as_slice())?,
-        None
-    );
-    Ok(())
+    shows_all::<RtlStage>(rt.alloc(), SHOWN.as_slice())
 }

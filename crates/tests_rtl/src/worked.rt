@@ -2,10 +2,9 @@
 
 use super::helpers::RtlStage;
 use std::test::Fail;
-use tests_texts::stages::first_stopped;
+use tests_texts::stages::takes_all;
 
 #[test]
 fn each_function_goes_through(rt: HostRuntime) -> Result<(), Fail> {
-    assert_eq!(rt; first_stopped::<RtlStage>(rt.alloc())?, None);
-    Ok(())
+    takes_all::<RtlStage>(rt.alloc())
 }

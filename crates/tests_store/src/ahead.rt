@@ -6,6 +6,7 @@ use cc_disk::MemoryDisk;
 use cc_journal::format;
 use std::alloc::Global;
 use std::test::Fail;
+use tests_texts::verdict::passes;
 
 // How many bytes are read ahead, from an area's begin on where it is opened.
 const AHEAD: usize = 65_536;
@@ -41,21 +42,14 @@ fn a_record_behind_what_was_read_ahead(rt: HostRuntime) -> Result<(), Fail> {
     // The second record begins `before` bytes before the end of what is read ahead, or behind it.
     for before in 0..9usize {
         let first = AHEAD - 5 - before;
-        assert!(rt;
-            are_found(rt.alloc(), &[first, 300, 0, 7])?,
-            "{before} bytes before"
-        );
-        assert!(rt;
-            are_found(rt.alloc(), &[first + 9, 0, 300])?,
-            "{before} bytes less"
-        );
+        passes(are_found(rt.alloc(), &[first, 300, 0, 7]))?;
+        passes(are_found(rt.alloc(), &[first + 9, 0, 300]))?;
     }
     Ok(())
 }
 
 #[test]
 fn bodies_longer_than_what_is_read_ahead(rt: HostRuntime) -> Result<(), Fail> {
-    assert!(rt; are_found(rt.alloc(), &[3, AHEAD, 1, 3 * AHEAD, 2])?);
-    assert!(rt; are_found(rt.alloc(), &[AHEAD - 6, 1, AHEAD - 5, 2 * AHEAD])?);
-    Ok(())
+    passes(are_found(rt.alloc(), &[3, AHEAD, 1, 3 * AHEAD, 2]))?;
+    passes(are_found(rt.alloc(), &[AHEAD - 6, 1, AHEAD - 5, 2 * AHEAD]))
 }

@@ -3,8 +3,8 @@
 use crate::helpers::{disk_of, has_bytes};
 use cc_disk::{Disk, FuseDisk, FuseMode, MemoryDisk};
 use std::alloc::Global;
-use std::process::Abort;
 use std::test::Fail;
+use tests_texts::verdict::{each_passes, passes};
 
 // Whether a crash with that choice leaves these bytes.
 fn crash_leaves(
@@ -16,29 +16,32 @@ fn crash_leaves(
     has_bytes(alloc, &mut disk.crash(alloc, choice)?, wanted)
 }
 
-#[test]
-fn a_crash_chooses_the_unsettled_bytes(rt: HostRuntime) -> Result<(), Fail> {
-    let alloc = rt.alloc();
+fn is_chosen(alloc: Global) -> Result<bool, Fail> {
     let mut disk = disk_of(alloc, &[1, 2, 3, 4, 5])?;
-    assert!(rt; disk.size() == 5);
+    if disk.size() != 5 {
+        return Ok(false);
+    }
     disk.write_at(1, &[7, 8])?;
-    assert!(rt; has_bytes(alloc, &mut disk, &[1, 7, 8, 4, 5])?);
-    // What was written is unsettled, and 0 past the choice's end.
-    assert!(rt; crash_leaves(alloc, &disk, &[9, 10], &[1, 10, 0, 4, 5])?);
+    let right = has_bytes(alloc, &mut disk, &[1, 7, 8, 4, 5])?
+        // What was written is unsettled, and 0 past the choice's end.
+        && crash_leaves(alloc, &disk, &[9, 10], &[1, 10, 0, 4, 5])?;
     disk.sync()?;
-    assert!(rt; crash_leaves(alloc, &disk, &[0xff; 5], &[1, 7, 8, 4, 5])?);
-    Ok(())
+    Ok(right && crash_leaves(alloc, &disk, &[0xff; 5], &[1, 7, 8, 4, 5])?)
 }
 
-// Two writes and a sync over a fuse that passes one call: what each answers, what the disk then has, and the failures.
-fn over_a_fuse(
-    rt: &impl Abort,
-    alloc: Global,
-    mode: FuseMode,
-) -> Result<([bool; 3], [u8; 2], u64), Fail> {
-    let disk = MemoryDisk::new(alloc, 2)?;
-    let mut fuse = FuseDisk::new(disk, 1, mode);
-    assert!(rt; fuse.size() == 2);
+#[test]
+fn a_crash_chooses_the_unsettled_bytes(rt: HostRuntime) -> Result<(), Fail> {
+    passes(is_chosen(rt.alloc()))
+}
+
+// The mode of a fuse that passes one call; what two writes and a sync answer, what the disk then has, and the failures.
+type Row = (FuseMode, [bool; 3], [u8; 2], u64);
+
+fn is_row(alloc: Global, row: &Row) -> Result<bool, Fail> {
+    let mut fuse = FuseDisk::new(MemoryDisk::new(alloc, 2)?, 1, row.0);
+    if fuse.size() != 2 {
+        return Ok(false);
+    }
     let first = fuse.write_at(0, &[1]).is_ok();
     let second = fuse.write_at(1, &[2]).is_ok();
     let third = fuse.sync().is_ok();
@@ -46,17 +49,15 @@ fn over_a_fuse(
     let mut disk = fuse.into_disk();
     let mut bytes = [0u8; 2];
     disk.read_at(0, &mut bytes)?;
-    Ok(([first, second, third], bytes, failures))
+    Ok([first, second, third] == row.1 && bytes == row.2 && failures == row.3)
 }
 
 #[test]
 fn the_modes_of_a_fuse(rt: HostRuntime) -> Result<(), Fail> {
-    for (mode, wanted) in [
-        (FuseMode::Once, ([true, false, true], [1, 0], 1)),
-        (FuseMode::Before, ([true, false, false], [1, 0], 2)),
-        (FuseMode::Within, ([true, false, false], [1, 2], 2)),
-    ] {
-        assert!(rt; over_a_fuse(&rt, rt.alloc(), mode)? == wanted, "{mode:?}");
-    }
-    Ok(())
+    let rows = [
+        (FuseMode::Once, [true, false, true], [1, 0], 1),
+        (FuseMode::Before, [true, false, false], [1, 0], 2),
+        (FuseMode::Within, [true, false, false], [1, 2], 2),
+    ];
+    each_passes(rt.alloc(), &rows, is_row)
 }

@@ -73,6 +73,19 @@ pub fn has_bytes<D: Disk>(alloc: Global, disk: &mut D, wanted: &[u8]) -> Result<
     Ok(bytes_of(alloc, disk)?.as_slice() == wanted)
 }
 
+/// Whether the disk has these bytes from these offsets on.
+pub fn has_parts<D: Disk>(
+    alloc: Global,
+    disk: &mut D,
+    parts: &[(usize, &[u8])],
+) -> Result<bool, Fail> {
+    let bytes = bytes_of(alloc, disk)?;
+    Ok(
+        parts.iter().all(|(from, wanted)| part(&bytes, *from, from.saturating_add(wanted.len()))
+            == *wanted),
+    )
+}
+
 /// Whether these are those bodies, in order.
 pub fn are_bodies(records: &[Body], wanted: &[&[u8]]) -> bool {
     if records.len() != wanted.len() {

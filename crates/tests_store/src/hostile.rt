@@ -1,15 +1,22 @@
 // Disks that nobody formatted so.
 
-use crate::helpers::{bytes_of, holds, opened, part, refusal, row_disk};
+use crate::helpers::{bytes_of, has_parts, holds, opened, part, refusal, row_disk};
 use cc_disk::{Disk, FuseDisk, FuseMode};
 use cc_journal::Journal;
 use std::alloc::Global;
 use std::test::Fail;
+use tests_texts::verdict::{each_passes, passes};
+
+// Bytes of the row's disk that are changed, and the number of the refusal, or 0.
+type Row = (&'static [(usize, u8)], u32);
+
+fn is_refused(alloc: Global, row: &Row) -> Result<bool, Fail> {
+    Ok(refusal(alloc, row_disk(alloc, row.0)?) == row.1)
+}
 
 #[test]
 fn each_change_of_the_row(rt: HostRuntime) -> Result<(), Fail> {
-    let alloc = rt.alloc();
-    let table: [(&[(usize, u8)], u32); 13] = [
+    let table: [Row; 13] = [
         (&[], 0),
         // The name, the reserved bytes, an area below 64, an area that does not fit.
         (&[(1, 0x44)], 38),
@@ -27,61 +34,55 @@ fn each_change_of_the_row(rt: HostRuntime) -> Result<(), Fail> {
         // An open gate with too few bytes after it for a length.
         (&[(17, 0x36), (75, 0xa5)], 37),
     ];
-    for (i, (changes, number)) in table.iter().enumerate() {
-        assert!(rt;
-            refusal(alloc, row_disk(alloc, changes)?) == *number,
-            "row {i}"
-        );
-    }
-    Ok(())
+    each_passes(rt.alloc(), &table, is_refused)
+}
+
+fn is_longest(alloc: Global) -> Result<bool, Fail> {
+    let mut disk = row_disk(alloc, &[(17, 0x3a)])?;
+    let bytes = bytes_of(alloc, &mut disk)?;
+    let body = part(&bytes, 21, 79);
+    Ok(body.len() == 58 && holds(alloc, disk, &[body]))
 }
 
 #[test]
 fn the_longest_body_is_there_at_once(rt: HostRuntime) -> Result<(), Fail> {
-    let alloc = rt.alloc();
-    let mut disk = row_disk(alloc, &[(17, 0x3a)])?;
-    let bytes = bytes_of(alloc, &mut disk)?;
-    let body = part(&bytes, 21, 79);
-    assert!(rt; body.len() == 58);
-    assert!(rt; holds(alloc, disk, &[body]));
-    Ok(())
+    passes(is_longest(rt.alloc()))
+}
+
+// Whether the row's disk has its record with this gate alone where that is open.
+fn has_gate(alloc: Global, gate: u8) -> Result<bool, Fail> {
+    let disk = row_disk(alloc, &[(16, gate)])?;
+    if gate == 0xa5 {
+        Ok(holds(alloc, disk, &[&[1, 3, 1, 0x61]]))
+    } else {
+        Ok(holds(alloc, disk, &[]))
+    }
 }
 
 #[test]
 fn each_value_of_the_first_gate(rt: HostRuntime) -> Result<(), Fail> {
-    let alloc = rt.alloc();
     for gate in 0..=255u8 {
-        let disk = row_disk(alloc, &[(16, gate)])?;
-        let right = if gate == 0xa5 {
-            holds(alloc, disk, &[&[1, 3, 1, 0x61]])
-        } else {
-            holds(alloc, disk, &[])
-        };
-        assert!(rt; right, "gate {gate}");
+        passes(has_gate(rt.alloc(), gate))?;
     }
     Ok(())
 }
 
-// The bytes of the row's disk with that area byte, once a record with the body 77 was added.
-fn added_to(alloc: Global, area_byte: u8) -> Result<Vec<u8>, Fail> {
+// Whether a record with the body 77 goes after the first record of area A, or to the start of area B, by that area byte.
+fn is_added(alloc: Global, area_byte: u8) -> Result<bool, Fail> {
     let mut journal = opened(alloc, row_disk(alloc, &[(0, area_byte)])?)?;
     journal.append(alloc, &[0x77])?;
-    bytes_of(alloc, &mut journal.into_disk())
+    let start = if area_byte % 2 == 0 { 25 } else { 80 };
+    has_parts(
+        alloc,
+        &mut journal.into_disk(),
+        &[(start, &[0xa5, 1, 0, 0, 0, 0x77]), (0, &[area_byte])],
+    )
 }
 
 #[test]
 fn each_value_of_the_area_byte(rt: HostRuntime) -> Result<(), Fail> {
-    let alloc = rt.alloc();
     for area_byte in 0..=255u8 {
-        let bytes = added_to(alloc, area_byte)?;
-        // The record goes after the first record of area A, or to the start of area B.
-        let start = if area_byte % 2 == 0 { 25 } else { 80 };
-        let record = part(&bytes, start, start + 6);
-        assert!(rt;
-            record == [0xa5, 1, 0, 0, 0, 0x77].as_slice()
-                && part(&bytes, 0, 1) == [area_byte].as_slice(),
-            "area byte {area_byte}"
-        );
+        passes(is_added(rt.alloc(), area_byte))?;
     }
     Ok(())
 }
@@ -89,23 +90,31 @@ fn each_value_of_the_area_byte(rt: HostRuntime) -> Result<(), Fail> {
 // Opening settles what was written before, as it is, without a sync.
 #[test]
 fn opening_settles_what_was_written(rt: HostRuntime) -> Result<(), Fail> {
-    let alloc = rt.alloc();
+    passes(is_settled(rt.alloc()))
+}
+
+fn is_settled(alloc: Global) -> Result<bool, Fail> {
     let mut disk = row_disk(alloc, &[])?;
     let bytes = bytes_of(alloc, &mut disk)?;
-    assert!(rt; bytes.len() <= disk.size());
+    if bytes.len() > disk.size() {
+        return Ok(false);
+    }
     disk.write_at(0, &bytes)?;
     let disk = opened(alloc, disk)?.into_disk();
-    assert!(rt; holds(alloc, disk.crash(alloc, &[])?, &[&[1, 3, 1, 0x61]]));
-    Ok(())
+    Ok(holds(alloc, disk.crash(alloc, &[])?, &[&[1, 3, 1, 0x61]]))
+}
+
+fn is_handed_back(alloc: Global) -> Result<bool, Fail> {
+    let fuse = FuseDisk::new(row_disk(alloc, &[])?, 0, FuseMode::Once);
+    match Journal::open(alloc, fuse) {
+        Ok(_) => Ok(false),
+        Err((fault, fuse)) => {
+            Ok(fault.number() == 35 && holds(alloc, fuse, &[&[1, 3, 1, 0x61]]))
+        }
+    }
 }
 
 #[test]
 fn a_failure_hands_the_disk_back(rt: HostRuntime) -> Result<(), Fail> {
-    let alloc = rt.alloc();
-    let fuse = FuseDisk::new(row_disk(alloc, &[])?, 0, FuseMode::Once);
-    let Err((fault, fuse)) = Journal::open(alloc, fuse) else {
-        panic!(rt; "opened");
-    };
-    assert!(rt; fault.number() == 35 && holds(alloc, fuse, &[&[1, 3, 1, 0x61]]));
-    Ok(())
+    passes(is_handed_back(rt.alloc()))
 }

@@ -5,6 +5,7 @@ use crate::sparse::SparseDisk;
 use cc_journal::format;
 use std::alloc::Global;
 use std::test::Fail;
+use tests_texts::verdict::{each_passes, passes};
 
 const AREA: usize = 1_073_741_824;
 
@@ -24,45 +25,43 @@ fn beginning(alloc: Global, bytes: &[u8], size: usize) -> Result<SparseDisk, Fai
     Ok(SparseDisk::new(kept, size))
 }
 
-// The number of the fault with which `format` refuses an area on a disk of that size, or 0.
-fn format_number(alloc: Global, size: usize, area: u32) -> Result<u32, Fail> {
-    match format(&mut beginning(alloc, &[], size)?, area) {
-        Ok(()) => Ok(0),
-        Err(fault) => Ok(fault.number()),
+// The size of a disk and of its areas, and the number of the fault with which `format` refuses it, or 0.
+type Limit = (usize, u32, u32);
+
+fn is_limit(alloc: Global, row: &Limit) -> Result<bool, Fail> {
+    match format(&mut beginning(alloc, &[], row.0)?, row.1) {
+        Ok(()) => Ok(row.2 == 0),
+        Err(fault) => Ok(fault.number() == row.2),
     }
 }
 
 #[test]
 fn the_limits_of_an_area(rt: HostRuntime) -> Result<(), Fail> {
-    for (size, area, number) in [
-        (144usize, 63u32, 34),
+    let rows = [
+        (144, 63, 34),
         (144, 64, 0),
         (144, 65, 34),
         (143, 64, 34),
         (SIZE, 1_073_741_824, 0),
         (SIZE - 1, 1_073_741_824, 34),
         (8_589_934_592, 1_073_741_825, 34),
-    ] {
-        assert!(rt;
-            format_number(rt.alloc(), size, area)? == number,
-            "{size} bytes, areas of {area}"
-        );
-    }
-    Ok(())
+    ];
+    each_passes(rt.alloc(), &rows, is_limit)
 }
 
 #[test]
 fn its_header(rt: HostRuntime) -> Result<(), Fail> {
     let mut disk = beginning(rt.alloc(), &[9; 16], SIZE)?;
     format(&mut disk, 1_073_741_824)?;
-    for ((_, byte), wanted) in disk.kept().iter().zip(&HEADER) {
-        assert!(rt; byte == wanted);
-    }
-    Ok(())
+    let mut pairs = disk.kept().iter().zip(&HEADER);
+    passes(Ok(pairs.all(|((_, byte), wanted)| byte == wanted)))
 }
 
-// The number of the fault with which a disk is refused whose area begins with an open record of that length, or 0.
-fn number_of(alloc: Global, area_byte: u8, length: u32) -> Result<u32, Fail> {
+// The area byte of a disk, the length of the open record with which its area begins, and the number of the refusal, or 0.
+type Edge = (u8, u32, u32);
+
+fn is_edge(alloc: Global, row: &Edge) -> Result<bool, Fail> {
+    let (area_byte, length, number) = *row;
     let start = if area_byte == 0 { 16 } else { 16 + AREA };
     let [a, b, c, d] = length.to_le_bytes();
     let mut kept = Vec::new(alloc);
@@ -73,24 +72,19 @@ fn number_of(alloc: Global, area_byte: u8, length: u32) -> Result<u32, Fail> {
     for (i, byte) in [0xa5, a, b, c, d].iter().enumerate() {
         kept.push((start.saturating_add(i), *byte))?;
     }
-    Ok(refusal(alloc, SparseDisk::new(kept, SIZE)))
+    Ok(refusal(alloc, SparseDisk::new(kept, SIZE)) == number)
 }
 
 #[test]
 fn the_edges_of_its_records(rt: HostRuntime) -> Result<(), Fail> {
-    for (area_byte, length, number) in [
-        (0u8, 1_073_741_819u32, 37),
+    let rows = [
+        (0, 1_073_741_819, 37),
         (0, u32::MAX, 37),
         // The record and the closed gate fit: a body of a gigabyte, in memory too. One byte more does not.
         (1, 1_073_741_818, 0),
         (1, 1_073_741_819, 37),
         (1, 1_073_741_824, 37),
         (1, u32::MAX, 37),
-    ] {
-        assert!(rt;
-            number_of(rt.alloc(), area_byte, length)? == number,
-            "{length} bytes, area byte {area_byte}"
-        );
-    }
-    Ok(())
+    ];
+    each_passes(rt.alloc(), &rows, is_edge)
 }

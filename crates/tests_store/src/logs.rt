@@ -1,10 +1,25 @@
 // The calls of a log, which keeps no body: each hands them over instead.
 
-use crate::helpers::{ROW, SIZE, are_bodies, bytes_of, formatted, has_bytes, one_body, part};
+use crate::helpers::{ROW, SIZE, are_bodies, bytes_of, formatted, has_bytes, has_parts, one_body};
 use cc_disk::{Disk, FuseDisk, FuseMode, MemoryDisk};
-use cc_journal::{Body, JournalFault, Log};
+use cc_journal::{Body, Log};
 use std::alloc::Global;
 use std::test::Fail;
+use tests_texts::verdict::{each_passes, passes};
+
+// The body of the worked row.
+const ROW_BODY: [u8; 4] = [1, 3, 1, 0x61];
+
+// What is done to a log, and the number that it has to be answered, 0 for Ok.
+#[derive(Clone, Copy)]
+enum Step {
+    // The body of the row is added, alone, or with what stands around it in its record.
+    Row { is_framed: bool },
+    // A body of so many bytes of this value is added.
+    Append(u8, usize, u32),
+    // All is written anew as one body, of so many bytes 1.
+    Rewrite(usize, u32),
+}
 
 // The log on a disk, which has records with these bodies.
 fn opened<D: Disk + Drop>(alloc: Global, disk: D, wanted: &[&[u8]]) -> Result<Log<D>, Fail> {
@@ -19,118 +34,174 @@ fn opened<D: Disk + Drop>(alloc: Global, disk: D, wanted: &[&[u8]]) -> Result<Lo
     }
 }
 
-fn body(alloc: Global, bytes: &[u8]) -> Result<Body, Fail> {
-    Ok(Body::new(Vec::from_slice(alloc, bytes)?))
-}
-
-// The body 01 03 01 61 with what stands around it in its record.
+// The body of the row with what stands around it in its record.
 fn framed(alloc: Global) -> Result<Body, Fail> {
     Ok(Body::from_framed(vec![in alloc; 4u8, 0, 0, 0, 1, 3, 1, 0x61, 0]?))
 }
 
-// The number of the refusal, or 0 where these bytes were handed back.
-fn number(answer: Result<Body, JournalFault>, wanted: &[u8]) -> Result<u32, Fail> {
-    match answer {
-        Ok(kept) => {
-            if kept.as_slice() != wanted {
-                return Err(Fail::from("another body was handed back"));
-            }
-            Ok(0)
+// Whether adding the bytes, which the body has, is answered with this number, and they are handed back where they were added.
+fn appends<D: Disk>(
+    alloc: Global,
+    log: &mut Log<D>,
+    body: Body,
+    bytes: &[u8],
+    number: u32,
+) -> bool {
+    match log.append(alloc, body) {
+        Ok(kept) => number == 0 && kept.as_slice() == bytes,
+        Err(fault) => fault.number() == number,
+    }
+}
+
+// Whether writing all anew as a body of so many bytes 1 is answered with this number, and that body is handed over.
+fn rewrites<D: Disk>(
+    alloc: Global,
+    log: &mut Log<D>,
+    count: usize,
+    number: u32,
+) -> Result<bool, Fail> {
+    let bytes = vec![in alloc; 1u8; count]?;
+    match log.rewrite(alloc, one_body(alloc, &bytes)?) {
+        Ok(handed) => Ok(number == 0 && are_bodies(&handed, &[&bytes])),
+        Err(fault) => Ok(fault.number() == number),
+    }
+}
+
+// Whether a step is answered as it has to be.
+fn is_done<D: Disk>(alloc: Global, log: &mut Log<D>, step: Step) -> Result<bool, Fail> {
+    match step {
+        Step::Row { is_framed: true } => Ok(appends(alloc, log, framed(alloc)?, &ROW_BODY, 0)),
+        Step::Row { is_framed: false } => appends_bytes(alloc, log, &ROW_BODY, 0),
+        Step::Append(byte, count, number) => {
+            appends_bytes(alloc, log, &vec![in alloc; byte; count]?, number)
         }
-        Err(fault) => Ok(fault.number()),
+        Step::Rewrite(count, number) => rewrites(alloc, log, count, number),
+    }
+}
+
+fn appends_bytes<D: Disk>(
+    alloc: Global,
+    log: &mut Log<D>,
+    bytes: &[u8],
+    number: u32,
+) -> Result<bool, Fail> {
+    let body = Body::new(Vec::from_slice(alloc, bytes)?);
+    Ok(appends(alloc, log, body, bytes, number))
+}
+
+// The disk, whose log has records with these bodies, once these steps were answered as they have to be. None closes the log.
+fn played(
+    alloc: Global,
+    disk: MemoryDisk,
+    held: &[&[u8]],
+    steps: &[Step],
+) -> Result<MemoryDisk, Fail> {
+    let mut log = opened(alloc, disk, held)?;
+    let mut right = true;
+    for step in steps {
+        right = right && is_done(alloc, &mut log, *step)? && !log.is_closed();
+    }
+    if right {
+        Ok(log.into_disk())
+    } else {
+        Err(Fail::from("a step was answered otherwise"))
     }
 }
 
 #[test]
 fn a_framed_body(rt: HostRuntime) -> Result<(), Fail> {
-    let alloc = rt.alloc();
-    let body = framed(alloc)?;
-    assert!(rt; body.as_slice() == [1, 3, 1, 0x61].as_slice());
-    assert!(rt; body.into_vec().as_slice() == [1, 3, 1, 0x61].as_slice());
-    Ok(())
+    let body = framed(rt.alloc())?;
+    let right = body.as_slice() == ROW_BODY.as_slice();
+    passes(Ok(right && body.into_vec().as_slice() == ROW_BODY.as_slice()))
+}
+
+// Whether a log on this disk has records with these bodies.
+fn has_records(alloc: Global, disk: MemoryDisk, wanted: &[&[u8]]) -> bool {
+    match Log::open(alloc, disk) {
+        Ok((_, bodies)) => are_bodies(&bodies, wanted),
+        Err(_) => false,
+    }
+}
+
+// A second body of 50 bytes would need 55 where 54 are left, with its gate.
+const SECOND: [Step; 2] = [Step::Append(2, 50, 34), Step::Append(2, 49, 0)];
+
+// Whether the row comes of its body, and a second body then has the room that it should.
+fn writes_the_row(alloc: Global, is_framed: &bool) -> Result<bool, Fail> {
+    let step = Step::Row {
+        is_framed: *is_framed,
+    };
+    let mut disk = played(alloc, formatted(alloc)?, &[], &[step])?;
+    let right = disk.size() == SIZE && has_parts(alloc, &mut disk, &[(0, &ROW)])?;
+    let disk = played(alloc, disk, &[&ROW_BODY], &SECOND)?;
+    Ok(right && has_records(alloc, disk, &[&ROW_BODY, &[2; 49]]))
 }
 
 #[test]
 fn a_log_writes_the_row(rt: HostRuntime) -> Result<(), Fail> {
-    let alloc = rt.alloc();
-    for is_framed in [false, true] {
-        let mut log = opened(alloc, formatted(alloc)?, &[])?;
-        let added = if is_framed {
-            framed(alloc)?
-        } else {
-            body(alloc, &[1, 3, 1, 0x61])?
-        };
-        assert!(rt; number(log.append(alloc, added), &[1, 3, 1, 0x61])? == 0);
-        assert!(rt; !log.is_closed());
-        let mut disk = log.into_disk();
-        let bytes = bytes_of(alloc, &mut disk)?;
-        assert!(rt; part(&bytes, 0, 26) == ROW.as_slice() && bytes.len() == SIZE);
-        let mut log = opened(alloc, disk, &[&[1, 3, 1, 0x61]])?;
-        // A second one of 53 bytes would need 58 where 54 are left, with its gate.
-        assert!(rt; number(log.append(alloc, body(alloc, &[2; 50])?), &[])? == 34);
-        assert!(rt; number(log.append(alloc, body(alloc, &[2; 49])?), &[2; 49])? == 0);
-        drop(opened(alloc, log.into_disk(), &[&[1, 3, 1, 0x61], &[2; 49]])?);
-    }
-    Ok(())
+    each_passes(rt.alloc(), &[false, true], writes_the_row)
+}
+
+// Whether a body that is too long leaves an empty log as it was.
+fn leaves_all(alloc: Global, count: usize) -> Result<bool, Fail> {
+    let before = bytes_of(alloc, &mut formatted(alloc)?)?;
+    let mut disk = played(alloc, formatted(alloc)?, &[], &[Step::Append(7, count, 34)])?;
+    has_bytes(alloc, &mut disk, &before)
+}
+
+fn is_longest(alloc: Global, count: usize) -> Result<bool, Fail> {
+    let steps = [Step::Append(7, count, 0), Step::Append(0, 0, 34)];
+    let disk = played(alloc, formatted(alloc)?, &[], &steps)?;
+    Ok(has_records(alloc, disk, &[&[7; 58]]) && leaves_all(alloc, count.saturating_add(1))?)
 }
 
 #[test]
 fn the_longest_body_of_a_log(rt: HostRuntime) -> Result<(), Fail> {
-    let alloc = rt.alloc();
-    let before = bytes_of(alloc, &mut formatted(alloc)?)?;
-    let mut log = opened(alloc, formatted(alloc)?, &[])?;
-    assert!(rt; number(log.append(alloc, body(alloc, &[7; 59])?), &[])? == 34);
-    assert!(rt; has_bytes(alloc, &mut log.into_disk(), &before)?);
-    let mut log = opened(alloc, formatted(alloc)?, &[])?;
-    assert!(rt; number(log.append(alloc, body(alloc, &[7; 58])?), &[7; 58])? == 0);
-    assert!(rt; number(log.append(alloc, body(alloc, &[])?), &[])? == 34);
-    drop(opened(alloc, log.into_disk(), &[&[7; 58]])?);
-    Ok(())
+    passes(is_longest(rt.alloc(), 58))
+}
+
+fn is_written_anew(alloc: Global) -> Result<bool, Fail> {
+    let steps = [
+        Step::Append(7, 58, 0),
+        Step::Rewrite(59, 34),
+        Step::Rewrite(0, 0),
+        Step::Append(1, 54, 34),
+    ];
+    let mut disk = played(alloc, formatted(alloc)?, &[], &steps)?;
+    // Area B counts: an open gate, a body without a byte, a closed gate.
+    let right = has_parts(alloc, &mut disk, &[(0, &[1]), (80, &[0xa5, 0, 0, 0, 0, 0])])?;
+    let disk = played(alloc, disk, &[&[]], &[Step::Append(1, 53, 0)])?;
+    Ok(right && has_records(alloc, disk, &[&[], &[1; 53]]))
 }
 
 #[test]
 fn a_log_written_anew(rt: HostRuntime) -> Result<(), Fail> {
-    let alloc = rt.alloc();
-    let mut log = opened(alloc, formatted(alloc)?, &[])?;
-    assert!(rt; number(log.append(alloc, body(alloc, &[7; 58])?), &[7; 58])? == 0);
-    assert!(rt; log.rewrite(alloc, one_body(alloc, &[1; 59])?).is_err());
-    let handed = log.rewrite(alloc, one_body(alloc, &[])?)?;
-    assert!(rt; are_bodies(&handed, &[&[]]));
-    assert!(rt; number(log.append(alloc, body(alloc, &[1; 54])?), &[])? == 34);
-    let mut disk = log.into_disk();
-    let bytes = bytes_of(alloc, &mut disk)?;
-    assert!(rt; part(&bytes, 0, 1) == [1].as_slice());
-    assert!(rt; part(&bytes, 80, 86) == [0xa5, 0, 0, 0, 0, 0].as_slice());
-    let mut log = opened(alloc, disk, &[&[]])?;
-    assert!(rt; number(log.append(alloc, body(alloc, &[1; 53])?), &[1; 53])? == 0);
-    drop(opened(alloc, log.into_disk(), &[&[], &[1; 53]])?);
-    Ok(())
+    passes(is_written_anew(rt.alloc()))
 }
 
-// What the disk of an opened log fails at: the call after this many. Opening makes three.
+// A log of which the disk fails at the call after this many. Opening makes three.
 fn closed_after(alloc: Global, passes: u64) -> Result<Log<FuseDisk<MemoryDisk>>, Fail> {
     let fuse = FuseDisk::new(formatted(alloc)?, passes, FuseMode::Once);
     let mut log = opened(alloc, fuse, &[])?;
-    if number(log.append(alloc, body(alloc, &[1])?), &[])? != 35 {
-        return Err(Fail::from("no 35"));
+    if is_done(alloc, &mut log, Step::Append(1, 1, 35))? && log.is_closed() {
+        Ok(log)
+    } else {
+        Err(Fail::from("no 35"))
     }
-    Ok(log)
+}
+
+// Whether a log that is closed at such a call answers 36, and its disk has the same bytes after that.
+fn stays_closed(alloc: Global, passes: &u64) -> Result<bool, Fail> {
+    let before = bytes_of(alloc, &mut closed_after(alloc, *passes)?.into_disk())?;
+    let mut log = closed_after(alloc, *passes)?;
+    let rewritten = log
+        .rewrite(alloc, Vec::new(alloc))
+        .is_err_and(|fault| fault.number() == 36);
+    let appended = is_done(alloc, &mut log, Step::Append(1, 1, 36))?;
+    Ok(appended && rewritten && has_bytes(alloc, &mut log.into_disk(), &before)?)
 }
 
 #[test]
 fn a_log_is_closed_after_a_failure(rt: HostRuntime) -> Result<(), Fail> {
-    let alloc = rt.alloc();
-    for passes in 3..7u64 {
-        let mut log = closed_after(alloc, passes)?;
-        assert!(rt; log.is_closed());
-        let before = bytes_of(alloc, &mut log.into_disk())?;
-        let mut log = closed_after(alloc, passes)?;
-        assert!(rt; number(log.append(alloc, body(alloc, &[1])?), &[])? == 36);
-        assert!(rt;
-            log.rewrite(alloc, Vec::new(alloc))
-                .is_err_and(|fault| fault.number() == 36)
-        );
-        assert!(rt; has_bytes(alloc, &mut log.into_disk(), &before)?);
-    }
-    Ok(())
+    each_passes(rt.alloc(), &[3, 4, 5, 6], stays_closed)
 }

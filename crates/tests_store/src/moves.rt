@@ -4,6 +4,7 @@ use crate::helpers::{formatted, holds, number, one_body, opened};
 use cc_disk::{Disk, FuseDisk, FuseMode, MemoryDisk};
 use std::alloc::Global;
 use std::test::Fail;
+use tests_texts::verdict::{each_passes, passes};
 
 // The calls of opening a journal with one record: a sync, the header, the records, which are read ahead.
 const OPENING: u64 = 3;
@@ -60,19 +61,30 @@ fn is_right(alloc: Global, disk: &MemoryDisk, done: bool) -> Result<bool, Fail> 
     Ok(true)
 }
 
+// Whether a rewrite is right whose device calls meet the fuse once this many have passed, in this mode.
+fn survives(alloc: Global, moved: bool, calls: u64, mode: FuseMode) -> Result<bool, Fail> {
+    let (disk, done, quiet) = rewritten(alloc, moved, calls, mode)?;
+    Ok(quiet && done == (calls == 4) && is_right(alloc, &disk, done)?)
+}
+
+// The same out of either area.
+fn survives_in_each(alloc: Global, row: &(u64, FuseMode)) -> Result<bool, Fail> {
+    Ok(survives(alloc, false, row.0, row.1)? && survives(alloc, true, row.0, row.1)?)
+}
+
 #[test]
 fn every_failure_of_a_rewrite(rt: HostRuntime) -> Result<(), Fail> {
-    let alloc = rt.alloc();
-    for moved in [false, true] {
-        for passes in 0..5u64 {
-            for mode in [FuseMode::Once, FuseMode::Before, FuseMode::Within] {
-                let (disk, done, quiet) = rewritten(alloc, moved, passes, mode)?;
-                let right = quiet && done == (passes == 4) && is_right(alloc, &disk, done)?;
-                assert!(rt; right, "{passes} calls, {mode:?}, moved {moved}");
-            }
-        }
+    for mode in [FuseMode::Once, FuseMode::Before, FuseMode::Within] {
+        let rows = [(0, mode), (1, mode), (2, mode), (3, mode), (4, mode)];
+        each_passes(rt.alloc(), &rows, survives_in_each)?;
     }
     Ok(())
+}
+
+// Whether a crash that leaves this area byte leaves the record of its area.
+fn is_torn(alloc: Global, disk: &MemoryDisk, byte: u8) -> Result<bool, Fail> {
+    let wanted: &[u8] = if byte % 2 == 0 { &OLD } else { &NEW };
+    Ok(holds(alloc, disk.crash(alloc, &[byte])?, &[wanted]))
 }
 
 #[test]
@@ -80,11 +92,7 @@ fn each_value_of_a_torn_area_byte(rt: HostRuntime) -> Result<(), Fail> {
     let alloc = rt.alloc();
     let (disk, _, _) = rewritten(alloc, false, 2, FuseMode::Within)?;
     for byte in 0..=255u8 {
-        let wanted: &[u8] = if byte % 2 == 0 { &OLD } else { &NEW };
-        assert!(rt;
-            holds(alloc, disk.crash(alloc, &[byte])?, &[wanted]),
-            "area byte {byte}"
-        );
+        passes(is_torn(alloc, &disk, byte))?;
     }
     Ok(())
 }

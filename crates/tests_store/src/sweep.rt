@@ -5,6 +5,7 @@ use cc_disk::{FuseDisk, FuseMode, MemoryDisk};
 use cc_journal::{Journal, format};
 use std::alloc::Global;
 use std::test::Fail;
+use tests_texts::verdict::passes;
 
 // Two calls of `format`, three of `open`, four of each `append`.
 const CALLS: u64 = 13;
@@ -74,12 +75,9 @@ fn survives(alloc: Global, passes: u64, mode: FuseMode) -> Result<bool, Fail> {
 
 #[test]
 fn every_failure_and_a_crash(rt: HostRuntime) -> Result<(), Fail> {
-    for passes in 0..16u64 {
+    for calls in 0..16u64 {
         for mode in [FuseMode::Once, FuseMode::Before, FuseMode::Within] {
-            assert!(rt;
-                survives(rt.alloc(), passes, mode)?,
-                "{passes} calls, {mode:?}"
-            );
+            passes(survives(rt.alloc(), calls, mode))?;
         }
     }
     Ok(())

@@ -34,6 +34,24 @@ fn shows<S: Stage>(alloc: Global, text: &str, function: usize, lines: &str) -> R
 /// A text, the number of a function, and the lines that it comes to.
 pub type Shown = (&'static str, usize, &'static str);
 
+/// Ok where each function of the worked programs goes through.
+pub fn takes_all<S: Stage>(alloc: Global) -> Result<(), Fail> {
+    match first_stopped::<S>(alloc)? {
+        None => Ok(()),
+        Some(text) => Err(Fail::new(format_args!("a function does not go through: {text}"))),
+    }
+}
+
+/// Ok where each of these comes to its lines.
+pub fn shows_all<S: Stage>(alloc: Global, wanted: &[Shown]) -> Result<(), Fail> {
+    match first_unlike::<S>(alloc, wanted)? {
+        None => Ok(()),
+        Some((text, function)) => Err(Fail::new(format_args!(
+            "function {function} comes to other lines: {text}"
+        ))),
+    }
+}
+
 /// The first of these that comes to other lines: its text and the function.
 pub fn first_unlike<S: Stage>(
     alloc: Global,

@@ -11,6 +11,7 @@ use cc_validate::validate;
 use std::alloc::Global;
 use std::sync::Arc;
 use std::test::Fail;
+use tests_texts::verdict::passes;
 use tests_texts::worked::LONG;
 
 // The operation with two operands, its operands exchanged, and its place.
@@ -59,9 +60,7 @@ fn difference_is_guarded(alloc: Global) -> Result<bool, Fail> {
 
 #[test]
 fn exchanged_operands_are_refused(rt: HostRuntime) -> Result<(), Fail> {
-    let right = difference_is_guarded(rt.alloc())?;
-    assert!(rt; right);
-    Ok(())
+    passes(difference_is_guarded(rt.alloc()))
 }
 
 // Bytes are no function, or one that is refused, or one that is right: the RTL to ask with again. None where they are answered otherwise.
@@ -161,45 +160,33 @@ fn are_prefixes_refused(alloc: Global, text: &str, function: usize) -> Result<bo
 
 #[test]
 fn prefixes_are_no_functions(rt: HostRuntime) -> Result<(), Fail> {
-    let smallest = are_prefixes_refused(rt.alloc(), EMPTY, 0)?;
-    let identity = are_prefixes_refused(rt.alloc(), LONG, 0)?;
-    let long = are_prefixes_refused(rt.alloc(), LONG, 1)?;
-    assert!(rt; smallest && identity && long);
-    Ok(())
+    passes(are_prefixes_refused(rt.alloc(), EMPTY, 0))?;
+    passes(are_prefixes_refused(rt.alloc(), LONG, 0))?;
+    passes(are_prefixes_refused(rt.alloc(), LONG, 1))
 }
 
 #[test]
 fn bytes_of_small_functions_with_one_changed_are_answered(rt: HostRuntime) -> Result<(), Fail> {
-    let smallest = are_answered(rt.alloc(), EMPTY, 0, 0, 1)?;
-    let identity = are_answered(rt.alloc(), LONG, 0, 0, 1)?;
-    assert!(rt; smallest && identity);
-    Ok(())
+    passes(are_answered(rt.alloc(), EMPTY, 0, 0, 1))?;
+    passes(are_answered(rt.alloc(), LONG, 0, 0, 1))
 }
 
 #[test]
 fn each_first_byte_of_four_of_a_long_function_is_answered(rt: HostRuntime) -> Result<(), Fail> {
-    let right = are_answered(rt.alloc(), LONG, 1, 0, 4)?;
-    assert!(rt; right);
-    Ok(())
+    passes(are_answered(rt.alloc(), LONG, 1, 0, 4))
 }
 
 #[test]
 fn each_second_byte_of_four_of_a_long_function_is_answered(rt: HostRuntime) -> Result<(), Fail> {
-    let right = are_answered(rt.alloc(), LONG, 1, 1, 4)?;
-    assert!(rt; right);
-    Ok(())
+    passes(are_answered(rt.alloc(), LONG, 1, 1, 4))
 }
 
 #[test]
 fn each_third_byte_of_four_of_a_long_function_is_answered(rt: HostRuntime) -> Result<(), Fail> {
-    let right = are_answered(rt.alloc(), LONG, 1, 2, 4)?;
-    assert!(rt; right);
-    Ok(())
+    passes(are_answered(rt.alloc(), LONG, 1, 2, 4))
 }
 
 #[test]
 fn each_fourth_byte_of_four_of_a_long_function_is_answered(rt: HostRuntime) -> Result<(), Fail> {
-    let right = are_answered(rt.alloc(), LONG, 1, 3, 4)?;
-    assert!(rt; right);
-    Ok(())
+    passes(are_answered(rt.alloc(), LONG, 1, 3, 4))
 }

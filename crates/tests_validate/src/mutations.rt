@@ -4,7 +4,7 @@ use super::changes::{Change, changed, changed_moves, changed_operation, operatio
 use super::graph::run_graph;
 use super::located::run_located;
 use super::pairs::{pair_of, program_of, unit_of};
-use super::texts::FUNCTIONS;
+use super::texts::{FUNCTIONS, Function};
 use super::world::{Stop, World};
 use cc_colour::spill_all;
 use cc_ltl::{Block, Ltl, Move, Operation};
@@ -14,6 +14,7 @@ use cc_validate::validate;
 use std::alloc::{AllocError, Global};
 use std::sync::Arc;
 use std::test::Fail;
+use tests_texts::verdict::each_passes;
 
 // Two runs on the same input, of RTL and of LTL with these unknown words, stop alike and leave the same. Where the RTL goes wrong
 // nothing is owed.
@@ -201,29 +202,24 @@ fn spilled_is_right(alloc: Global, subject: &mut Subject) -> Result<bool, Fail> 
     Ok(right && subject.counts.refused == 0)
 }
 
+fn is_right_at_first(alloc: Global, row: &Function) -> Result<bool, Fail> {
+    let mut held = subject_of(alloc, row.0, row.1, row.2)?;
+    spilled_is_right(alloc, &mut held)
+}
+
 #[test]
 fn allocations_that_spill_all_are_right(rt: HostRuntime) -> Result<(), Fail> {
-    for (index, (text, function, words)) in FUNCTIONS.iter().enumerate() {
-        let mut held = subject_of(rt.alloc(), text, *function, *words)?;
-        let right = spilled_is_right(rt.alloc(), &mut held)?;
-        drop(held);
-        assert!(rt; right, "function {index}");
-    }
-    Ok(())
+    each_passes(rt.alloc(), FUNCTIONS.as_slice(), is_right_at_first)
+}
+
+// Some change of each function is refused.
+fn is_guarded(alloc: Global, row: &Function) -> Result<bool, Fail> {
+    let mut held = subject_of(alloc, row.0, row.1, row.2)?;
+    let right = held.is_guarded(alloc)?;
+    Ok(right && held.counts.refused > 0)
 }
 
 #[test]
 fn every_change_is_refused_or_harmless(rt: HostRuntime) -> Result<(), Fail> {
-    for (index, (text, function, words)) in FUNCTIONS.iter().enumerate() {
-        let mut held = subject_of(rt.alloc(), text, *function, *words)?;
-        let right = held.is_guarded(rt.alloc())?;
-        let counts = held.counts;
-        drop(held);
-        assert!(rt; right, "function {index}");
-        assert!(rt;
-            counts.refused > 0,
-            "no change of function {index} is refused"
-        );
-    }
-    Ok(())
+    each_passes(rt.alloc(), FUNCTIONS.as_slice(), is_guarded)
 }

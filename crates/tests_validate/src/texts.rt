@@ -1,8 +1,11 @@
-// Functions of worked programs: the text, the number of the function, how many words the object has.
+// Functions of worked programs.
 
 use tests_texts::worked::LONG;
 
-pub static FUNCTIONS: [(&str, u32, u32); 17] = [
+/// A text, the number of the function, how many words the object has.
+pub type Function = (&'static str, u32, u32);
+
+pub static FUNCTIONS: [Function; 17] = [
     ("int main(void){}", 0, 0),
     (
         "int main(void){write_word(-7/2);write_word(-7%2);return 0;}",

@@ -7,6 +7,7 @@ use cc_ltl::{Ltl, Move, Register, Slot};
 use cc_validate::validate;
 use std::alloc::Global;
 use std::test::Fail;
+use tests_texts::verdict::each_passes;
 
 static TEXT: &str = "int f(int a,int b,int c){return (a-b)/c;}int main(void){}";
 
@@ -71,8 +72,9 @@ fn entry_place(ltl: &Ltl) -> usize {
     ltl.blocks().len()
 }
 
-// What the validator says where the parameters get to their slots so: a fault's number, or 0.
-fn answer(alloc: Global, shift: u16, turns: u32) -> Result<u32, Fail> {
+// Whether the validator accepts parameters that get to their slots so where the turns lead back, and else refuses them with 24.
+fn is_answered(alloc: Global, turns: u32, shift: u16) -> Result<bool, Fail> {
+    let wanted = if turns % 3 == u32::from(shift) { 0 } else { 24 };
     let unit = unit_of(alloc, TEXT.as_bytes())?;
     let pair = pair_of(alloc, &unit, 0)?;
     let spilled = spill_all(alloc, pair.code())?;
@@ -81,22 +83,22 @@ fn answer(alloc: Global, shift: u16, turns: u32) -> Result<u32, Fail> {
         return Err(Fail::from("no function"));
     };
     match validate(alloc, pair, ltl) {
-        Ok(_) => Ok(0),
-        Err(refused) => Ok(refused.fault.number()),
+        Ok(_) => Ok(wanted == 0),
+        Err(refused) => Ok(refused.fault.number() == wanted),
     }
+}
+
+// The same at each shift.
+fn are_answered(alloc: Global, turns: &u32) -> Result<bool, Fail> {
+    Ok(
+        is_answered(alloc, *turns, 0)?
+            && is_answered(alloc, *turns, 1)?
+            && is_answered(alloc, *turns, 2)?,
+    )
 }
 
 #[test]
 fn words_are_where_the_turns_leave_them(rt: HostRuntime) -> Result<(), Fail> {
-    for turns in [0u32, 1, 2, 3, 87, 88, 89, 90, 9_999, 10_000, 10_001] {
-        for shift in 0..3u16 {
-            let wanted = if turns % 3 == u32::from(shift) { 0 } else { 24 };
-            assert_eq!(rt;
-                answer(rt.alloc(), shift, turns)?,
-                wanted,
-                "{turns} turns, shifted by {shift}"
-            );
-        }
-    }
-    Ok(())
+    let turns = [0, 1, 2, 3, 87, 88, 89, 90, 9_999, 10_000, 10_001];
+    each_passes(rt.alloc(), &turns, are_answered)
 }

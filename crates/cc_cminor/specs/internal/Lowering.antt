@@ -301,7 +301,7 @@ assigned g v (AtElement x i) f go =
 abbrev pub performed : Layout → Environment → Action → Statement
 performed g v (Assign op target e) = assigned g v target (λ t old new. combined (applied_operator op) t (value_type (types_in v) e) old new) (λ k f. using g v k e f)
 performed g v (Step op target) = assigned g v target (λ t old new. combined (applied_operator (step_operator op)) t Int old new) (λ k f. f (Constant 1))
-performed g v (Evaluate e) = using g v (free v) e (λ x. Skip)
+performed g v (Evaluate e) = put_expr g v (free v) e
 
 abbrev pub performed_optional : Layout → Environment → Option Action → Statement
 performed_optional g v None = Skip

@@ -1,12 +1,12 @@
 -- The same places counted from the end: the tables are filled from the back, since how far a place is from the end is known as soon as
 -- all behind it is.
 use Rattle.std.specs.Prelude.{◌≡◌, ℕ, ◌+◌, ◌-◌, ◌<◌, Bool, false, ◌&&◌, if◌then◌else◌, nat_le, nat_lt, Option, Some, None, List, [], ◌∷◌, length, get_or}
-use Rattle.cc_linear_language.specs.declared.item.LinearItem.TheVariants.{Label, Jump, IfNonzero, IfZero}
+use Rattle.cc_linear_language.specs.declared.item.LinearItem.TheVariants.{Jump, IfNonzero, IfZero}
 use Rattle.cc_select.specs.declared.step.Step.{Step}
 use Rattle.cc_select.specs.declared.step.Step.TheVariants.{One, Branch, BranchImmediate}
 use Rattle.cc_emit.specs.declared.addressed.Addressed.{Addressed}
 use Rattle.cc_emit.specs.Frames.{Frame}
-use Rattle.cc_emit.specs.Emission.{size, long_size, is_close, is_label, prologue_size}
+use Rattle.cc_emit.specs.Emission.{size, long_size, is_close, is_label, label_of_step, prologue_size}
 
 -- whether a branch reaches one place from another: by -4096 to 4092 bytes
 abbrev pub reaches : (from to : ℕ) → Bool
@@ -32,10 +32,6 @@ label_behind f first [] label = 0
 label_behind f first (s ∷ steps) label = if is_label label s then behind f first (s ∷ steps) else label_behind f first steps label
 
 -- the label that a step is
-abbrev pub label_of_step : Step → Option ℕ
-label_of_step (One (Label label)) = Some label
-label_of_step step = None
-
 abbrev pub label_of : Addressed → Option ℕ
 label_of s = label_of_step s.step
 

@@ -1,13 +1,13 @@
 -- Worked emission, by computation: the code of a function item for item, its run on the machine, operators and comparisons with a word,
 -- elements whose numbers are known, branches on comparisons, and where a branch is near.
-use Rattle.std.specs.Prelude.{ℕ, zero, suc, ◌+◌, ◌-◌, ◌*◌, ◌/◌, ◌≡◌, refl, true, false, if◌then◌else◌, ◌==◌, nat_le, List, [], ◌∷◌, map, None, slice_get}
+use Rattle.std.specs.Prelude.{ℕ, zero, suc, ◌+◌, ◌-◌, ◌*◌, ◌/◌, ◌≡◌, refl, true, false, if◌then◌else◌, ◌==◌, nat_le, List, [], ◌∷◌, map, Option, None, slice_get}
 use Rattle.cc_words.specs.declared.operators.Width.TheVariants.{Byte, Word}
 use Rattle.cc_words.specs.declared.operators.Binary.TheVariants.{Add, Sub, LtS, LeS, LeU, Ne}
 use Rattle.cc_ltl.specs.declared.operation.Move.TheVariants.{Reload, Spill}
 use Rattle.cc_linear_language.specs.declared.item.LinearItem.{LinearItem}
 use Rattle.cc_linear_language.specs.declared.item.LinearItem.TheVariants.{Label, Jump, IfZero, Copy, Const, Binary, Load, Store, Call, Write, Return}
 use Rattle.cc_select.specs.declared.step.WordOperator.TheVariants as immediate
-use Rattle.cc_select.specs.declared.step.Step.TheVariants.{One, Immediate, LoadAt, StoreAt, Branch, BranchImmediate}
+use Rattle.cc_select.specs.declared.step.Step.TheVariants.{One, Immediate, LoadAt, StoreAt, LoadNear, StoreNear, Branch, BranchImmediate}
 use Rattle.cc_rv32.specs.declared.instr.Instr.{Instr}
 use Rattle.cc_rv32.specs.declared.instr.Instr.TheVariants as instr
 use Rattle.cc_rv32.specs.declared.instr.Instr.TheVariants.{Jalr, Lui, Op, OpImm, Shift}
@@ -21,7 +21,7 @@ use Rattle.cc_rv32.specs.Machine.{State, Turn, Continues, Exits, Traps, executed
 use Rattle.cc_emit.specs.declared.item.PieceItem.{PieceItem}
 use Rattle.cc_emit.specs.declared.item.PieceItem.TheVariants as item
 use Rattle.cc_emit.specs.declared.item.PieceItem.TheVariants.{Plain}
-use Rattle.cc_emit.specs.Contract.{Code, filled}
+use Rattle.cc_emit.specs.Contract.{filled}
 use Rattle.cc_emit.specs.Objects.{object_address}
 use Rattle.cc_emit.specs.Branches.{comparison, turned}
 use Rattle.cc_emit.specs.Emission.{addi, branch_items, load_element, load_word, store_element, store_word, const_size, is_close}
@@ -57,7 +57,7 @@ abbrev instructions : (a : ℕ) → List PieceItem → List Instr
 instructions a [] = []
 instructions a (i ∷ is) = filled (λ g. 0) 0x10000 a i ∷ instructions (a + 4) is
 
-abbrev code : Code
+abbrev code : ℕ → Option Instr
 code a = if nat_le 0x10000 a then slice_get (instructions 0x10000 items) ((a - 0x10000) / 4) else None
 
 abbrev after : Turn → State → State
@@ -111,7 +111,7 @@ abbrev byte_instructions : List Instr
 byte_instructions =
     instructions 0x10000 (function_items (object_address (record { width = Byte; elements = 5 } ∷ record { width = Byte; elements = 3 } ∷ [])) 0 (map One (Const 7 1 ∷ Const 10 300 ∷ Store Byte 1 7 10 ∷ Load Byte 1 10 7 ∷ Write ∷ Return ∷ [])))
 
-abbrev byte_code : Code
+abbrev byte_code : ℕ → Option Instr
 byte_code a = if nat_le 0x10000 a then slice_get byte_instructions ((a - 0x10000) / 4) else None
 
 abbrev byte_steps : ℕ → State → State
@@ -142,6 +142,19 @@ with_upper access items = Plain (Shift Slli 5 7 2) ∷ Plain (Op operation.Add 5
 again : function_items near_by 0 (One (Load Word 0 10 7) ∷ One (Load Word 0 11 7) ∷ One (Store Word 1 7 10) ∷ []) ≡ whole (load_word 10 5 0) (load_word 11 5 0 ∷ store_word 5 10 16 ∷ [])
 again = refl
 
+-- elements near by: the next one, and the one before the first of all globals
+near_elements : function_items near_by 0 (One (Load Word 0 10 7) ∷ LoadNear Word 0 11 7 1 ∷ StoreNear Word 0 7 0xffffffff 11 ∷ []) ≡ whole (load_word 10 5 0) (load_word 11 5 4 ∷ store_word 5 11 0xfffffffc ∷ [])
+near_elements = refl
+
+-- one beyond the reach of that upper part; by x3 it is within reach
+far_element : items_with near_by false 0 (One (Load Word 0 10 7) ∷ LoadNear Word 0 11 7 512 ∷ [])
+    ≡ whole (load_word 10 5 0) (Plain (Shift Slli 5 7 2) ∷ Plain (Lui 6 0x201) ∷ Plain (Op operation.Add 5 5 6) ∷ load_word 11 5 0xfffff800 ∷ [])
+far_element = refl
+
+far_by_x3 : function_items near_by 0 (One (Load Word 0 10 7) ∷ LoadNear Word 0 11 7 512 ∷ [])
+    ≡ Plain (Lui 3 0x201) ∷ addi 3 3 0xfffff800 ∷ Plain (Shift Slli 5 7 2) ∷ Plain (Op operation.Add 5 5 3) ∷ load_word 10 5 0xfffff800 ∷ load_word 11 5 0 ∷ []
+far_by_x3 = refl
+
 -- its number is another then; x6 holds the upper part still
 number_written : function_items near_by 0 (One (Load Word 0 10 7) ∷ Immediate immediate.Add 7 7 1 ∷ One (Load Word 0 11 7) ∷ []) ≡ whole (load_word 10 5 0) (addi 7 7 1 ∷ with_upper (load_word 11 5 0) [])
 number_written = refl
@@ -150,9 +163,13 @@ number_written = refl
 own_number : function_items near_by 0 (One (Load Word 0 7 7) ∷ One (Load Word 0 7 7) ∷ []) ≡ whole (load_word 7 5 0) (with_upper (load_word 7 5 0) [])
 own_number = refl
 
--- and where x5 is used, for a word of two parts
-between : function_items near_by 0 (One (Load Word 0 10 7) ∷ One (Const 11 0x12345678) ∷ One (Load Word 0 12 7) ∷ []) ≡ whole (load_word 10 5 0) (Plain (Lui 5 0x12345) ∷ addi 11 5 0x678 ∷ with_upper (load_word 12 5 0) [])
+-- and where x5 is used, to ask whether a register's word is another than 7
+between : function_items near_by 0 (One (Load Word 0 10 7) ∷ Immediate immediate.Ne 11 10 7 ∷ One (Load Word 0 12 7) ∷ []) ≡ whole (load_word 10 5 0) (addi 5 10 0xfffffff9 ∷ Plain (Op operation.Sltu 11 0 5) ∷ with_upper (load_word 12 5 0) [])
 between = refl
+
+-- a word of two parts goes into its own register, and x5 stays as it is
+word_between : function_items near_by 0 (One (Load Word 0 10 7) ∷ One (Const 11 0x12345678) ∷ One (Load Word 0 12 7) ∷ []) ≡ whole (load_word 10 5 0) (Plain (Lui 11 0x12345) ∷ addi 11 11 0x678 ∷ load_word 12 5 0 ∷ [])
+word_between = refl
 
 -- a label and a call forget both; a branch that is not taken leaves them
 label_between : function_items near_by 0 (One (Load Word 0 10 7) ∷ One (Label 1) ∷ One (Load Word 0 11 7) ∷ []) ≡ whole (load_word 10 5 0) (whole (load_word 11 5 0) [])
@@ -187,6 +204,13 @@ known_by_x3 = refl
 -- two save no more than setting x3 takes; nor do three of which one finds the upper part in x6
 two_alone : function_items near_by 0 (LoadAt Word 1 10 0 ∷ One (Label 1) ∷ LoadAt Word 1 11 0 ∷ LoadAt Word 2 12 0 ∷ []) ≡ Plain (Lui 6 0x200) ∷ load_word 10 6 16 ∷ Plain (Lui 6 0x200) ∷ load_word 11 6 16 ∷ load_word 12 6 32 ∷ []
 two_alone = refl
+
+-- one in a loop counts as eight; one between a branch and the label to which it goes on does not
+in_loop : function_items near_by 0 (One (Label 1) ∷ LoadAt Word 1 10 0 ∷ One (IfZero 10 1) ∷ []) ≡ with_pointer (load_word 10 3 0xfffff810 ∷ Plain (instr.Branch Beq 10 0 0xfffffffc) ∷ [])
+in_loop = refl
+
+passed_over : function_items near_by 0 (One (IfZero 10 1) ∷ LoadAt Word 1 10 0 ∷ One (Label 1) ∷ []) ≡ Plain (instr.Branch Beq 10 0 12) ∷ Plain (Lui 6 0x200) ∷ load_word 10 6 16 ∷ []
+passed_over = refl
 
 -- elements: slli x5, x7, 2; add x5, x5, x3; the access; one of another object of the same number; of a byte add x5, x7, x3
 elements_by_x3 : items_with near_by true 0 (One (Load Word 0 10 7) ∷ One (Store Word 1 7 10) ∷ One (Load Byte 1 11 7) ∷ [])

@@ -6,7 +6,7 @@ use Rattle.cc_unit.specs.declared.unit.StoredUnit.{StoredUnit}
 use Rattle.cc_emit.specs.Piece.{Piece}
 use Rattle.cc_link.specs.Agree.{Agree}
 use Rattle.cc_link.specs.declared.fault.LinkFault.{LinkFault}
-use Rattle.cc_link.specs.Linked.{same_bytes, linked}
+use Rattle.cc_link.specs.Linked.{same_bytes, linked_in}
 use Rattle.cc_core.specs.Rules.{AreWhole}
 use Rattle.cc_syntax.proofs.Determined.{texts_have_answers}
 use Rattle.cc_typing.proofs.Determined.{texts_have_verdicts}
@@ -33,6 +33,7 @@ pub whole_units_agree : (text : List ℕ) (pieces : List Piece) (unit : StoredUn
 whole_units_agree text [] unit whole kept is = absurd (cc)
 whole_units_agree text (piece ∷ pieces) unit whole kept is =
     let keep : Keeps piece = kept 0 piece (omega arith) in
-    let linked_so = is_unit (linked (source piece.unit) (piece ∷ pieces)) unit (chosen (same_bytes (text_of piece) text) (numbered (linked (source piece.unit) (piece ∷ pieces))) unit is) in
-    let agreed = keep.agree (source piece.unit) (piece ∷ pieces) unit keep.compiled.spelled keep.compiled.checked (λ k d lt. (kept k d lt).compiled.of_unit) linked_so in
-    (agreed.0 ∙ (whole.named 0 piece refl).0, subst (λ (z : List ℕ). Agree z unit.image) (sym agreed.0) agreed.1)
+    let linked_so = is_unit (linked_in piece.mode (source piece.unit) (piece ∷ pieces)) unit (chosen (same_bytes (text_of piece) text) (numbered (linked_in piece.mode (source piece.unit) (piece ∷ pieces))) unit is) in
+    let followed = keep.follow piece.mode (source piece.unit) (piece ∷ pieces) unit keep.compiled.spelled keep.compiled.checked (λ k d lt. (kept k d lt).compiled.of_unit) linked_so in
+    let agreed = keep.agree piece.mode (text_of piece) unit.image followed.1 in
+    (followed.0 ∙ (whole.named 0 piece refl).0, subst (λ (z : List ℕ). Agree z unit.image) (sym followed.0) agreed)

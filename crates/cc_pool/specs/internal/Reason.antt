@@ -1,17 +1,18 @@
 -- Which piece is of a function, and what is told of one of which none came.
 use Rattle.std.specs.Prelude.{◌≡◌, ℕ, List}
 use Rattle.cc_ast.specs.Source.{source}
+use Rattle.cc_c_laws.specs.declared.mode.Mode.{Mode}
 use Rattle.cc_emit.specs.Piece as emit
 use Rattle.cc_pool.specs.Fault.{IsRefusedAt}
 use Rattle.cc_pool.specs.declared.fault.PoolFault.{PoolFault}
 use Rattle.cc_pool.specs.declared.fault.PoolFault.TheVariants.{Piece, WorkersGone, OutOfMemory}
 
--- the piece is of this function of the text
-abbrev pub IsOf : List ℕ → (function : ℕ) → emit.Piece → Type 0
-IsOf text function p = ((source p.unit).text ≡ text) × (p.function ≡ function)
+-- the piece is in this mode, and of this function of the text
+abbrev pub IsOf : Mode → List ℕ → (function : ℕ) → emit.Piece → Type 0
+IsOf mode text function p = ((p.mode ≡ mode) × ((source p.unit).text ≡ text)) × (p.function ≡ function)
 
 -- this function of the text was refused so; or nothing came for it
-abbrev pub IsReason : List ℕ → (function : ℕ) → PoolFault → Type 0
-IsReason text function (Piece f fault) = (f ≡ function) × IsRefusedAt text function fault
-IsReason text function WorkersGone = Unit {0}
-IsReason text function OutOfMemory = ⊥
+abbrev pub IsReason : Mode → List ℕ → (function : ℕ) → PoolFault → Type 0
+IsReason mode text function (Piece f fault) = (f ≡ function) × IsRefusedAt mode text function fault
+IsReason mode text function WorkersGone = Unit {0}
+IsReason mode text function OutOfMemory = ⊥

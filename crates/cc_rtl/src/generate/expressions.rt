@@ -5,7 +5,7 @@
 
 ghost use Rattle.std.specs.Prelude.{◌≡◌, ◌+◌, ◌<◌, ◌≤◌, ◌^◌, ◌++◌, length, IfOk, OnOk};
 ghost use Rattle.cc_cminor.specs.Code.{expression_of, expressions_of};
-ghost use Rattle.cc_cminor.specs.Numbers.{ExpressionFits, ExpressionsFit};
+ghost use Rattle.cc_cminor.specs.Numbers.{most_variables, ExpressionBelow, ExpressionsBelow};
 ghost use Rattle.cc_rtl_language.specs.Rtl.{most_nodes};
 ghost use Rattle.cc_rtl.specs.internal.Generate.{register, taken, made_into, operand, registers, operands};
 ghost use Rattle.cc_rtl.specs.Size.{into_nodes, operand_nodes, operands_nodes};
@@ -20,7 +20,7 @@ use std::alloc::AllocError;
 
 /// The register that holds an operand: a variable's own, or the first that is free.
 pub fn register(e: &Expression, free: u32) -> u32
-    requires numbers { ExpressionFits (expression_of e.now) }
+    requires numbers { ExpressionBelow most_variables (expression_of e.now) }
     ensures { result ≡ register (expression_of e.now) free }
 {
     match e {
@@ -44,7 +44,7 @@ pub fn taken(e: &Expression, free: u32) -> u32
 // The node that puts the value of an expression into a register, once its operands are held.
 fn last_node(e: &Expression, free: u32, to: u32, exit: u32) -> Node
     requires registers { free + into_nodes (expression_of e.now) < 2 ^ 32 }
-    requires numbers { ExpressionFits (expression_of e.now) }
+    requires numbers { ExpressionBelow most_variables (expression_of e.now) }
     ensures { node_of result ≡ last_node (expression_of e.now) free to exit }
 {
     match e {
@@ -92,7 +92,7 @@ pub fn into(
 ) -> Result<u32, AllocError>
     requires room { length graph.old + into_nodes (expression_of e.now) ≤ most_nodes }
     requires registers { free + into_nodes (expression_of e.now) < 2 ^ 32 }
-    requires numbers { ExpressionFits (expression_of e.now) }
+    requires numbers { ExpressionBelow most_variables (expression_of e.now) }
     ensures made { IfOk result (λ entry. made_at entry graph.new ≡ made_into (expression_of e.now) free to exit graph.old) }
     ensures longer { OnOk result (length graph.new ≡ length graph.old + into_nodes (expression_of e.now)) }
 {
@@ -114,7 +114,7 @@ pub fn into(
 pub fn operand(graph: &mut Graph, e: &Expression, free: u32, exit: u32) -> Result<u32, AllocError>
     requires room { length graph.old + operand_nodes (expression_of e.now) ≤ most_nodes }
     requires registers { free + 1 + operand_nodes (expression_of e.now) < 2 ^ 32 }
-    requires numbers { ExpressionFits (expression_of e.now) }
+    requires numbers { ExpressionBelow most_variables (expression_of e.now) }
     ensures made { IfOk result (λ entry. made_at entry graph.new ≡ operand (expression_of e.now) free (made_at exit graph.old)) }
     ensures longer { OnOk result (length graph.new ≡ length graph.old + operand_nodes (expression_of e.now)) }
 {
@@ -133,7 +133,7 @@ pub fn operands(
 ) -> Result<u32, AllocError>
     requires room { length graph.old + operands_nodes (expressions_of es.now) ≤ most_nodes }
     requires registers { free + 1 + operands_nodes (expressions_of es.now) < 2 ^ 32 }
-    requires numbers { ExpressionsFit (expressions_of es.now) }
+    requires numbers { ExpressionsBelow most_variables (expressions_of es.now) }
     ensures made { IfOk result (λ entry. made_at entry graph.new ≡ operands (expressions_of es.now) free (made_at exit graph.old)) }
     ensures longer { OnOk result (length graph.new ≡ length graph.old + operands_nodes (expressions_of es.now)) }
 {
@@ -149,7 +149,7 @@ pub fn operands(
 /// Adds the registers that hold arguments.
 pub fn hold(held: &mut SmallVec<u32, 8>, es: &[Expression], free: u32) -> Result<(), AllocError>
     requires registers { free + 1 + operands_nodes (expressions_of es.now) < 2 ^ 32 }
-    requires numbers { ExpressionsFit (expressions_of es.now) }
+    requires numbers { ExpressionsBelow most_variables (expressions_of es.now) }
     ensures { OnOk result (held.new.items ≡ held.old.items ++ registers (expressions_of es.now) free) }
 {
     match es.split_first() {

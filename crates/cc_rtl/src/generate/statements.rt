@@ -6,7 +6,7 @@ ghost use Rattle.std.specs.Prelude.{◌≡◌, ◌+◌, ◌<◌, ◌≤◌, List
 ghost use Rattle.cc_cminor.specs.Cminor.{Call, Store};
 ghost use Rattle.cc_cminor.specs.Code.{expression_of, expressions_of, statement_of, in_sequence};
 ghost use Rattle.cc_cminor.specs.internal.Statements.{statements_of};
-ghost use Rattle.cc_cminor.specs.Numbers.{most_variables, ResultFits, ExpressionFits, StatementFits};
+ghost use Rattle.cc_cminor.specs.Numbers.{most_variables, ResultBelow, ExpressionBelow, StatementFits};
 ghost use Rattle.cc_rtl_language.specs.Rtl.{most_nodes};
 ghost use Rattle.cc_rtl_language.specs.Code.{node_of};
 ghost use Rattle.cc_rtl.specs.Size.{operand_nodes, statement_nodes};
@@ -23,7 +23,7 @@ use std::alloc::{AllocError, Global};
 
 // The register that a result goes to, where it goes to one.
 fn result_register(to: Option<usize>) -> Option<u32>
-    requires { ResultFits to }
+    requires { ResultBelow most_variables to }
     ensures { result ≡ to }
 {
     match to {
@@ -51,7 +51,7 @@ fn with_operand(
     count: u32,
 ) -> Result<u32, AllocError>
     requires room { length graph.old + 1 + operand_nodes (expression_of e.now) ≤ most_nodes }
-    requires numbers { ExpressionFits (expression_of e.now) }
+    requires numbers { ExpressionBelow most_variables (expression_of e.now) }
     requires count { count ≤ most_variables }
     ensures made { IfOk result (λ entry. made_at entry graph.new ≡ operand (expression_of e.now) count (pushed (node_of node) graph.old)) }
     ensures longer { OnOk result (length graph.new ≡ length graph.old + 1 + operand_nodes (expression_of e.now)) }

@@ -1,5 +1,5 @@
 -- The passes, step by step: what a sweep and a look do at one step, which steps stay, which two are one.
-use Rattle.std.specs.Prelude.{ℕ, Bool, true, false, not, ◌&&◌, ◌==◌, if◌then◌else◌, List, [], ◌∷◌, Option, Some, None}
+use Rattle.std.specs.Prelude.{ℕ, Bool, true, false, not, ◌&&◌, ◌||◌, ◌==◌, if◌then◌else◌, List, [], ◌∷◌, Option, Some, None}
 use Rattle.cc_words.specs.declared.operators.Unary.TheVariants.{IsZero}
 use Rattle.cc_words.specs.declared.operators.Binary as binary
 use Rattle.cc_words.specs.declared.operators.Binary.TheVariants as operators
@@ -24,9 +24,10 @@ abbrev pub is_met : Table → Step → Registers → Bool
 is_met t (One (Label label)) s = within s (t label)
 is_met t step s = true
 
--- a constant stays where somebody reads it
+-- a constant stays where somebody reads it; so does an operator with a word, and where nobody reads its register behind it
 abbrev pub stays : Step → (behind : Registers) → Bool
 stays (One (Const to word)) s = s to
+stays (Immediate operator to from word) s = s to || not (s from)
 stays step s = true
 
 -- the test that a step is

@@ -15,7 +15,7 @@ use Rattle.cc_linear_language.specs.declared.item.LinearItem.{LinearItem}
 use Rattle.cc_linear_language.specs.declared.item.LinearItem.TheVariants.{Label, Jump, IfNonzero, IfZero, Copy, Const, Unary, Binary, Load, Store, Call, Return}
 use Rattle.cc_select.specs.declared.step.WordOperator.TheVariants as immediate
 use Rattle.cc_select.specs.declared.step.Step.{Step}
-use Rattle.cc_select.specs.declared.step.Step.TheVariants.{One, Immediate, LoadAt, StoreAt, Branch, BranchImmediate}
+use Rattle.cc_select.specs.declared.step.Step.TheVariants.{One, Immediate, LoadAt, StoreAt, LoadNear, StoreNear, Branch, BranchImmediate}
 use Rattle.cc_select.specs.Immediates.{has_word, immediate_of, immediate_of_left, apply_immediate}
 use Rattle.cc_select.specs.Selected.{at_steps, does}
 use Rattle.cc_select.specs.Known.{unknown, chosen}
@@ -75,6 +75,30 @@ index_of_load = refl
 index_of_store : selected (Const 7 2 ∷ Const 11 5 ∷ Store Byte 0 7 11 ∷ Return ∷ []) ≡ One (Const 11 5) ∷ StoreAt Byte 0 2 11 ∷ One Return ∷ []
 unfolding table
 index_of_store = refl
+
+-- ---- elements near by: the number is made of a register and a word, and nobody else reads it
+
+next_element : selected (Const 7 1 ∷ Binary operators.Add 7 10 7 ∷ Load Word 0 10 7 ∷ Return ∷ []) ≡ LoadNear Word 0 10 10 1 ∷ One Return ∷ []
+unfolding table count_trailing_zeros
+next_element = refl
+
+element_before : selected (Const 7 1 ∷ Binary operators.Sub 7 10 7 ∷ Store Byte 0 7 11 ∷ Return ∷ []) ≡ StoreNear Byte 0 10 0xffffffff 11 ∷ One Return ∷ []
+unfolding table count_trailing_zeros
+element_before = refl
+
+-- it stays where its register is read once more
+read_once_more : selected (Const 7 1 ∷ Binary operators.Add 7 10 7 ∷ Load Word 0 11 7 ∷ Copy (Between 10 7) ∷ Return ∷ []) ≡ Immediate immediate.Add 7 10 1 ∷ LoadNear Word 0 11 10 1 ∷ One (Copy (Between 10 7)) ∷ One Return ∷ []
+unfolding table count_trailing_zeros
+read_once_more = refl
+
+-- where the register that the sum was made of is written since, or is that of the sum, the number is that of the sum's register
+written_since : selected (Const 7 1 ∷ Binary operators.Add 7 10 7 ∷ Copy (Between 10 11) ∷ Load Word 0 10 7 ∷ Return ∷ []) ≡ Immediate immediate.Add 7 10 1 ∷ One (Copy (Between 10 11)) ∷ One (Load Word 0 10 7) ∷ One Return ∷ []
+unfolding table count_trailing_zeros
+written_since = refl
+
+sum_in_itself : selected (Const 7 1 ∷ Binary operators.Add 10 10 7 ∷ Load Word 0 10 10 ∷ Return ∷ []) ≡ Immediate immediate.Add 10 10 1 ∷ One (Load Word 0 10 10) ∷ One Return ∷ []
+unfolding table count_trailing_zeros
+sum_in_itself = refl
 
 -- on the right
 on_the_right : selected (Const 7 5 ∷ Binary operators.Sub 10 11 7 ∷ Return ∷ []) ≡ Immediate immediate.Sub 10 11 5 ∷ One Return ∷ []

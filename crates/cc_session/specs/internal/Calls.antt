@@ -6,6 +6,7 @@ use Rattle.cc_script.specs.declared.fault.ScriptFault.{ScriptFault}
 use Rattle.cc_script.specs.declared.fault.ScriptFault.TheVariants.{WriteFault, Stopped}
 use Rattle.cc_history.specs.declared.entry.Receipt.{Receipt}
 use Rattle.cc_history.specs.History.{MemberView}
+use Rattle.cc_c_laws.specs.declared.mode.Mode.{Mode}
 use Rattle.cc_service.specs.Serving.{GetAnswers}
 use Rattle.cc_service.specs.declared.fault.ServiceFault.{ServiceFault}
 use Rattle.cc_rv32.specs.declared.image.Image.{Image}
@@ -26,18 +27,18 @@ CallsAndTells Answers Says old new result =
     (answer : Result Receipt ServiceFault) × Answers old.client new.client answer × (text : List ℕ) × Says answer text × Tells old.written new.written text result
 
 -- the line of an audit was written for this answer, and whether it says anything is answered; or the line could not be written: 54
-abbrev pub TellsAudit : (name : List ℕ) → Result Receipt ServiceFault → (old new : Option (List ℕ)) → Result Bool ScriptFault → Type 0
-TellsAudit name answer old new (Ok is_said) = (text : List ℕ) × SaysAudit name is_said answer text × Appends old new text
-TellsAudit name answer old new (Err fault) = fault ≡ WriteFault
+abbrev pub TellsAudit : Mode → (name : List ℕ) → Result Receipt ServiceFault → (old new : Option (List ℕ)) → Result Bool ScriptFault → Type 0
+TellsAudit mode name answer old new (Ok is_said) = (text : List ℕ) × SaysAudit mode name is_said answer text × Appends old new text
+TellsAudit mode name answer old new (Err fault) = fault ≡ WriteFault
 
 -- the unit of a name was fetched and audited
-abbrev pub AuditsName : (name : List ℕ) (old new : Talk) → Result Bool ScriptFault → Type 0
-AuditsName name old new result = (answer : Result Receipt ServiceFault) × GetAnswers name old.client new.client answer × TellsAudit name answer old.written new.written result
+abbrev pub AuditsName : Mode → (name : List ℕ) (old new : Talk) → Result Bool ScriptFault → Type 0
+AuditsName mode name old new result = (answer : Result Receipt ServiceFault) × GetAnswers name old.client new.client answer × TellsAudit mode name answer old.written new.written result
 
 -- so the units of these names, up to the first of which an audit does not say anything
-abbrev pub AuditsNames : (names : List (List ℕ)) (old new : Talk) → Result Bool ScriptFault → Type 0
-AuditsNames names old new (Ok all) = AuditsEach names all old new
-AuditsNames names old new (Err fault) = (fault ≡ WriteFault) × (written : Option (List ℕ)) × AuditsEach names false old (talk new.client written)
+abbrev pub AuditsNames : Mode → (names : List (List ℕ)) (old new : Talk) → Result Bool ScriptFault → Type 0
+AuditsNames mode names old new (Ok all) = AuditsEach mode names all old new
+AuditsNames mode names old new (Err fault) = (fault ≡ WriteFault) × (written : Option (List ℕ)) × AuditsEach mode names false old (talk new.client written)
 
 -- ---- runs
 

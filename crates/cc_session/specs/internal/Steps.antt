@@ -12,6 +12,7 @@ use Rattle.cc_script.specs.declared.command.Dialect.{Dialect}
 use Rattle.cc_history.specs.Held.{at_most_told, receipts_bytes}
 use Rattle.cc_history.specs.History.{MemberView}
 use Rattle.cc_history.specs.declared.entry.Receipt.{Receipt}
+use Rattle.cc_c_laws.specs.declared.mode.Mode.{Mode}
 use Rattle.cc_session.specs.Playing.{CutsLine, HasUnended, IsBegun, IsBounded, IsCutShort, IsEnding, IsLight, IsPlayed, IsStoppedBy, Obeys, Talk, held_since, talk}
 use Rattle.cc_session.specs.declared.held.Held.{Held}
 use Rattle.cc_session.specs.declared.end.SessionEnd.{SessionEnd}
@@ -90,19 +91,19 @@ IsDone Does IsShort IsBad before after old new (Ok done) = Between before after 
 IsDone Does IsShort IsBad before after old new (Err fault) = IsNotDone Does IsShort IsBad before old new fault
 
 -- a line that asks for this was not obeyed; or it is a `run` that was cut, 61
-abbrev pub IsObeyedNot : (most : Option ℕ) (asked : Option ScriptRequest) (before : Ahead) (old new : Talk) → ScriptFault → Type 0
-IsObeyedNot most asked before old new Stopped = IsBounded most × CutsLine asked old new
-IsObeyedNot most asked before old new fault = IsNotDone (λ b a o n. Obeys asked b a o n) (λ rest. IsCutShort asked rest) (λ rest. HasUnended asked rest) before old new fault
+abbrev pub IsObeyedNot : Mode → (most : Option ℕ) (asked : Option ScriptRequest) (before : Ahead) (old new : Talk) → ScriptFault → Type 0
+IsObeyedNot mode most asked before old new Stopped = IsBounded most × CutsLine asked old new
+IsObeyedNot mode most asked before old new fault = IsNotDone (λ b a o n. Obeys mode asked b a o n) (λ rest. IsCutShort asked rest) (λ rest. HasUnended asked rest) before old new fault
 
 -- it was, if it was answered
-abbrev pub IsObeyed : {T : Type 0} → (most : Option ℕ) (asked : Option ScriptRequest) (before after : Ahead) (old new : Talk) → Result T ScriptFault → Type 0
-IsObeyed most asked before after old new (Ok done) = Between before after (λ b a. Obeys asked b a old new)
-IsObeyed most asked before after old new (Err fault) = IsObeyedNot most asked before old new fault
+abbrev pub IsObeyed : Mode → {T : Type 0} → (most : Option ℕ) (asked : Option ScriptRequest) (before after : Ahead) (old new : Talk) → Result T ScriptFault → Type 0
+IsObeyed mode most asked before after old new (Ok done) = Between before after (λ b a. Obeys mode asked b a old new)
+IsObeyed mode most asked before after old new (Err fault) = IsObeyedNot mode most asked before old new fault
 
 -- a script was done whole; or a fault ended it, whose line is not written yet, and it is done as far as that says
-abbrev pub IsHalted : {T : Type 0} → Dialect → (most : Option ℕ) (script : Option (List ℕ)) (old new : Talk) → Result T ScriptFault → Type 0
-IsHalted dialect most script old new (Ok done) = IfSome script (λ bytes. IsPlayed dialect most bytes old new)
-IsHalted dialect most script old new (Err fault) = IsEnding most fault × IfSome script (λ bytes. IsStoppedBy dialect most fault bytes old new)
+abbrev pub IsHalted : Mode → {T : Type 0} → Dialect → (most : Option ℕ) (script : Option (List ℕ)) (old new : Talk) → Result T ScriptFault → Type 0
+IsHalted mode dialect most script old new (Ok done) = IfSome script (λ bytes. IsPlayed mode dialect most bytes old new)
+IsHalted mode dialect most script old new (Err fault) = IsEnding most fault × IfSome script (λ bytes. IsStoppedBy mode dialect most fault bytes old new)
 
 -- how a session ends whose script was answered so
 abbrev pub EndsFor : {T : Type 0} → Result T ScriptFault → SessionEnd → Type 0

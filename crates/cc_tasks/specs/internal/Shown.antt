@@ -1,7 +1,8 @@
 -- Why the stages of a text's functions are not shown.
 use Rattle.std.specs.Prelude.{ℕ, List}
 use Rattle.cc_stages.specs.Named.{IsDefined}
-use Rattle.cc_tasks.specs.Answer.{ProgramOf, IsRefused}
+use Rattle.cc_link.specs.Text.{IsTextRefusal}
+use Rattle.cc_tasks.specs.Answer.{ProgramOf}
 use Rattle.cc_tasks.specs.declared.fault.Fault.{Fault}
 use Rattle.cc_tasks.specs.declared.fault.Fault.TheVariants.{Text, Meaning, Piece, Link, UnknownFunction, OutOfMemory, Read, Write}
 
@@ -11,7 +12,7 @@ IsUnknown text name = (p : ProgramOf text) × (IsDefined p.program name → ⊥)
 
 -- of a fault of the text it is said that it is one, as of every task; nothing of the others
 abbrev pub IsTextRefused : (text : List ℕ) → Fault → Type 0
-IsTextRefused text (Text f) = IsRefused text (Text f)
+IsTextRefused text (Text f) = IsTextRefusal text f
 IsTextRefused text (Meaning f) = Unit {0}
 IsTextRefused text (Piece f) = Unit {0}
 IsTextRefused text (Link f) = Unit {0}

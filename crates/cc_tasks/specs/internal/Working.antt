@@ -2,7 +2,8 @@
 use Rattle.std.specs.Prelude.{◌≡◌, ◌⊎◌, ℕ, List, Option, Result, Ok, Err}
 use Rattle.std.specs.Io.KnownBytes.{Appends, Keeps}
 use Rattle.cc_task.specs.declared.task.Task.{Task}
-use Rattle.cc_tasks.specs.Answer.{Answers, IsRefused}
+use Rattle.cc_c_laws.specs.declared.mode.Mode.{Mode}
+use Rattle.cc_tasks.specs.Answer.{Answers, IsRefused, mode_for}
 use Rattle.cc_tasks.specs.Written.{IsAnswered, HasNoAnswer, answer_text, fault_text}
 use Rattle.cc_tasks.specs.declared.answer.Answer.{Answer}
 use Rattle.cc_tasks.specs.declared.fault.Fault.{Fault}
@@ -25,18 +26,18 @@ pub record IsAnsweredFor (task : Task) (text : List ℕ) (old new : Option (List
   pub written : Appends old new (answer_text answer)
 
 -- the text has this fault, and the fault's line was written; or it could not be: 54
-abbrev pub IsRefusedFor : (text : List ℕ) (old new : Option (List ℕ)) → Fault → Type 0
-IsRefusedFor text old new fault = (fault ≡ Write) ⊎ (IsRefused text fault × Appends old new (fault_text text fault))
+abbrev pub IsRefusedFor : Mode → (text : List ℕ) (old new : Option (List ℕ)) → Fault → Type 0
+IsRefusedFor mode text old new fault = (fault ≡ Write) ⊎ (IsRefused mode text fault × Appends old new (fault_text text fault))
 
 -- the answer was written, or the fault's line
 abbrev pub TellsOf : {T : Type 0} → Task → (text : List ℕ) (old new : Option (List ℕ)) → Result T Fault → Type 0
 TellsOf task text old new (Ok done) = IsAnsweredFor task text old new
-TellsOf task text old new (Err fault) = IsRefusedFor text old new fault
+TellsOf task text old new (Err fault) = IsRefusedFor (mode_for task) text old new fault
 
 -- the task was done for a reader's text
 abbrev pub IsDoneFor : {T : Type 0} → Task → (input old new : Option (List ℕ)) → Result T Fault → Type 0
 IsDoneFor task input old new (Ok done) = IsAnswered task input old new
-IsDoneFor task input old new (Err fault) = HasNoAnswer input old new fault
+IsDoneFor task input old new (Err fault) = HasNoAnswer (mode_for task) input old new fault
 
 -- the status: 0 for an answer, 1 for a fault
 abbrev pub status_of : {T : Type 0} → Result T Fault → ℕ

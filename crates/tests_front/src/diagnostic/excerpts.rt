@@ -2,10 +2,14 @@
 
 use super::helpers::{tells, written};
 use cc_diagnostic::{Diagnostic, of_name};
-use std::alloc::{AllocError, Global};
+use std::alloc::Global;
+use std::test::Fail;
+use tests_texts::verdict::{each_passes, passes};
 
 // Texts, and what is told of each.
-static LINES: [(&[u8], &str); 9] = [
+type Line = (&'static [u8], &'static str);
+
+static LINES: [Line; 9] = [
     // the middle one of three lines, and lines that end otherwise
     (
         b"int x;\nint main(void){y;}\nint z;\n",
@@ -49,15 +53,17 @@ static LINES: [(&[u8], &str); 9] = [
     ),
 ];
 
+fn is_line(alloc: Global, row: &Line) -> Result<bool, Fail> {
+    Ok(tells(alloc, row.0, row.1.as_bytes()))
+}
+
 #[test]
-fn lines(rt: HostRuntime) {
-    for (i, (text, told)) in LINES.iter().enumerate() {
-        assert!(rt; tells(rt.alloc(), text, told.as_bytes()), "row {i}");
-    }
+fn lines(rt: HostRuntime) -> Result<(), Fail> {
+    each_passes(rt.alloc(), LINES.as_slice(), is_line)
 }
 
 // Whether a name of this many bytes that is not declared is shown so, in quotes.
-fn shows_name(alloc: Global, length: usize, shown: usize, end: &str) -> Result<bool, AllocError> {
+fn shows_name(alloc: Global, length: usize, shown: usize, end: &str) -> Result<bool, Fail> {
     let mut text = String::from_str(alloc, "int main(void){\n")?;
     let mut told = String::from_str(alloc, "-:2:1: '")?;
     for i in 0..length {
@@ -77,13 +83,16 @@ fn shows_name(alloc: Global, length: usize, shown: usize, end: &str) -> Result<b
 }
 
 #[test]
-fn long_names(rt: HostRuntime) {
-    assert!(rt; shows_name(rt.alloc(), 40, 40, "'") == Ok(true));
-    assert!(rt; shows_name(rt.alloc(), 41, 40, "...'") == Ok(true));
+fn long_names(rt: HostRuntime) -> Result<(), Fail> {
+    passes(shows_name(rt.alloc(), 40, 40, "'"))?;
+    passes(shows_name(rt.alloc(), 41, 40, "...'"))
 }
 
-// Whether a diagnostic at an offset of a text is written so.
-fn writes(alloc: Global, text: &[u8], at: Option<usize>, told: &str) -> Result<bool, AllocError> {
+// A text, an offset in it, and what is written of a diagnostic there.
+type Written = (&'static [u8], Option<usize>, &'static str);
+
+fn is_written(alloc: Global, row: &Written) -> Result<bool, Fail> {
+    let (text, at, told) = *row;
     let message = String::from_str(alloc, "this")?;
     let related = None;
     let diagnostic = Diagnostic {
@@ -95,35 +104,24 @@ fn writes(alloc: Global, text: &[u8], at: Option<usize>, told: &str) -> Result<b
     Ok(lines.as_slice() == told.as_bytes())
 }
 
+const TEXT: &[u8] = b"a\nbc";
+
+static OFFSETS: [Written; 6] = [
+    (TEXT, Some(0), "-:1:1: this\n    1 | a\n      | ^\n"),
+    (TEXT, Some(1), "-:1:2: this\n    1 | a\n      |  ^\n"),
+    (TEXT, Some(4), "-:2:3: this\n    2 | bc\n      |   ^\n"),
+    (TEXT, Some(999), "-:2:3: this\n    2 | bc\n      |   ^\n"),
+    (TEXT, None, "-: this\n"),
+    (b"", Some(0), "-:1:1: this\n    1 | \n      | ^\n"),
+];
+
 #[test]
-fn offsets(rt: HostRuntime) {
-    let text = b"a\nbc".as_slice();
-    let first = "-:1:1: this\n    1 | a\n      | ^\n";
-    let end = "-:2:3: this\n    2 | bc\n      |   ^\n";
-    assert!(rt; writes(rt.alloc(), text, Some(0), first) == Ok(true));
-    assert!(rt;
-        writes(
-            rt.alloc(),
-            text,
-            Some(1),
-            "-:1:2: this\n    1 | a\n      |  ^\n"
-        ) == Ok(true)
-    );
-    assert!(rt; writes(rt.alloc(), text, Some(4), end) == Ok(true));
-    assert!(rt; writes(rt.alloc(), text, Some(999), end) == Ok(true));
-    assert!(rt; writes(rt.alloc(), text, None, "-: this\n") == Ok(true));
-    assert!(rt;
-        writes(
-            rt.alloc(),
-            b"",
-            Some(0),
-            "-:1:1: this\n    1 | \n      | ^\n"
-        ) == Ok(true)
-    );
+fn offsets(rt: HostRuntime) -> Result<(), Fail> {
+    each_passes(rt.alloc(), OFFSETS.as_slice(), is_written)
 }
 
 // Whether what is told of the name of this many bytes at an offset is written so.
-fn names(alloc: Global, at: usize, length: usize, told: &str) -> Result<bool, AllocError> {
+fn names(alloc: Global, at: usize, length: usize, told: &str) -> Result<bool, Fail> {
     let text = b"int f(void){}".as_slice();
     let diagnostic = of_name(alloc, text, at, length, "is too large")?;
     let lines = written(alloc, text, Some(diagnostic))?;
@@ -131,9 +129,9 @@ fn names(alloc: Global, at: usize, length: usize, told: &str) -> Result<bool, Al
 }
 
 #[test]
-fn words_about_names(rt: HostRuntime) {
+fn words_about_names(rt: HostRuntime) -> Result<(), Fail> {
     let f = "-:1:5: 'f' is too large\n    1 | int f(void){}\n      |     ^\n";
     let past = "-:1:14: '' is too large\n    1 | int f(void){}\n      |              ^\n";
-    assert!(rt; names(rt.alloc(), 4, 1, f) == Ok(true));
-    assert!(rt; names(rt.alloc(), 99, 1, past) == Ok(true));
+    passes(names(rt.alloc(), 4, 1, f))?;
+    passes(names(rt.alloc(), 99, 1, past))
 }

@@ -1,9 +1,19 @@
 // What is told of texts that are no programs.
 
 use super::helpers::tells;
+use std::alloc::Global;
+use std::test::Fail;
+use tests_texts::verdict::each_passes;
+
+// A text, and what is told of it.
+type Row = (&'static str, &'static str);
+
+fn is_told(alloc: Global, row: &Row) -> Result<bool, Fail> {
+    Ok(tells(alloc, row.0.as_bytes(), row.1.as_bytes()))
+}
 
 // Texts whose bytes, comments or numbers are no tokens, and what is told of each.
-static SPELLING: [(&str, &str); 18] = [
+static SPELLING: [Row; 18] = [
     (
         "int main(void){$}",
         "-:1:16: '$' begins no token
@@ -133,7 +143,7 @@ static SPELLING: [(&str, &str); 18] = [
 ];
 
 // Texts with a token with which no text goes on, and what is told of each: the token, and what could stand there.
-static GRAMMAR: [(&str, &str); 37] = [
+static GRAMMAR: [Row; 37] = [
     (
         "",
         "-:1:1: unexpected end of the text, expected a type
@@ -411,7 +421,7 @@ static GRAMMAR: [(&str, &str); 37] = [
 ];
 
 // Names that are not in scope, or declared twice; what is told of each, with the first declaration.
-static NAMES: [(&str, &str); 18] = [
+static NAMES: [Row; 18] = [
     (
         "int total;\n\nint main(void){\n totl=1;\n}",
         "-:4:2: 'totl' is not declared: did you mean 'total'?
@@ -562,7 +572,7 @@ static NAMES: [(&str, &str); 18] = [
 ];
 
 // Names that are used as what they are not, and constant expressions that are none.
-static KINDS: [(&str, &str); 17] = [
+static KINDS: [Row; 17] = [
     (
         "int x;int main(void){x();}",
         "-:1:22: 'x' is a variable, declared at 1:5, and cannot be called
@@ -685,7 +695,7 @@ static KINDS: [(&str, &str); 17] = [
 ];
 
 // Counts of arguments and of initialisers that do not fit.
-static COUNTS: [(&str, &str); 9] = [
+static COUNTS: [Row; 9] = [
     (
         "int add(int a,int b){return a+b;}\nint main(void){\n  add(1);\n}",
         "-:3:3: 'add' takes 2 arguments, 1 given
@@ -752,7 +762,7 @@ static COUNTS: [(&str, &str); 9] = [
 ];
 
 // Values, `return`, `break` and `continue` out of place, functions that are missing, and limits that are passed.
-static OTHERS: [(&str, &str); 16] = [
+static OTHERS: [Row; 16] = [
     (
         "void f(void){}int main(void){write_word(f());}",
         "-:1:41: 'f' is void: its call has no value to use
@@ -868,61 +878,31 @@ static OTHERS: [(&str, &str); 16] = [
 ];
 
 #[test]
-fn tokens(rt: HostRuntime) {
-    for (text, told) in SPELLING.iter() {
-        assert!(rt;
-            tells(rt.alloc(), text.as_bytes(), told.as_bytes()),
-            "for {text}"
-        );
-    }
+fn tokens(rt: HostRuntime) -> Result<(), Fail> {
+    each_passes(rt.alloc(), SPELLING.as_slice(), is_told)
 }
 
 #[test]
-fn grammar(rt: HostRuntime) {
-    for (text, told) in GRAMMAR.iter() {
-        assert!(rt;
-            tells(rt.alloc(), text.as_bytes(), told.as_bytes()),
-            "for {text}"
-        );
-    }
+fn grammar(rt: HostRuntime) -> Result<(), Fail> {
+    each_passes(rt.alloc(), GRAMMAR.as_slice(), is_told)
 }
 
 #[test]
-fn names(rt: HostRuntime) {
-    for (text, told) in NAMES.iter() {
-        assert!(rt;
-            tells(rt.alloc(), text.as_bytes(), told.as_bytes()),
-            "for {text}"
-        );
-    }
+fn names(rt: HostRuntime) -> Result<(), Fail> {
+    each_passes(rt.alloc(), NAMES.as_slice(), is_told)
 }
 
 #[test]
-fn kinds(rt: HostRuntime) {
-    for (text, told) in KINDS.iter() {
-        assert!(rt;
-            tells(rt.alloc(), text.as_bytes(), told.as_bytes()),
-            "for {text}"
-        );
-    }
+fn kinds(rt: HostRuntime) -> Result<(), Fail> {
+    each_passes(rt.alloc(), KINDS.as_slice(), is_told)
 }
 
 #[test]
-fn counts(rt: HostRuntime) {
-    for (text, told) in COUNTS.iter() {
-        assert!(rt;
-            tells(rt.alloc(), text.as_bytes(), told.as_bytes()),
-            "for {text}"
-        );
-    }
+fn counts(rt: HostRuntime) -> Result<(), Fail> {
+    each_passes(rt.alloc(), COUNTS.as_slice(), is_told)
 }
 
 #[test]
-fn other_rules(rt: HostRuntime) {
-    for (text, told) in OTHERS.iter() {
-        assert!(rt;
-            tells(rt.alloc(), text.as_bytes(), told.as_bytes()),
-            "for {text}"
-        );
-    }
+fn other_rules(rt: HostRuntime) -> Result<(), Fail> {
+    each_passes(rt.alloc(), OTHERS.as_slice(), is_told)
 }

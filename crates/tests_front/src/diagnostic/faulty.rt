@@ -5,6 +5,8 @@
 
 use super::helpers::{has, told_of};
 use std::alloc::Global;
+use std::test::Fail;
+use tests_texts::verdict::each_passes;
 
 /// A text, the place of what is told of it first, and key words of it.
 type Row = (&'static str, &'static str, &'static str);
@@ -846,44 +848,33 @@ static OTHERS_3: [Row; 21] = [
 ];
 
 // Whether what is told of a row's text stands at its place, and has its key words.
-fn is_told(alloc: Global, row: &Row) -> bool {
+fn is_told(alloc: Global, row: &Row) -> Result<bool, Fail> {
     let (text, place, words) = row;
-    let Ok(told) = told_of(alloc, text.as_bytes()) else {
-        return false;
-    };
+    let told = told_of(alloc, text.as_bytes())?;
     let told = told.as_slice();
     if place.is_empty() {
-        return told.is_empty();
+        return Ok(told.is_empty());
     }
     let line = told.strip_prefix(b"-:".as_slice()).unwrap_or(b"");
     let rest = line.strip_prefix(place.as_bytes()).unwrap_or(b"");
-    rest.starts_with(b": ".as_slice()) && has(told, words.as_bytes())
-}
-
-// Whether each of these texts is told as its row says.
-fn are_told(alloc: Global, rows: &[Row]) -> bool {
-    let mut right = true;
-    for row in rows {
-        right = is_told(alloc, row) && right;
-    }
-    right
+    Ok(rest.starts_with(b": ".as_slice()) && has(told, words.as_bytes()))
 }
 
 #[test]
-fn first_hour(rt: HostRuntime) {
-    assert!(rt; are_told(rt.alloc(), &FIRST_HOUR_1));
-    assert!(rt; are_told(rt.alloc(), &FIRST_HOUR_2));
+fn first_hour(rt: HostRuntime) -> Result<(), Fail> {
+    each_passes(rt.alloc(), FIRST_HOUR_1.as_slice(), is_told)?;
+    each_passes(rt.alloc(), FIRST_HOUR_2.as_slice(), is_told)
 }
 
 #[test]
-fn first_hour_further(rt: HostRuntime) {
-    assert!(rt; are_told(rt.alloc(), &FIRST_HOUR_3));
-    assert!(rt; are_told(rt.alloc(), &FIRST_HOUR_4));
+fn first_hour_further(rt: HostRuntime) -> Result<(), Fail> {
+    each_passes(rt.alloc(), FIRST_HOUR_3.as_slice(), is_told)?;
+    each_passes(rt.alloc(), FIRST_HOUR_4.as_slice(), is_told)
 }
 
 #[test]
-fn others(rt: HostRuntime) {
-    assert!(rt; are_told(rt.alloc(), &OTHERS_1));
-    assert!(rt; are_told(rt.alloc(), &OTHERS_2));
-    assert!(rt; are_told(rt.alloc(), &OTHERS_3));
+fn others(rt: HostRuntime) -> Result<(), Fail> {
+    each_passes(rt.alloc(), OTHERS_1.as_slice(), is_told)?;
+    each_passes(rt.alloc(), OTHERS_2.as_slice(), is_told)?;
+    each_passes(rt.alloc(), OTHERS_3.as_slice(), is_told)
 }

@@ -5,6 +5,8 @@
 use super::helpers::{errors_of, has};
 use cc_diagnostic::Diagnostic;
 use std::alloc::{AllocError, Global};
+use std::test::Fail;
+use tests_texts::verdict::each_passes;
 
 /// A text, and all that is told of it: the place, and key words.
 type Row = (&'static str, &'static [(&'static str, &'static str)]);
@@ -284,41 +286,30 @@ fn is_told(alloc: Global, text: &str, diagnostic: &Diagnostic, place: &str, word
 }
 
 // Whether exactly these errors are told of a row's text.
-fn are_all(alloc: Global, row: &Row) -> bool {
+fn are_all(alloc: Global, row: &Row) -> Result<bool, Fail> {
     let (text, wanted) = row;
-    let Ok(errors) = errors_of(alloc, text.as_bytes()) else {
-        return false;
-    };
+    let errors = errors_of(alloc, text.as_bytes())?;
     let mut right = errors.len() == wanted.len();
     for (error, (place, words)) in errors.iter().zip(wanted.iter()) {
         right = is_told(alloc, text, error, place, words) && right;
     }
     drop(errors);
-    right
+    Ok(right)
 }
 
 #[test]
-fn further_errors(rt: HostRuntime) {
-    for row in ROWS_1.iter() {
-        let text = row.0;
-        assert!(rt; are_all(rt.alloc(), row), "for {text}");
-    }
+fn further_errors(rt: HostRuntime) -> Result<(), Fail> {
+    each_passes(rt.alloc(), ROWS_1.as_slice(), are_all)
 }
 
 #[test]
-fn further_errors_of_declarations(rt: HostRuntime) {
-    for row in ROWS_2.iter() {
-        let text = row.0;
-        assert!(rt; are_all(rt.alloc(), row), "for {text}");
-    }
+fn further_errors_of_declarations(rt: HostRuntime) -> Result<(), Fail> {
+    each_passes(rt.alloc(), ROWS_2.as_slice(), are_all)
 }
 
 #[test]
-fn further_errors_after_which_some_are_none(rt: HostRuntime) {
-    for row in ROWS_3.iter() {
-        let text = row.0;
-        assert!(rt; are_all(rt.alloc(), row), "for {text}");
-    }
+fn further_errors_after_which_some_are_none(rt: HostRuntime) -> Result<(), Fail> {
+    each_passes(rt.alloc(), ROWS_3.as_slice(), are_all)
 }
 
 // A text with this many errors.
@@ -331,36 +322,33 @@ fn with_errors(alloc: Global, count: usize) -> Result<Vec<u8>, AllocError> {
     Ok(text)
 }
 
-// Whether of a text with `count` errors `told` are told, and behind them this.
-fn tells_at_last(alloc: Global, count: usize, told: usize, last: &[u8]) -> bool {
-    let Ok(text) = with_errors(alloc, count) else {
-        return false;
-    };
-    let Ok(errors) = errors_of(alloc, text.as_slice()) else {
-        return false;
-    };
+// How many errors a text has, how many are told, and what is told last.
+type Many = (usize, usize, &'static [u8]);
+
+fn tells_at_last(alloc: Global, row: &Many) -> Result<bool, Fail> {
+    let (count, told, last) = *row;
+    let text = with_errors(alloc, count)?;
+    let errors = errors_of(alloc, text.as_slice())?;
     let mut lines = Vec::new(alloc);
     if let Some(error) = errors.last() {
         let _ = error.write(text.as_slice(), &mut lines);
     }
     let found = errors.len();
     drop(errors);
-    found == told && lines.as_slice().starts_with(last)
+    Ok(found == told && lines.as_slice().starts_with(last))
 }
 
+const FURTHER: &[u8] = b"-: further errors are not told: correct these first\n";
+
+static MANY: [Many; 3] = [
+    (20, 20, b"-:21:1: 'break' stands outside a loop\n"),
+    (21, 21, FURTHER),
+    (25, 21, FURTHER),
+];
+
 #[test]
-fn twenty_at_most(rt: HostRuntime) {
-    let further = b"-: further errors are not told: correct these first\n";
-    assert!(rt;
-        tells_at_last(
-            rt.alloc(),
-            20,
-            20,
-            b"-:21:1: 'break' stands outside a loop\n"
-        )
-    );
-    assert!(rt; tells_at_last(rt.alloc(), 21, 21, further));
-    assert!(rt; tells_at_last(rt.alloc(), 25, 21, further));
+fn twenty_at_most(rt: HostRuntime) -> Result<(), Fail> {
+    each_passes(rt.alloc(), MANY.as_slice(), tells_at_last)
 }
 
 // A text of this many bytes with two names that are declared nowhere.
@@ -382,6 +370,6 @@ fn count_of(alloc: Global, length: usize) -> Option<usize> {
 // Before the second error is found, `int A;` stands before the text.
 #[test]
 fn a_copy_that_is_too_large(rt: HostRuntime) {
-    assert!(rt; count_of(rt.alloc(), 65_530) == Some(2));
-    assert!(rt; count_of(rt.alloc(), 65_531) == Some(1));
+    let counts = [count_of(rt.alloc(), 65_530), count_of(rt.alloc(), 65_531)];
+    assert!(rt; counts == [Some(2), Some(1)]);
 }

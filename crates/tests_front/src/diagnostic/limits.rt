@@ -2,6 +2,8 @@
 
 use super::helpers::tells;
 use std::alloc::{AllocError, Global};
+use std::test::Fail;
+use tests_texts::verdict::each_passes;
 
 /// A part of a text or of what is told, and how often it stands there.
 type Part = (&'static str, usize);
@@ -134,19 +136,15 @@ static ROWS: [Row; 8] = [
 ];
 
 // Whether what is told of the text of a row is the row's.
-fn is_told(alloc: Global, row: &Row) -> bool {
-    let (text, told) = row;
-    let (Ok(text), Ok(told)) = (bytes_of(alloc, text), bytes_of(alloc, told)) else {
-        return false;
-    };
-    tells(alloc, text.as_slice(), told.as_slice())
+fn is_told(alloc: Global, row: &Row) -> Result<bool, Fail> {
+    let text = bytes_of(alloc, row.0)?;
+    let told = bytes_of(alloc, row.1)?;
+    Ok(tells(alloc, text.as_slice(), told.as_slice()))
 }
 
 #[test]
-fn limits(rt: HostRuntime) {
-    for (i, row) in ROWS.iter().enumerate() {
-        assert!(rt; is_told(rt.alloc(), row), "row {i}");
-    }
+fn limits(rt: HostRuntime) -> Result<(), Fail> {
+    each_passes(rt.alloc(), ROWS.as_slice(), is_told)
 }
 
 // A text with this many functions, each on a line of its own, and then `main`.
@@ -174,6 +172,5 @@ fn defined_functions(rt: HostRuntime) {
    65 | int main(void){}
       |     ^
 ";
-    assert!(rt; functions_tell(rt.alloc(), 63, ""));
-    assert!(rt; functions_tell(rt.alloc(), 64, told));
+    assert!(rt; functions_tell(rt.alloc(), 63, "") && functions_tell(rt.alloc(), 64, told));
 }

@@ -4,9 +4,13 @@ use super::helpers::told_of_run;
 use cc_meaning::Cause;
 use cc_run_diagnostic::of_wrong;
 use std::alloc::Global;
+use std::test::Fail;
+use tests_texts::verdict::each_passes;
 
 // Texts, the words of the input, and what is told of a run of each: the place, the values and the function.
-static RUNS: [(&str, &[u32], &str); 34] = [
+type Row = (&'static str, &'static [u32], &'static str);
+
+static RUNS: [Row; 34] = [
     (
         "int a[3];\nint main(void){\n  int i;\n  for(i=0;i<4;i++)write_word(a[i]);\n}",
         &[],
@@ -289,14 +293,13 @@ fn tells_of_run(alloc: Global, text: &str, input: &[u32], steps: u64, told: &str
     }
 }
 
+fn is_told(alloc: Global, row: &Row) -> Result<bool, Fail> {
+    Ok(tells_of_run(alloc, row.0, row.1, 5000, row.2))
+}
+
 #[test]
-fn runs_that_go_wrong(rt: HostRuntime) {
-    for (text, input, told) in RUNS.iter() {
-        assert!(rt;
-            tells_of_run(rt.alloc(), text, input, 5000, told),
-            "for {text}"
-        );
-    }
+fn runs_that_go_wrong(rt: HostRuntime) -> Result<(), Fail> {
+    each_passes(rt.alloc(), RUNS.as_slice(), is_told)
 }
 
 // The fourth turn of the loop goes wrong: main's step and those of four turns are needed.
@@ -308,12 +311,14 @@ fn the_last_step(rt: HostRuntime) {
     1 | int a[3];int main(void){int i;for(i=0;i<9;i++)a[i]=1;}
       |                                               ^
 ";
-    assert!(rt; tells_of_run(rt.alloc(), FOURTH, &[], 5, told));
-    assert!(rt; tells_of_run(rt.alloc(), FOURTH, &[], 4, ""));
+    let fifth = tells_of_run(rt.alloc(), FOURTH, &[], 5, told);
+    assert!(rt; fifth && tells_of_run(rt.alloc(), FOURTH, &[], 4, ""));
 }
 
 // Texts whose run does not go wrong for this cause within 5 steps, and texts that are none.
-static SILENT: [(&str, Cause); 5] = [
+type Silent = (&'static str, Cause);
+
+static SILENT: [Silent; 5] = [
     ("int main(void){return 1/0;}", Cause::Shift),
     ("int main(void){return 1;}", Cause::Division),
     ("int main(void){while(1);return 1/0;}", Cause::Division),
@@ -322,20 +327,12 @@ static SILENT: [(&str, Cause); 5] = [
 ];
 
 // Whether nothing is told of a run for a cause.
-fn is_silent(alloc: Global, text: &str, cause: Cause) -> bool {
-    match of_wrong(alloc, text.as_bytes(), &[], 5, cause) {
-        Ok(None) => true,
-        Ok(Some(told)) => {
-            drop(told);
-            false
-        }
-        Err(_) => false,
-    }
+fn is_silent(alloc: Global, row: &Silent) -> Result<bool, Fail> {
+    let told = of_wrong(alloc, row.0.as_bytes(), &[], 5, row.1)?;
+    Ok(told.is_none())
 }
 
 #[test]
-fn runs_of_which_nothing_is_told(rt: HostRuntime) {
-    for (text, cause) in SILENT.iter() {
-        assert!(rt; is_silent(rt.alloc(), text, *cause), "for {text}");
-    }
+fn runs_of_which_nothing_is_told(rt: HostRuntime) -> Result<(), Fail> {
+    each_passes(rt.alloc(), SILENT.as_slice(), is_silent)
 }

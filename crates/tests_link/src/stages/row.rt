@@ -262,10 +262,8 @@ slots 0, entry 0
   v24 = call f0(0)
   write v24
   v24 = 0
-  skip
   write add(add(add(add(add(add(add(add(add(add(add(add(add(add(add(add(add(add(add(add(add(add(add(v0, v1), v2), v3), v4), v5), v6), v7), v8), v9), v10), v11), v12), v13), v14), v15), v16), v17), v18), v19), v20), v21), v22), v23)
   v24 = 0
-  skip
 ",
         ],
     ),

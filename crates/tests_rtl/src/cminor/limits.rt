@@ -4,6 +4,7 @@ use super::helpers::all_go_through;
 use std::alloc::{AllocError, Global};
 use std::test::Fail;
 use tests_texts::parts::{Part, append, text_of};
+use tests_texts::verdict::{each_passes, passes};
 
 // Whether a text has some 64 KiB, and its one function goes through.
 fn is_long_and_goes_through(alloc: Global, text: &[u8]) -> Result<bool, Fail> {
@@ -33,25 +34,18 @@ static BRANCHING: [Body; 4] = [
     ("int x;int main(void){", "x=x&&x||read_word();", 3_200),
 ];
 
-fn bodies_go_through(alloc: Global, bodies: &[Body]) -> Result<bool, Fail> {
-    let mut right = true;
-    for (before, part, times) in bodies {
-        let parts = [(*before, 1), (*part, *times), ("}", 1)];
-        right = goes_through(alloc, &parts)? && right;
-    }
-    Ok(right)
+fn body_goes_through(alloc: Global, body: &Body) -> Result<bool, Fail> {
+    goes_through(alloc, &[(body.0, 1), (body.1, body.2), ("}", 1)])
 }
 
 #[test]
 fn straight_bodies(rt: HostRuntime) -> Result<(), Fail> {
-    assert!(rt; bodies_go_through(rt.alloc(), STRAIGHT.as_slice())?);
-    Ok(())
+    each_passes(rt.alloc(), STRAIGHT.as_slice(), body_goes_through)
 }
 
 #[test]
 fn choices_and_loops(rt: HostRuntime) -> Result<(), Fail> {
-    assert!(rt; bodies_go_through(rt.alloc(), BRANCHING.as_slice())?);
-    Ok(())
+    each_passes(rt.alloc(), BRANCHING.as_slice(), body_goes_through)
 }
 
 /// A statement whose full expression has about 512 tokens: what is repeated, how often, what stands within, what is repeated
@@ -88,37 +82,29 @@ fn text_of_row(alloc: Global, row: &Row) -> Result<Vec<u8>, AllocError> {
     Ok(text)
 }
 
-fn rows_go_through(alloc: Global, rows: &[Row]) -> Result<bool, Fail> {
-    let mut right = true;
-    for row in rows {
-        let text = text_of_row(alloc, row)?;
-        right = is_long_and_goes_through(alloc, text.as_slice())? && right;
-    }
-    Ok(right)
+fn row_goes_through(alloc: Global, row: &Row) -> Result<bool, Fail> {
+    let text = text_of_row(alloc, row)?;
+    is_long_and_goes_through(alloc, text.as_slice())
 }
 
 #[test]
 fn sums(rt: HostRuntime) -> Result<(), Fail> {
-    assert!(rt; rows_go_through(rt.alloc(), SUMS.as_slice())?);
-    Ok(())
+    each_passes(rt.alloc(), SUMS.as_slice(), row_goes_through)
 }
 
 #[test]
 fn nested_operands(rt: HostRuntime) -> Result<(), Fail> {
-    assert!(rt; rows_go_through(rt.alloc(), NESTED.as_slice())?);
-    Ok(())
+    each_passes(rt.alloc(), NESTED.as_slice(), row_goes_through)
 }
 
 #[test]
 fn logical_operators(rt: HostRuntime) -> Result<(), Fail> {
-    assert!(rt; rows_go_through(rt.alloc(), LOGICAL.as_slice())?);
-    Ok(())
+    each_passes(rt.alloc(), LOGICAL.as_slice(), row_goes_through)
 }
 
 #[test]
 fn values_that_wait(rt: HostRuntime) -> Result<(), Fail> {
-    assert!(rt; rows_go_through(rt.alloc(), WAITING.as_slice())?);
-    Ok(())
+    each_passes(rt.alloc(), WAITING.as_slice(), row_goes_through)
 }
 
 // A call within a call, 170 deep: each argument is a call.
@@ -127,8 +113,7 @@ fn calls_within_calls(rt: HostRuntime) -> Result<(), Fail> {
     let before = ("int f(int n){return n;}int main(void){", 1);
     let one = [before, ("f(", 170), ("1", 1), (")", 170), (";}", 1)];
     let text = text_of(rt.alloc(), &one)?;
-    assert!(rt; all_go_through(rt.alloc(), text.as_slice(), 2)?);
-    Ok(())
+    passes(all_go_through(rt.alloc(), text.as_slice(), 2))
 }
 
 // Loops 61 deep, with statements in the innermost one's block.
@@ -141,8 +126,7 @@ fn levels(rt: HostRuntime) -> Result<(), Fail> {
         ("x++;", 16_000),
         ("}}", 1),
     ];
-    assert!(rt; goes_through(rt.alloc(), &parts)?);
-    Ok(())
+    passes(goes_through(rt.alloc(), &parts))
 }
 
 // Blocks 60 deep with a local each.
@@ -154,8 +138,7 @@ fn locals_within(rt: HostRuntime) -> Result<(), Fail> {
         ("x=a+a;", 10_700),
         ("}", 61),
     ];
-    assert!(rt; goes_through(rt.alloc(), &parts)?);
-    Ok(())
+    passes(goes_through(rt.alloc(), &parts))
 }
 
 // 256 locals one behind the other.
@@ -167,6 +150,5 @@ fn locals_behind(rt: HostRuntime) -> Result<(), Fail> {
         ("x=x+x+x+x;", 6_100),
         ("}", 1),
     ];
-    assert!(rt; goes_through(rt.alloc(), &parts)?);
-    Ok(())
+    passes(goes_through(rt.alloc(), &parts))
 }

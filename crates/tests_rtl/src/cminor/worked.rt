@@ -2,10 +2,9 @@
 
 use super::helpers::CminorStage;
 use std::test::Fail;
-use tests_texts::stages::first_stopped;
+use tests_texts::stages::takes_all;
 
 #[test]
 fn each_function_goes_through(rt: HostRuntime) -> Result<(), Fail> {
-    assert_eq!(rt; first_stopped::<CminorStage>(rt.alloc())?, None);
-    Ok(())
+    takes_all::<CminorStage>(rt.alloc())
 }

@@ -2,35 +2,29 @@
 
 use crate::flow::live::{A, B, C, graph, idle, put, set};
 use cc_flow::solve_backward;
-use std::process::Abort;
+use std::alloc::Global;
 use std::test::Fail;
+use tests_texts::verdict::passes;
 
 // Solves code whose nodes read, write and have live in front of them these variables, and compares the last.
-fn has_live(
-    rt: &(impl Abort + AllocGlobal),
-    nodes: &[(u8, u8, u8)],
-    edges: &[(usize, usize)],
-) -> Result<(), Fail> {
-    let alloc = rt.alloc();
+fn has_live(alloc: Global, nodes: &[(u8, u8, u8)], edges: &[(usize, usize)]) -> Result<(), Fail> {
     let mut code = idle(alloc, nodes.len())?;
     for (i, (reads, writes, _)) in nodes.iter().enumerate() {
         put(&mut code, i, *reads, *writes);
     }
     let graph = graph(alloc, nodes.len(), edges)?;
     let solution = solve_backward(alloc, &graph, &code)?;
-    assert!(rt; solution.as_slice().len() == nodes.len());
+    let are_all = solution.as_slice().len() == nodes.len();
     let sets = solution.into_vec();
-    for (i, (_, _, wanted)) in nodes.iter().enumerate() {
-        assert!(rt; sets.get(i).copied() == Some(set(*wanted)), "at {i}");
-    }
-    Ok(())
+    let mut pairs = sets.iter().zip(nodes);
+    passes(Ok(are_all && pairs.all(|(found, (_, _, wanted))| *found == set(*wanted))))
 }
 
 // Appel, Modern Compiler Implementation, 10.1: a := 0; b := a + 1; c := c + b; a := b * 2; if a < n goto the second; return c.
 #[test]
 fn the_textbook_loop(rt: HostRuntime) -> Result<(), Fail> {
     has_live(
-        &rt,
+        rt.alloc(),
         &[
             (0, A, C),
             (A, B, A | C),
@@ -46,7 +40,7 @@ fn the_textbook_loop(rt: HostRuntime) -> Result<(), Fail> {
 #[test]
 fn straight_code(rt: HostRuntime) -> Result<(), Fail> {
     has_live(
-        &rt,
+        rt.alloc(),
         &[(0, A, 0), (A, B, A), (B, 0, B), (0, 0, 0)],
         &[(0, 1), (1, 2), (2, 3)],
     )
@@ -56,7 +50,7 @@ fn straight_code(rt: HostRuntime) -> Result<(), Fail> {
 #[test]
 fn nested_loops(rt: HostRuntime) -> Result<(), Fail> {
     has_live(
-        &rt,
+        rt.alloc(),
         &[
             (0, A, B | C),
             (A, 0, A | B | C),
@@ -83,7 +77,7 @@ fn nested_loops(rt: HostRuntime) -> Result<(), Fail> {
 #[test]
 fn unreachable_nodes(rt: HostRuntime) -> Result<(), Fail> {
     has_live(
-        &rt,
+        rt.alloc(),
         &[(0, 0, B), (B, 0, B), (0, 0, 0), (C, 0, B | C), (A, B, A)],
         &[(0, 1), (1, 2), (3, 1), (4, 4)],
     )
@@ -91,5 +85,5 @@ fn unreachable_nodes(rt: HostRuntime) -> Result<(), Fail> {
 
 #[test]
 fn no_nodes(rt: HostRuntime) -> Result<(), Fail> {
-    has_live(&rt, &[], &[])
+    has_live(rt.alloc(), &[], &[])
 }

@@ -76,7 +76,7 @@ pub fn asked_of(
 }
 
 /// How many nodes of a function are no nops: of all, of those that are left without dead ones, and without faint ones.
-#[derive(Clone, Copy)]
+#[derive(Clone, Copy, PartialEq)]
 pub struct Left {
     pub all: usize,
     pub live: usize,

@@ -4,6 +4,7 @@ use super::helpers::{Left, left_of};
 use std::alloc::{AllocError, Global};
 use std::fmt::Write;
 use std::test::Fail;
+use tests_texts::verdict::each_passes;
 
 // A function that reads 200 variables and then, in a loop, moves each to the one before this many times, and returns one value.
 fn rotating(alloc: Global, times: usize, value: &str) -> Result<String, AllocError> {
@@ -26,7 +27,9 @@ fn rotating(alloc: Global, times: usize, value: &str) -> Result<String, AllocErr
 /// How often the variables move, which value is returned, and how many nodes are no nops: at first, without dead ones, without faint
 /// ones. A declaration takes a constant, which is dead, a read and a move, the loop a nop, a read and a branch, and a return of a
 /// constant two nodes. Where no variable is returned, what `v0` first gets is read by nobody, since the loop sets it first.
-static ROTATIONS: [(usize, &str, Left); 3] = [
+type Row = (usize, &'static str, Left);
+
+static ROTATIONS: [Row; 3] = [
     (
         16,
         "v0",
@@ -56,18 +59,15 @@ static ROTATIONS: [(usize, &str, Left); 3] = [
     ),
 ];
 
+fn is_left(alloc: Global, row: &Row) -> Result<bool, Fail> {
+    let text = rotating(alloc, row.0, row.1)?;
+    match left_of(alloc, text.as_bytes(), 0)? {
+        Some(left) => Ok(left == row.2),
+        None => Ok(false),
+    }
+}
+
 #[test]
 fn rotations(rt: HostRuntime) -> Result<(), Fail> {
-    for (times, value, left) in ROTATIONS.iter() {
-        let text = rotating(rt.alloc(), *times, value)?;
-        match left_of(rt.alloc(), text.as_bytes(), 0)? {
-            Some(shown) => {
-                assert_eq!(rt; shown.all, left.all, "{times} {value}");
-                assert_eq!(rt; shown.live, left.live, "{times} {value}");
-                assert_eq!(rt; shown.strongly_live, left.strongly_live, "{times} {value}");
-            }
-            None => assert!(rt; false, "{times} {value}"),
-        }
-    }
-    Ok(())
+    each_passes(rt.alloc(), ROTATIONS.as_slice(), is_left)
 }

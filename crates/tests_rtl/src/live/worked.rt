@@ -3,9 +3,19 @@
 use super::helpers::{Asked, asked_of};
 use std::alloc::Global;
 use std::test::Fail;
+use tests_texts::verdict::each_passes;
 
 /// A text, what is asked of its first function, and the answer.
-static ANSWERS: [(&str, Asked, &str); 11] = [
+type Row = (&'static str, Asked, &'static str);
+
+fn is_answered(alloc: Global, row: &Row) -> Result<bool, Fail> {
+    match asked_of(alloc, row.0.as_bytes(), 0, row.1)? {
+        Some(shown) => Ok(shown.as_str() == row.2),
+        None => Ok(false),
+    }
+}
+
+static ANSWERS: [Row; 11] = [
     // a parameter that is returned; behind the return stands what a function that runs off its end returns
     (
         "int f(int x){return x;}int main(void){}",
@@ -208,11 +218,5 @@ static ANSWERS: [(&str, Asked, &str); 11] = [
 
 #[test]
 fn answers(rt: HostRuntime) -> Result<(), Fail> {
-    for (text, asked, answer) in ANSWERS.iter() {
-        match asked_of(rt.alloc(), text.as_bytes(), 0, *asked)? {
-            Some(shown) => assert_eq!(rt; shown.as_str(), *answer, "{text}"),
-            None => assert!(rt; false, "{text}"),
-        }
-    }
-    Ok(())
+    each_passes(rt.alloc(), ANSWERS.as_slice(), is_answered)
 }

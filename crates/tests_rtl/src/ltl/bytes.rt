@@ -3,6 +3,7 @@
 use cc_ltl::{LtlFault, read_ltl, write_ltl};
 use std::alloc::Global;
 use std::test::Fail;
+use tests_texts::verdict::{each_passes, passes};
 
 // One block with label 0 that returns, no slots, entry 0.
 static RETURNS: [u8; 21] =
@@ -49,25 +50,27 @@ fn is_changed(alloc: Global, bytes: &[u8], place: usize, value: u8) -> Result<bo
 
 #[test]
 fn functions_are_read_and_written(rt: HostRuntime) -> Result<(), Fail> {
-    assert!(rt; is_function(rt.alloc(), &RETURNS)?);
-    assert!(rt; is_function(rt.alloc(), &DIFFERENCE)?);
-    assert!(rt; is_function(rt.alloc(), &KINDS)?);
-    Ok(())
+    let functions: [&[u8]; 3] = [&RETURNS, &DIFFERENCE, &KINDS];
+    each_passes(
+        rt.alloc(),
+        &functions,
+        |alloc, bytes| is_function(alloc, bytes),
+    )
+}
+
+fn is_damaged(alloc: Global, bytes: &[u8]) -> Result<bool, Fail> {
+    Ok(!is_function(alloc, bytes)?)
 }
 
 #[test]
 fn shorter_and_longer_bytes_are_damaged(rt: HostRuntime) -> Result<(), Fail> {
     for length in 0..DIFFERENCE.len() {
-        assert!(rt;
-            !is_function(rt.alloc(), &DIFFERENCE[..length])?,
-            "{length} bytes"
-        );
+        passes(is_damaged(rt.alloc(), &DIFFERENCE[..length]))?;
     }
-    assert!(rt; !is_function(rt.alloc(), &RETURNS[..20])?);
     let mut longer = Vec::from_slice(rt.alloc(), &RETURNS)?;
     longer.push(0)?;
-    assert!(rt; !is_function(rt.alloc(), longer.as_slice())?);
-    Ok(())
+    passes(is_damaged(rt.alloc(), longer.as_slice()))?;
+    passes(is_damaged(rt.alloc(), &RETURNS[..20]))
 }
 
 // Each byte of the three blocks in turn, and each value: another function, or none.
@@ -81,113 +84,107 @@ fn each_byte_changed(rt: HostRuntime) -> Result<(), Fail> {
             }
         }
     }
-    assert!(rt; functions > 78, "{functions} functions");
-    Ok(())
+    passes(Ok(functions > 78))
 }
 
 // A byte of the function with each operation, and whether a function is left.
-#[test]
-fn limits(rt: HostRuntime) -> Result<(), Fail> {
-    for (place, value, right) in [
-        // 257 and 513 slots
-        (1, 1, true),
-        (1, 2, false),
-        // an operation, an operator of one word and of two words, a move: each the last that there is, and one more
-        (18, 8, true),
-        (18, 11, false),
-        (50, 2, true),
-        (50, 3, false),
-        (66, 18, true),
-        (66, 19, false),
-        (122, 3, false),
-        // a register beyond each end
-        (32, 7, true),
-        (32, 6, false),
-        (32, 5, false),
-        (32, 31, true),
-        (32, 32, false),
-        // the slot that is their number
-        (137, 1, false),
-        // the label before and the one after
-        (25, 0, false),
-        (25, 2, false),
-        // the widths are 1 and 4
-        (83, 1, true),
-        (83, 2, false),
-        (83, 3, false),
-        (83, 5, false),
-    ] {
-        assert!(rt;
-            is_changed(rt.alloc(), &KINDS, place, value)? == right,
-            "{value} at {place}"
-        );
-    }
-    Ok(())
+type Limit = (usize, u8, bool);
+
+fn is_limit(alloc: Global, row: &Limit) -> Result<bool, Fail> {
+    Ok(is_changed(alloc, &KINDS, row.0, row.1)? == row.2)
 }
 
-// The bytes of a function up to its block's operation, and what comes then.
-fn is_with_tail(alloc: Global, tail: &[u8]) -> Result<bool, Fail> {
+#[test]
+fn limits(rt: HostRuntime) -> Result<(), Fail> {
+    each_passes(rt.alloc(), LIMITS.as_slice(), is_limit)
+}
+
+static LIMITS: [Limit; 21] = [
+    // 257 and 513 slots
+    (1, 1, true),
+    (1, 2, false),
+    // an operation, an operator of one word and of two words, a move: each the last that there is, and one more
+    (18, 8, true),
+    (18, 11, false),
+    (50, 2, true),
+    (50, 3, false),
+    (66, 18, true),
+    (66, 19, false),
+    (122, 3, false),
+    // a register beyond each end
+    (32, 7, true),
+    (32, 6, false),
+    (32, 5, false),
+    (32, 31, true),
+    (32, 32, false),
+    // the slot that is their number
+    (137, 1, false),
+    // the label before and the one after
+    (25, 0, false),
+    (25, 2, false),
+    // the widths are 1 and 4
+    (83, 1, true),
+    (83, 2, false),
+    (83, 3, false),
+    (83, 5, false),
+];
+
+// What comes behind the bytes of a function up to its block's operation, and whether that is a function.
+type Tail = (&'static [u8], bool);
+
+fn is_with_tail(alloc: Global, row: &Tail) -> Result<bool, Fail> {
     let mut bytes = Vec::from_slice(alloc, &RETURNS[..18])?;
-    bytes.extend_from_slice(tail)?;
-    is_function(alloc, bytes.as_slice())
+    bytes.extend_from_slice(row.0)?;
+    Ok(is_function(alloc, bytes.as_slice())? == row.1)
 }
 
 #[test]
 fn no_move_stands_behind_a_branch_or_a_return(rt: HostRuntime) -> Result<(), Fail> {
-    assert!(rt; is_with_tail(rt.alloc(), b"\x00\x00\x00\x00\x00\x01\x00\x00\x07\x08")?);
-    assert!(rt; !is_with_tail(rt.alloc(), b"\x0a\x01\x00\x00\x07\x08")?);
-    assert!(rt;
-        !is_with_tail(
-            rt.alloc(),
-            b"\x09\x07\x00\x00\x00\x00\x00\x00\x00\x00\x01\x00\x00\x07\x08"
-        )?
-    );
-    assert!(rt;
-        is_with_tail(
-            rt.alloc(),
-            b"\x09\x07\x00\x00\x00\x00\x00\x00\x00\x00\x00\x00"
-        )?
-    );
-    Ok(())
+    let table: [Tail; 4] = [
+        (b"\x00\x00\x00\x00\x00\x01\x00\x00\x07\x08", true),
+        (b"\x0a\x01\x00\x00\x07\x08", false),
+        (
+            b"\x09\x07\x00\x00\x00\x00\x00\x00\x00\x00\x01\x00\x00\x07\x08",
+            false,
+        ),
+        (b"\x09\x07\x00\x00\x00\x00\x00\x00\x00\x00\x00\x00", true),
+    ];
+    each_passes(rt.alloc(), &table, is_with_tail)
 }
 
-// What a function prints.
-fn is_listed(alloc: Global, bytes: &[u8], text: &str) -> Result<bool, Fail> {
-    let Ok(ltl) = read_ltl(alloc, bytes) else {
+// The bytes of a function, and what it prints.
+type Listed = (&'static [u8], &'static str);
+
+fn is_listed(alloc: Global, row: &Listed) -> Result<bool, Fail> {
+    let Ok(ltl) = read_ltl(alloc, row.0) else {
         return Err(Fail::from("the bytes are no function"));
     };
     let listing = ltl.to_string(alloc)?;
-    Ok(listing.as_str() == text)
+    Ok(listing.as_str() == row.1)
 }
 
 #[test]
 fn listings(rt: HostRuntime) -> Result<(), Fail> {
-    assert!(rt;
-        is_listed(
-            rt.alloc(),
+    let table: [Listed; 2] = [
+        (
             &DIFFERENCE,
-            "slots 3, entry 0\n0: slot0 = x10; slot1 = x11; nop -> 1\n1: x7 = slot0; x8 = slot1; x7 = sub x7, x8; slot2 = x7; x9 = x7 -> 300\n300: x10 = slot2; return\n"
-        )?
-    );
-    assert!(rt;
-        is_listed(
-            rt.alloc(),
+            "slots 3, entry 0\n0: slot0 = x10; slot1 = x11; nop -> 1\n1: x7 = slot0; x8 = slot1; x7 = sub x7, x8; slot2 = x7; x9 = x7 -> 300\n300: x10 = slot2; return\n",
+        ),
+        (
             &KINDS,
-            "slots 1, entry 0\n0: nop -> 1\n1: x7 = 4294967295 -> 2\n2: x8 = complement x7 -> 3\n3: x31 = le_u x8, x7 -> 4\n4: x9 = object2[x31] -> 5\n5: object258[x9] = x8 -> 6\n6: x10 = x9; call 63; slot0 = x10 -> 7\n7: read -> 8\n8: write -> 9\n9: branch x7 -> 0, 4294967295\n4294967295: return\n"
-        )?
-    );
-    Ok(())
+            "slots 1, entry 0\n0: nop -> 1\n1: x7 = 4294967295 -> 2\n2: x8 = complement x7 -> 3\n3: x31 = le_u x8, x7 -> 4\n4: x9 = object2[x31] -> 5\n5: object258[x9] = x8 -> 6\n6: x10 = x9; call 63; slot0 = x10 -> 7\n7: read -> 8\n8: write -> 9\n9: branch x7 -> 0, 4294967295\n4294967295: return\n",
+        ),
+    ];
+    each_passes(rt.alloc(), &table, is_listed)
+}
+
+fn is_fault(alloc: Global, fault: LtlFault, number: u32, name: &str) -> Result<bool, Fail> {
+    let shown = fault.to_string(alloc)?;
+    Ok(fault.number() == number && shown.as_str() == name)
 }
 
 #[test]
 fn faults(rt: HostRuntime) -> Result<(), Fail> {
-    for (fault, number, name) in [
-        (LtlFault::Damaged, 37, "Damaged"),
-        (LtlFault::OutOfMemory, 40, "OutOfMemory"),
-    ] {
-        assert!(rt; fault.number() == number);
-        let shown = fault.to_string(rt.alloc())?;
-        assert!(rt; shown.as_str() == name);
-    }
-    Ok(())
+    passes(is_fault(rt.alloc(), LtlFault::Damaged, 37, "Damaged"))?;
+    passes(is_fault(rt.alloc(), LtlFault::OutOfMemory, 40, "OutOfMemory"))
 }

@@ -3,22 +3,15 @@
 use cc_ltl::{Block, Ltl, Move, Moves, Operation, Register, Slot, write_ltl};
 use std::alloc::Global;
 use std::test::Fail;
+use tests_texts::verdict::{each_passes, passes};
 
 #[test]
 fn registers_and_slots(rt: HostRuntime) {
-    for (number, right) in [
-        (0, false),
-        (5, false),
-        (6, false),
-        (7, true),
-        (31, true),
-        (32, false),
-    ] {
-        assert!(rt; Register::new(number).is_some() == right, "x{number}");
-    }
-    for (number, right) in [(0, true), (494, true), (495, false)] {
-        assert!(rt; Slot::new(number).is_some() == right, "slot {number}");
-    }
+    let registers = [0, 5, 6, 7, 31, 32].map(|number| Register::new(number).is_some());
+    let slots = [0, 494, 495].map(|number| Slot::new(number).is_some());
+    assert!(rt;
+        registers == [false, false, false, true, true, false] && slots == [true, true, false]
+    );
 }
 
 // A block of this label with these moves before and no move after.
@@ -64,23 +57,25 @@ fn two_blocks(alloc: Global, slots: u16, first: u32, second: u32) -> Result<Opti
     }
 }
 
+// Slots, two labels, and whether there is such a function.
+type Parts = (u16, u32, u32, bool);
+
+fn is_made(alloc: Global, row: &Parts) -> Result<bool, Fail> {
+    let made = two_blocks(alloc, row.0, row.1, row.2)?;
+    Ok(made.is_some() == row.3)
+}
+
 #[test]
 fn functions_from_parts(rt: HostRuntime) -> Result<(), Fail> {
-    for (slots, first, second, right) in [
+    let rows = [
         (3, 0, 1, true),
         (495, 0, 1, true),
         (496, 0, 1, false),
         (2, 0, 1, false),
         (3, 1, 1, false),
         (3, 2, 1, false),
-    ] {
-        let made = two_blocks(rt.alloc(), slots, first, second)?;
-        assert!(rt;
-            made.is_some() == right,
-            "{slots} slots, labels {first} and {second}"
-        );
-    }
-    Ok(())
+    ];
+    each_passes(rt.alloc(), &rows, is_made)
 }
 
 // 3 slots, entry 0, two blocks.
@@ -92,9 +87,9 @@ fn made_functions_are_written(rt: HostRuntime) -> Result<(), Fail> {
     let Some(ltl) = two_blocks(rt.alloc(), 3, 0, 1)? else {
         return Err(Fail::from("the parts are a function"));
     };
-    assert!(rt; ltl.slots() == 3 && ltl.entry() == 0 && ltl.blocks().len() == 2);
-    assert!(rt; write_ltl(rt.alloc(), &ltl)?.as_slice() == TWO.as_slice());
-    Ok(())
+    let has_parts = ltl.slots() == 3 && ltl.entry() == 0 && ltl.blocks().len() == 2;
+    let bytes = write_ltl(rt.alloc(), &ltl)?;
+    passes(Ok(has_parts && bytes.as_slice() == TWO.as_slice()))
 }
 
 #[test]
@@ -103,7 +98,7 @@ fn moves_have_a_limit(rt: HostRuntime) -> Result<(), Fail> {
         return Err(Fail::from("no register"));
     };
     let copy = Move::Between { to: x8, from: x8 };
-    assert!(rt; Moves::new(vec![in rt.alloc(); copy; 65_535]?).is_ok());
-    assert!(rt; Moves::new(vec![in rt.alloc(); copy; 65_536]?).is_err());
-    Ok(())
+    let most = Moves::new(vec![in rt.alloc(); copy; 65_535]?).is_ok();
+    let more = Moves::new(vec![in rt.alloc(); copy; 65_536]?).is_ok();
+    passes(Ok(most && !more))
 }

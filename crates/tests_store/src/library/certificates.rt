@@ -1,6 +1,6 @@
 // Bodies of both versions on a disk: files that were written before certificates came, and units with one.
 
-use crate::library::helpers::{formatted, name, opened, refusal, unit};
+use crate::library::helpers::{formatted, name, number, opened, refusal, unit};
 use cc_disk::MemoryDisk;
 use cc_journal::Journal;
 use cc_library::Library;
@@ -8,6 +8,7 @@ use cc_unit::{Certificate, StoredUnit};
 use std::alloc::Global;
 use std::sync::Arc;
 use std::test::Fail;
+use tests_texts::verdict::{each_passes, passes};
 
 // An Add of `a` with the source `int main(void){}` and one code word 0, as it is written: without a certificate, with one without a
 // byte, and with one of two bytes.
@@ -65,8 +66,12 @@ fn has_certificate(library: &Library<MemoryDisk>, wanted: Option<&[u8]>) -> Resu
     })
 }
 
+// A record, and the certificate that `a` has by it.
+type Row = (&'static [u8], Option<&'static [u8]>);
+
 // Whether a disk with this record has `a` with that certificate, and `compact` writes the same record.
-fn is_kept(alloc: Global, body: &[u8], wanted: Option<&[u8]>) -> Result<bool, Fail> {
+fn is_kept(alloc: Global, row: &Row) -> Result<bool, Fail> {
+    let (body, wanted) = *row;
     let mut library = opened(alloc, disk_with(alloc, &[body])?)?;
     if !has_certificate(&library, wanted)? {
         return Ok(false);
@@ -81,11 +86,8 @@ fn is_kept(alloc: Global, body: &[u8], wanted: Option<&[u8]>) -> Result<bool, Fa
 
 #[test]
 fn compact_keeps_each_certificate(rt: HostRuntime) -> Result<(), Fail> {
-    let alloc = rt.alloc();
-    assert!(rt; is_kept(alloc, &NONE, None)?);
-    assert!(rt; is_kept(alloc, &EMPTY, Some(b"".as_slice()))?);
-    assert!(rt; is_kept(alloc, &TWO, Some(b"hi".as_slice()))?);
-    Ok(())
+    let table: [Row; 3] = [(&NONE, None), (&EMPTY, Some(b"")), (&TWO, Some(b"hi"))];
+    each_passes(rt.alloc(), &table, is_kept)
 }
 
 // These bytes with another first one.
@@ -97,39 +99,37 @@ fn of_version(alloc: Global, version: u8, body: &[u8]) -> Result<Vec<u8>, Fail> 
     Ok(bytes)
 }
 
+fn is_refused(alloc: Global, row: &(u8, &'static [u8])) -> Result<bool, Fail> {
+    let body = of_version(alloc, row.0, row.1)?;
+    Ok(refusal(alloc, disk_with(alloc, &[&body])?) == 37)
+}
+
 #[test]
 fn records_that_are_no_commands(rt: HostRuntime) -> Result<(), Fail> {
-    let alloc = rt.alloc();
     // Version 2 without its last field, and with a certificate that ends early; version 1 with a certificate; no version.
     let table: [(u8, &[u8]); 4] = [(2, &NONE), (2, &TWO[..41]), (1, &EMPTY), (3, &TWO)];
-    for (i, (version, body)) in table.iter().enumerate() {
-        let body = of_version(alloc, *version, body)?;
-        assert!(rt;
-            refusal(alloc, disk_with(alloc, &[&body])?) == 37,
-            "row {i}"
-        );
-    }
-    Ok(())
+    each_passes(rt.alloc(), &table, is_refused)
+}
+
+// Whether a disk with these records has `a` alone, without a certificate, or is empty.
+fn opens(alloc: Global, bodies: &[&[u8]], has_a: bool) -> Result<bool, Fail> {
+    let library = opened(alloc, disk_with(alloc, bodies)?)?;
+    Ok(has_certificate(&library, None)? == has_a && library.get(&name(b'a')?).is_some() == has_a)
+}
+
+// Whether what is written to a file of version 1 goes on in version 2.
+fn goes_on(alloc: Global) -> Result<bool, Fail> {
+    let mut library = opened(alloc, disk_with(alloc, &[&NONE])?)?;
+    library.withdraw(alloc, name(b'a')?)?;
+    has_records(alloc, library.into_disk(), &[&NONE, b"\x02\x03\x01a"])
 }
 
 #[test]
 fn files_of_version_1_open(rt: HostRuntime) -> Result<(), Fail> {
     let alloc = rt.alloc();
-    let library = opened(alloc, disk_with(alloc, &[&NONE, &WITHDRAW, &NONE])?)?;
-    assert!(rt; has_certificate(&library, None)?);
-    let library = opened(alloc, disk_with(alloc, &[&NONE, &WITHDRAW])?)?;
-    assert!(rt; library.get(&name(b'a')?).is_none());
-    // What is written to them goes on in version 2.
-    let mut library = opened(alloc, disk_with(alloc, &[&NONE])?)?;
-    library.withdraw(alloc, name(b'a')?)?;
-    assert!(rt;
-        has_records(
-            alloc,
-            library.into_disk(),
-            &[&NONE, b"\x02\x03\x01a".as_slice()]
-        )?
-    );
-    Ok(())
+    passes(opens(alloc, &[&NONE, &WITHDRAW, &NONE], true))?;
+    passes(opens(alloc, &[&NONE, &WITHDRAW], false))?;
+    passes(goes_on(alloc))
 }
 
 // The unit of one word with a certificate of this many bytes.
@@ -140,17 +140,15 @@ fn certified(alloc: Global, count: usize) -> Result<Arc<StoredUnit>, Fail> {
     Ok(Arc::new(alloc, stored)?)
 }
 
+// Whether adding `a` with a certificate of so many bytes is answered with this number.
+fn is_answered(alloc: Global, row: &(usize, u32)) -> Result<bool, Fail> {
+    let unit = certified(alloc, row.0)?;
+    let mut library = opened(alloc, formatted(alloc, 64)?)?;
+    Ok(number(library.add(alloc, name(b'a')?, unit)) == row.1)
+}
+
 #[test]
 fn a_certificate_that_has_no_room(rt: HostRuntime) -> Result<(), Fail> {
-    let alloc = rt.alloc();
     // A record of 45 bytes and its certificate, and the closed gate: 18 bytes are left in an area of 64.
-    for (count, number) in [(18usize, 0u32), (19, 34), (1000, 34)] {
-        let mut library = opened(alloc, formatted(alloc, 64)?)?;
-        let answer = match library.add(alloc, name(b'a')?, certified(alloc, count)?) {
-            Ok(()) => 0,
-            Err(fault) => fault.number(),
-        };
-        assert!(rt; answer == number, "{count} bytes");
-    }
-    Ok(())
+    each_passes(rt.alloc(), &[(18, 0), (19, 34), (1000, 34)], is_answered)
 }

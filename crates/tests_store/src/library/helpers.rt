@@ -108,6 +108,20 @@ pub fn does<D: Disk>(alloc: Global, library: &mut Library<D>, step: Step) -> Res
     }
 }
 
+/// Whether these steps, each done, are answered with these numbers.
+pub fn answers<D: Disk>(
+    alloc: Global,
+    library: &mut Library<D>,
+    steps: &[(Step, u32)],
+) -> Result<bool, Fail> {
+    for (step, number) in steps {
+        if does(alloc, library, *step)? != *number {
+            return Ok(false);
+        }
+    }
+    Ok(true)
+}
+
 /// Does these steps until one is refused: how many were done.
 pub fn steps_done<D: Disk>(
     alloc: Global,

@@ -6,11 +6,18 @@ use cc_disk::{FuseDisk, FuseMode, MemoryDisk};
 use cc_library::Library;
 use std::alloc::Global;
 use std::test::Fail;
+use tests_texts::verdict::{each_passes, passes};
+
+// Bytes of the row's disk that are changed, and the number of the refusal.
+type Row = (&'static [(usize, u8)], u32);
+
+fn is_refused(alloc: Global, row: &Row) -> Result<bool, Fail> {
+    Ok(refusal(alloc, row_disk(alloc, row.0)?) == row.1)
+}
 
 #[test]
 fn each_change_of_the_row(rt: HostRuntime) -> Result<(), Fail> {
-    let alloc = rt.alloc();
-    let table: [(&[(usize, u8)], u32); 13] = [
+    let table: [Row; 13] = [
         // Withdraw of an absent name, in both versions.
         (&[], 37),
         (&[(21, 2)], 37),
@@ -29,25 +36,19 @@ fn each_change_of_the_row(rt: HostRuntime) -> Result<(), Fail> {
         (&[(12, 1)], 38),
         (&[(8, 0x3f)], 38),
     ];
-    for (i, (changes, number)) in table.iter().enumerate() {
-        assert!(rt;
-            refusal(alloc, row_disk(alloc, changes)?) == *number,
-            "row {i}"
-        );
-    }
-    Ok(())
+    each_passes(rt.alloc(), &table, is_refused)
+}
+
+// Whether the row's disk with this gate is an empty library, or the gate is open.
+fn is_empty(alloc: Global, gate: u8) -> Result<bool, Fail> {
+    let disk = row_disk(alloc, &[(16, gate)])?;
+    Ok(gate == 0xa5 || recovers(alloc, disk, (None, None))?)
 }
 
 #[test]
 fn each_closed_gate_is_an_empty_library(rt: HostRuntime) -> Result<(), Fail> {
-    let alloc = rt.alloc();
     for gate in 0..=255u8 {
-        if gate != 0xa5 {
-            assert!(rt;
-                recovers(alloc, row_disk(alloc, &[(16, gate)])?, (None, None))?,
-                "gate {gate}"
-            );
-        }
+        passes(is_empty(rt.alloc(), gate))?;
     }
     Ok(())
 }
@@ -68,35 +69,39 @@ fn three_records(alloc: Global, moved: bool) -> Result<Vec<u8>, Fail> {
     bytes_of(alloc, &mut library.into_disk())
 }
 
+fn is_handed_back(alloc: Global) -> Result<bool, Fail> {
+    let disk = disk_of(alloc, &three_records(alloc, false)?)?;
+    match Library::open(alloc, FuseDisk::new(disk, 0, FuseMode::Once)) {
+        Ok(_) => Ok(false),
+        Err((fault, fuse)) => {
+            Ok(fault.number() == 35 && recovers(alloc, fuse, (Some(1), None))?)
+        }
+    }
+}
+
 #[test]
 fn a_failure_hands_the_disk_back(rt: HostRuntime) -> Result<(), Fail> {
-    let alloc = rt.alloc();
-    let fuse = FuseDisk::new(
-        disk_of(alloc, &three_records(alloc, false)?)?,
-        0,
-        FuseMode::Once,
-    );
-    let Err((fault, fuse)) = Library::open(alloc, fuse) else {
-        panic!(rt; "opened");
-    };
-    assert!(rt; fault.number() == 35 && recovers(alloc, fuse, (Some(1), None))?);
-    Ok(())
+    passes(is_handed_back(rt.alloc()))
+}
+
+// The number of the fault with which a disk of these bytes is refused, or 0.
+fn refusal_of(alloc: Global, bytes: &[u8]) -> Result<u32, Fail> {
+    Ok(refusal(alloc, disk_of(alloc, bytes)?))
+}
+
+// Whether the disk with three records is opened, and none that is shorter is.
+fn has_no_prefix(alloc: Global, moved: &bool) -> Result<bool, Fail> {
+    let bytes = three_records(alloc, *moved)?;
+    let mut right = bytes.len() == SIZE && refusal_of(alloc, &bytes)? == 0;
+    for length in 0..bytes.len() {
+        right = right && refusal_of(alloc, &bytes[..length])? == 38;
+    }
+    Ok(right)
 }
 
 #[test]
 fn every_prefix_is_refused(rt: HostRuntime) -> Result<(), Fail> {
-    let alloc = rt.alloc();
-    for moved in [false, true] {
-        let bytes = three_records(alloc, moved)?;
-        assert!(rt; bytes.len() == SIZE && refusal(alloc, disk_of(alloc, &bytes)?) == 0);
-        for length in 0..bytes.len() {
-            assert!(rt;
-                refusal(alloc, disk_of(alloc, &bytes[..length])?) == 38,
-                "{length} bytes"
-            );
-        }
-    }
-    Ok(())
+    each_passes(rt.alloc(), &[false, true], has_no_prefix)
 }
 
 // The number of the fault with which the disk with one byte changed is refused, or 0.
@@ -105,22 +110,26 @@ fn refusal_with(alloc: Global, bytes: &[u8], offset: usize, byte: u8) -> Result<
     if offset < changed.len() {
         changed[offset] = byte;
     }
-    Ok(refusal(alloc, disk_of(alloc, &changed)?))
+    refusal_of(alloc, &changed)
+}
+
+// Whether the disk with any byte in this place is opened, or refused with 37 or 38.
+fn are_opened_or_refused(alloc: Global, bytes: &[u8], offset: usize) -> Result<bool, Fail> {
+    for byte in 0..=255u8 {
+        let number = refusal_with(alloc, bytes, offset, byte)?;
+        if number != 0 && number != 37 && number != 38 {
+            return Ok(false);
+        }
+    }
+    Ok(true)
 }
 
 #[test]
 fn every_change_of_a_byte_is_opened_or_refused(rt: HostRuntime) -> Result<(), Fail> {
-    let alloc = rt.alloc();
     for moved in [false, true] {
-        let bytes = three_records(alloc, moved)?;
+        let bytes = three_records(rt.alloc(), moved)?;
         for offset in 0..bytes.len() {
-            for byte in 0..=255u8 {
-                let number = refusal_with(alloc, &bytes, offset, byte)?;
-                assert!(rt;
-                    number == 0 || number == 37 || number == 38,
-                    "byte {offset} is {byte}, moved {moved}"
-                );
-            }
+            passes(are_opened_or_refused(rt.alloc(), &bytes, offset))?;
         }
     }
     Ok(())

@@ -7,6 +7,7 @@ use cc_library::{
 use cc_unit::StoredUnit;
 use std::alloc::Global;
 use std::test::Fail;
+use tests_texts::verdict::{each_passes, passes};
 
 // The body of Add of `a` with the source `int main(void){}`, one code word 0 and no global words.
 static ADD: [u8; 36] =
@@ -38,9 +39,7 @@ fn names(rt: HostRuntime) {
         (b"aB", false),
         (&[b'a'; 33], false),
     ];
-    for (i, (bytes, right)) in table.iter().enumerate() {
-        assert!(rt; is_name(bytes) == *right, "row {i}");
-    }
+    assert!(rt; table.iter().all(|(bytes, right)| is_name(bytes) == *right));
 }
 
 // Whether these bytes are a name, and the name has them.
@@ -51,69 +50,72 @@ fn is_name(bytes: &[u8]) -> bool {
     }
 }
 
-// The body of Add of `a` with that source.
-fn add_body(alloc: Global) -> Result<Vec<u8>, Fail> {
-    let stored = unit(alloc, b"int main(void){}".as_slice(), 0)?;
-    Ok(command_body(alloc, Kind::Add, &name(b'a')?, Some(&stored))?)
+// Whether the body of Add of `a` with that source has these bytes.
+fn is_add_body(alloc: Global, wanted: &[u8]) -> Result<bool, Fail> {
+    let stored = unit(alloc, b"int main(void){}", 0)?;
+    let body = command_body(alloc, Kind::Add, &name(b'a')?, Some(&stored))?;
+    Ok(body.as_slice() == wanted)
 }
 
-// The body of the command that the bytes are.
-fn spelled_again(alloc: Global, bytes: &[u8]) -> Result<Vec<u8>, Fail> {
+// The bytes of a command, and those of its body.
+type Row = (&'static [u8], &'static [u8]);
+
+// Whether the command that the bytes are has a body of these, and as many as were read.
+fn is_spelled(alloc: Global, row: &Row) -> Result<bool, Fail> {
+    let (bytes, wanted) = *row;
     let command = read_command(alloc, bytes)?;
     if body_length(&command) != bytes.len() || bytes.len() > 100 {
-        return Err(Fail::from("another length than what was read"));
+        return Ok(false);
     }
-    Ok(body_of_command(alloc, &command)?)
+    let body = body_of_command(alloc, &command)?;
+    Ok(body.as_slice() == wanted)
 }
 
-// The bytes of a unit's certificate, where it has one.
-fn certificate_of(alloc: Global, unit: &StoredUnit) -> Result<Option<Vec<u8>>, Fail> {
-    match &unit.certificate {
-        Some(certificate) => Ok(Some(Vec::from_slice(alloc, certificate.bytes())?)),
-        None => Ok(None),
-    }
-}
+// The bytes of an Add or a Replace, and the certificate of its unit.
+type Certified = (&'static [u8], Option<&'static [u8]>);
 
-// The certificate of the unit of an Add or a Replace that the bytes are, where it has one.
-fn certificate_read(alloc: Global, bytes: &[u8]) -> Result<Option<Vec<u8>>, Fail> {
+// Whether the unit of an Add or a Replace that the bytes are has that certificate.
+fn is_certified(alloc: Global, row: &Certified) -> Result<bool, Fail> {
+    let (bytes, wanted) = *row;
     let command = read_command(alloc, bytes)?;
     match &command {
-        LibraryCommand::Add(_, unit) | LibraryCommand::Replace(_, unit) => certificate_of(
-            alloc,
-            unit.stored(),
-        ),
-        LibraryCommand::Withdraw(_) => Err(Fail::from("a Withdraw has no unit")),
+        LibraryCommand::Add(_, unit) | LibraryCommand::Replace(_, unit) => {
+            Ok(has_certificate(unit.stored(), wanted))
+        }
+        LibraryCommand::Withdraw(_) => Ok(false),
+    }
+}
+
+// Whether a unit has that certificate.
+fn has_certificate(unit: &StoredUnit, wanted: Option<&[u8]>) -> bool {
+    match (&unit.certificate, wanted) {
+        (None, None) => true,
+        (Some(certificate), Some(bytes)) => certificate.bytes() == bytes,
+        _ => false,
     }
 }
 
 #[test]
 fn bodies(rt: HostRuntime) -> Result<(), Fail> {
-    assert!(rt; add_body(rt.alloc())?.as_slice() == ADD.as_slice());
-    assert!(rt; spelled_again(rt.alloc(), &ADD)?.as_slice() == ADD.as_slice());
-    for body in [
-        CERTIFIED.as_slice(),
-        REPLACE.as_slice(),
-        WITHDRAW.as_slice(),
-    ] {
-        assert!(rt; spelled_again(rt.alloc(), body)?.as_slice() == body);
-    }
-    assert!(rt; spelled_again(rt.alloc(), &WITHDRAW_1)?.as_slice() == WITHDRAW.as_slice());
-    Ok(())
+    passes(is_add_body(rt.alloc(), &ADD))?;
+    let table: [Row; 5] = [
+        (&ADD, &ADD),
+        (&CERTIFIED, &CERTIFIED),
+        (&REPLACE, &REPLACE),
+        (&WITHDRAW, &WITHDRAW),
+        (&WITHDRAW_1, &WITHDRAW),
+    ];
+    each_passes(rt.alloc(), &table, is_spelled)
 }
 
 #[test]
 fn an_empty_certificate_is_not_none(rt: HostRuntime) -> Result<(), Fail> {
-    let alloc = rt.alloc();
-    assert!(rt; certificate_read(alloc, &ADD)?.is_none());
-    let Some(empty) = certificate_read(alloc, &CERTIFIED)? else {
-        return Err(Fail::from("a certificate without a byte"));
-    };
-    assert!(rt; empty.is_empty());
-    let Some(three) = certificate_read(alloc, &REPLACE)? else {
-        return Err(Fail::from("a certificate of three bytes"));
-    };
-    assert!(rt; three.as_slice() == b"xyz".as_slice());
-    Ok(())
+    let table: [Certified; 3] = [
+        (&ADD, None),
+        (&CERTIFIED, Some(b"")),
+        (&REPLACE, Some(b"xyz")),
+    ];
+    each_passes(rt.alloc(), &table, is_certified)
 }
 
 // Whether these bytes are refused as no command.
@@ -142,7 +144,6 @@ fn bytes_that_are_no_command(rt: HostRuntime) {
         b"\x01\x03\x01a\x00",
         &ADD[..35],
     ];
-    for (i, bytes) in table.iter().enumerate() {
-        assert!(rt; is_refused(rt.alloc(), bytes), "row {i}");
-    }
+    let alloc = rt.alloc();
+    assert!(rt; table.iter().all(|bytes| is_refused(alloc, bytes)));
 }

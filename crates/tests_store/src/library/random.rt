@@ -6,6 +6,7 @@ use cc_disk::MemoryDisk;
 use cc_library::Library;
 use std::alloc::Global;
 use std::test::Fail;
+use tests_texts::verdict::passes;
 
 // A command on `a` or `b`, by the byte of its kind, and the word of its unit.
 #[derive(Clone, Copy)]
@@ -77,18 +78,21 @@ fn random_records(alloc: Global, state: &mut u64) -> Result<(Vec<u8>, Option<Hel
     Ok((bytes, held))
 }
 
+// Whether the next such disk is what its records fold to, or is refused.
+fn is_fold(alloc: Global, state: &mut u64) -> Result<bool, Fail> {
+    let (bytes, held) = random_records(alloc, state)?;
+    let disk = disk_of(alloc, &bytes)?;
+    match held {
+        Some(held) => recovers(alloc, disk, held),
+        None => Ok(refusal(alloc, disk) == 37),
+    }
+}
+
 #[test]
 fn random_records_stand_for_their_fold(rt: HostRuntime) -> Result<(), Fail> {
-    let alloc = rt.alloc();
     let mut state = 1u64;
-    for i in 0..10_000u32 {
-        let (bytes, held) = random_records(alloc, &mut state)?;
-        let disk = disk_of(alloc, &bytes)?;
-        let right = match held {
-            Some(held) => recovers(alloc, disk, held)?,
-            None => refusal(alloc, disk) == 37,
-        };
-        assert!(rt; right, "disk {i}");
+    for _ in 0..10_000u32 {
+        passes(is_fold(rt.alloc(), &mut state))?;
     }
     Ok(())
 }
@@ -122,8 +126,8 @@ fn keeps_its_names(alloc: Global, mut library: Library<MemoryDisk>) -> Result<bo
 #[test]
 fn random_bytes_are_opened_or_refused(rt: HostRuntime) -> Result<(), Fail> {
     let mut state = 2u64;
-    for i in 0..10_000u32 {
-        assert!(rt; is_opened_or_refused(rt.alloc(), &mut state)?, "disk {i}");
+    for _ in 0..10_000u32 {
+        passes(is_opened_or_refused(rt.alloc(), &mut state))?;
     }
     Ok(())
 }

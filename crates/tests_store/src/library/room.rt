@@ -1,11 +1,12 @@
 // What a `compact` makes room for. A unit of one word without source takes 25 bytes under a name of one letter.
 
-use crate::library::helpers::{Step, does, formatted, name, number, opened, steps_done, unit};
+use crate::library::helpers::{Step, answers, formatted, name, number, opened, steps_done, unit};
 use cc_disk::{Disk, FuseDisk, FuseMode};
 use cc_library::{Library, LibraryCommand, SharedUnit};
 use std::alloc::Global;
 use std::sync::Arc;
 use std::test::Fail;
+use tests_texts::verdict::{each_passes, passes};
 
 // An area of 101 bytes has room for these four records and the closed gate. Compacted they are two.
 const FOUR: [Step; 4] = [
@@ -35,86 +36,139 @@ fn sized(alloc: Global, count: usize) -> Result<SharedUnit, Fail> {
     Ok(SharedUnit::new(Arc::new(alloc, unit(alloc, &source, 5)?)?))
 }
 
+// Whether a command has room once a library is compacted, and whether a `compact` mends its refusal.
+fn looks<D: Disk>(library: &Library<D>, command: &LibraryCommand) -> (bool, bool) {
+    (
+        library.has_room_compacted(command),
+        library.is_mended_by_compact(command),
+    )
+}
+
+// The command that adds `c` with so many bytes of source.
+fn added(alloc: Global, count: usize) -> Result<LibraryCommand, Fail> {
+    let unit = sized(alloc, count)?;
+    Ok(LibraryCommand::Add(name(b'c')?, unit))
+}
+
+// A count of bytes of source, and whether it fits.
+type Row = (usize, bool);
+
+// Whether a full library answers such an Add as it has to before it is compacted and after that.
+fn is_right(alloc: Global, row: &Row) -> Result<bool, Fail> {
+    let (count, fits) = *row;
+    let first = added(alloc, count)?;
+    let second = first.again()?;
+    let mut library = full(alloc, formatted(alloc, AREA)?)?;
+    let before = looks(&library, &first) == (fits, fits)
+        && number(library.change(alloc, first)) == 34
+        && number(library.compact(alloc)) == 0;
+    let wanted = if fits { 0 } else { 34 };
+    Ok(
+        before
+            && looks(&library, &second) == (fits, false)
+            && number(library.change(alloc, second)) == wanted,
+    )
+}
+
 // Two records take 50 bytes, a third with its closed gate has 51: 25 bytes of source are the most.
 #[test]
 fn up_to_the_last_byte(rt: HostRuntime) -> Result<(), Fail> {
-    let alloc = rt.alloc();
     for count in 0..60 {
-        let mut library = full(alloc, formatted(alloc, AREA)?)?;
-        let command = LibraryCommand::Add(name(b'c')?, sized(alloc, count)?);
-        let fits = count <= 25;
-        assert!(rt; library.has_room_compacted(&command) == fits, "{count}");
-        assert!(rt; library.is_mended_by_compact(&command) == fits, "{count}");
-        assert!(rt; number(library.change(alloc, command.again()?)) == 34);
-        assert!(rt; number(library.compact(alloc)) == 0);
-        assert!(rt; library.has_room_compacted(&command) == fits, "{count}");
-        assert!(rt; !library.is_mended_by_compact(&command), "{count}");
-        assert!(rt;
-            number(library.change(alloc, command)) == if fits { 0 } else { 34 },
-            "{count}"
-        );
+        passes(is_right(rt.alloc(), &(count, count <= 25)))?;
     }
     Ok(())
+}
+
+// Whether a `compact` mends the refusal of a Replace in a full library, or does not.
+fn is_replaced(alloc: Global, row: &Row) -> Result<bool, Fail> {
+    let unit = sized(alloc, row.0)?;
+    let command = LibraryCommand::Replace(name(b'a')?, unit);
+    let library = full(alloc, formatted(alloc, AREA)?)?;
+    Ok(library.is_mended_by_compact(&command) == row.1)
 }
 
 // The old unit stands until its successor does: 25 bytes of source behind two records, not 50 in place of one.
 #[test]
 fn a_replace_needs_room_beside_the_old_unit(rt: HostRuntime) -> Result<(), Fail> {
-    let alloc = rt.alloc();
-    let library = full(alloc, formatted(alloc, AREA)?)?;
-    for (count, fits) in [(25usize, true), (26, false), (50, false)] {
-        let command = LibraryCommand::Replace(name(b'a')?, sized(alloc, count)?);
-        assert!(rt; library.is_mended_by_compact(&command) == fits, "{count}");
-    }
-    Ok(())
+    each_passes(
+        rt.alloc(),
+        &[(25, true), (26, false), (50, false)],
+        is_replaced,
+    )
+}
+
+fn is_withdrawn(alloc: Global) -> Result<bool, Fail> {
+    let mut library = full(alloc, formatted(alloc, AREA)?)?;
+    let is_mended = library.is_mended_by_compact(&LibraryCommand::Withdraw(name(b'a')?));
+    let steps = [
+        (Step::Withdraw(b'a'), 34),
+        (Step::Compact, 0),
+        (Step::Withdraw(b'a'), 0),
+    ];
+    Ok(is_mended && answers(alloc, &mut library, &steps)?)
 }
 
 #[test]
 fn a_withdrawal(rt: HostRuntime) -> Result<(), Fail> {
-    let alloc = rt.alloc();
-    let mut library = full(alloc, formatted(alloc, AREA)?)?;
-    let command = LibraryCommand::Withdraw(name(b'a')?);
-    assert!(rt; library.is_mended_by_compact(&command));
-    assert!(rt; does(alloc, &mut library, Step::Withdraw(b'a'))? == 34);
-    assert!(rt; does(alloc, &mut library, Step::Compact)? == 0);
-    assert!(rt; does(alloc, &mut library, Step::Withdraw(b'a'))? == 0);
-    Ok(())
+    passes(is_withdrawn(rt.alloc()))
 }
 
-// 31 and 32 come before 34; a library with room refuses nothing by 34.
+// Whether an Add of `a`, a Replace of `c` and a Withdraw of `c` have room in a full library as it is.
+fn have_room(alloc: Global) -> Result<bool, Fail> {
+    let add = LibraryCommand::Add(name(b'a')?, sized(alloc, 0)?);
+    let replace = LibraryCommand::Replace(name(b'c')?, sized(alloc, 0)?);
+    let withdraw = LibraryCommand::Withdraw(name(b'c')?);
+    let library = full(alloc, formatted(alloc, AREA)?)?;
+    Ok(
+        looks(&library, &add) == (true, false)
+            && looks(&library, &replace) == (true, false)
+            && looks(&library, &withdraw) == (true, false),
+    )
+}
+
+// 31 and 32 come before 34.
 #[test]
 fn what_is_not_refused_by_34(rt: HostRuntime) -> Result<(), Fail> {
-    let alloc = rt.alloc();
-    let library = full(alloc, formatted(alloc, AREA)?)?;
-    let small = sized(alloc, 0)?;
-    for command in [
-        LibraryCommand::Add(name(b'a')?, small.again()?),
-        LibraryCommand::Replace(name(b'c')?, small.again()?),
-        LibraryCommand::Withdraw(name(b'c')?),
-    ] {
-        assert!(rt; library.has_room_compacted(&command));
-        assert!(rt; !library.is_mended_by_compact(&command));
+    passes(have_room(rt.alloc()))
+}
+
+fn has_room_empty(alloc: Global) -> Result<bool, Fail> {
+    let command = added(alloc, 0)?;
+    let library = opened(alloc, formatted(alloc, AREA)?)?;
+    Ok(looks(&library, &command) == (true, false))
+}
+
+// A library with room refuses nothing by 34.
+#[test]
+fn an_empty_library(rt: HostRuntime) -> Result<(), Fail> {
+    passes(has_room_empty(rt.alloc()))
+}
+
+// Whether a thousand looks at a full library say that a `compact` mends this.
+fn stays_mended<D: Disk>(library: &Library<D>, command: &LibraryCommand) -> bool {
+    for _ in 0..1000 {
+        if !library.is_mended_by_compact(command) {
+            return false;
+        }
     }
-    let empty = opened(alloc, formatted(alloc, AREA)?)?;
-    let command = LibraryCommand::Add(name(b'c')?, small);
-    assert!(rt; empty.has_room_compacted(&command));
-    assert!(rt; !empty.is_mended_by_compact(&command));
-    Ok(())
+    true
+}
+
+// Whether a library is closed by the first device call behind the changes, and a look says what it should before that and after.
+fn is_closed(alloc: Global) -> Result<bool, Fail> {
+    let command = added(alloc, 25)?;
+    let disk = FuseDisk::new(formatted(alloc, AREA)?, CALLS, FuseMode::Once);
+    let mut library = full(alloc, disk)?;
+    Ok(
+        stays_mended(&library, &command)
+            && answers(alloc, &mut library, &[(Step::Compact, 35)])?
+            && looks(&library, &command) == (true, false)
+            && answers(alloc, &mut library, &[(Step::Add(b'c', 5), 36)])?,
+    )
 }
 
 // A closed library answers 36. Until then no look has called the device: the call that fails is the first behind the changes.
 #[test]
 fn a_closed_library(rt: HostRuntime) -> Result<(), Fail> {
-    let alloc = rt.alloc();
-    let disk = FuseDisk::new(formatted(alloc, AREA)?, CALLS, FuseMode::Once);
-    let mut library = full(alloc, disk)?;
-    let command = LibraryCommand::Add(name(b'c')?, sized(alloc, 25)?);
-    for _ in 0..1000 {
-        assert!(rt; library.is_mended_by_compact(&command));
-    }
-    assert!(rt; does(alloc, &mut library, Step::Compact)? == 35);
-    assert!(rt; library.has_room_compacted(&command));
-    assert!(rt; !library.is_mended_by_compact(&command));
-    assert!(rt; does(alloc, &mut library, Step::Add(b'c', 5))? == 36);
-    Ok(())
+    passes(is_closed(rt.alloc()))
 }

@@ -1,13 +1,15 @@
 // The worked rows of the library.
 
-use crate::helpers::bytes_of;
+use crate::helpers::has_parts;
 use crate::library::helpers::{
-    Held, Step, does, edits, formatted, holds, opened, recovers, steps_done, word_unit,
+    Held, Step, answers, crash_leaves, does, edits, formatted, holds, opened, recovers, steps_done,
+    word_unit,
 };
 use cc_disk::{Disk, FuseDisk, FuseMode, MemoryDisk};
 use cc_library::{Library, Name};
 use std::alloc::Global;
 use std::test::Fail;
+use tests_texts::verdict::{each_passes, passes};
 
 // The device calls of opening a library with one record: a sync, the header, the records, which are read ahead.
 const OPENING: u64 = 3;
@@ -20,12 +22,7 @@ fn are_answered(
     wanted: Held,
 ) -> Result<bool, Fail> {
     let mut library = opened(alloc, formatted(alloc, area)?)?;
-    for (step, number) in steps {
-        if does(alloc, &mut library, *step)? != *number {
-            return Ok(false);
-        }
-    }
-    recovers(alloc, library.into_disk(), wanted)
+    Ok(answers(alloc, &mut library, steps)? && recovers(alloc, library.into_disk(), wanted)?)
 }
 
 #[test]
@@ -36,8 +33,7 @@ fn changes(rt: HostRuntime) -> Result<(), Fail> {
         (Step::Withdraw(b'b'), 32),
         (Step::Replace(b'a', 3), 0),
     ];
-    assert!(rt; are_answered(rt.alloc(), 128, &steps, (Some(3), None))?);
-    Ok(())
+    passes(are_answered(rt.alloc(), 128, &steps, (Some(3), None)))
 }
 
 #[test]
@@ -51,23 +47,22 @@ fn a_full_area(rt: HostRuntime) -> Result<(), Fail> {
         (Step::Withdraw(b'a'), 0),
         (Step::Withdraw(b'b'), 34),
     ];
-    assert!(rt; are_answered(rt.alloc(), 64, &steps, (None, Some(2)))?);
-    Ok(())
+    passes(are_answered(rt.alloc(), 64, &steps, (None, Some(2))))
 }
 
-// The numbers of a run of steps on a new library, where it went to its end.
-fn run_numbers(alloc: Global, steps: &[Step]) -> Result<Vec<u32>, Fail> {
+// Whether a run of steps on a new library goes to its end, with these numbers.
+fn runs(alloc: Global, steps: &[Step], wanted: &[u32]) -> Result<bool, Fail> {
     let edits = edits(alloc, steps)?;
     let library = opened(alloc, formatted(alloc, 128)?)?;
     let (left, numbers) = library.run(alloc, edits);
     match left {
         Ok(library) => {
             drop(library);
-            Ok(numbers)
+            Ok(numbers.as_slice() == wanted)
         }
         Err(refused) => {
             drop(refused);
-            Err(Fail::from("the run stopped"))
+            Ok(false)
         }
     }
 }
@@ -81,8 +76,7 @@ fn the_same_through_run(rt: HostRuntime) -> Result<(), Fail> {
         Step::Replace(b'a', 3),
         Step::Compact,
     ];
-    assert!(rt; run_numbers(rt.alloc(), &steps)?.as_slice() == [0, 31, 32, 0, 0].as_slice());
-    Ok(())
+    passes(runs(rt.alloc(), &steps, &[0, 31, 32, 0, 0]))
 }
 
 // Whether these are those names, in order.
@@ -100,22 +94,23 @@ fn is_added<D: Disk>(alloc: Global, library: &mut Library<D>, name: &[u8]) -> Re
     Ok(library.add(alloc, Name::new(name)?, unit).is_ok())
 }
 
-// The names that a library lists, once units were added under these.
-fn listed(alloc: Global, names: &[&[u8]]) -> Result<Vec<Name>, Fail> {
+// Whether a library lists these names, once units were added under those.
+fn lists(alloc: Global, names: &[&[u8]], wanted: &[&[u8]]) -> Result<bool, Fail> {
     let mut library = opened(alloc, formatted(alloc, 256)?)?;
+    let mut right = true;
     for name in names {
-        if !is_added(alloc, &mut library, name)? {
-            return Err(Fail::from("not added"));
-        }
+        right = right && is_added(alloc, &mut library, name)?;
     }
-    Ok(library.list(alloc)?)
+    Ok(right && are_names(&library.list(alloc)?, wanted))
 }
 
 #[test]
 fn names_come_in_the_order_of_their_bytes(rt: HostRuntime) -> Result<(), Fail> {
-    let names = listed(rt.alloc(), &[b"b", b"a", b"ab", b"a_"])?;
-    assert!(rt; are_names(&names, &[b"a", b"a_", b"ab", b"b"]));
-    Ok(())
+    passes(lists(
+        rt.alloc(),
+        &[b"b", b"a", b"ab", b"a_"],
+        &[b"a", b"a_", b"ab", b"b"],
+    ))
 }
 
 // A library with `a` added, on a disk of 144 bytes whose next calls meet a fuse.
@@ -139,12 +134,15 @@ fn torn(alloc: Global, passes: u64, choice: &[u8]) -> Result<MemoryDisk, Fail> {
     Ok(library.into_disk().into_disk().crash(alloc, choice)?)
 }
 
+// Whether a crash that leaves this byte wherever it may, before the gate is settled, leaves these units.
+fn is_decided(alloc: Global, row: &(u8, Held)) -> Result<bool, Fail> {
+    recovers(alloc, torn(alloc, 2, &[row.0; 144])?, row.1)
+}
+
 #[test]
 fn the_gate_decides(rt: HostRuntime) -> Result<(), Fail> {
-    let alloc = rt.alloc();
-    assert!(rt; recovers(alloc, torn(alloc, 2, &[0xa5; 144])?, (Some(1), Some(2)))?);
-    assert!(rt; recovers(alloc, torn(alloc, 2, &[0; 144])?, (Some(1), None))?);
-    Ok(())
+    let rows = [(0xa5, (Some(1), Some(2))), (0, (Some(1), None))];
+    each_passes(rt.alloc(), &rows, is_decided)
 }
 
 #[test]
@@ -158,8 +156,7 @@ fn a_torn_body_counts_for_nothing(rt: HostRuntime) -> Result<(), Fail> {
             choice[42 + i] = *byte;
         }
     }
-    assert!(rt; recovers(alloc, torn(alloc, 0, &choice)?, (Some(1), None))?);
-    Ok(())
+    passes(recovers(alloc, torn(alloc, 0, &choice)?, (Some(1), None)))
 }
 
 // The library with `a`, closed by a `compact` over a fuse that passes two calls.
@@ -177,36 +174,35 @@ fn a_torn_area_byte_keeps_the_map(rt: HostRuntime) -> Result<(), Fail> {
     let alloc = rt.alloc();
     let disk = cut_off(alloc)?.into_disk().into_disk();
     for byte in 0..=255u8 {
-        let crashed = disk.crash(alloc, &[byte])?;
-        assert!(rt;
-            recovers(alloc, crashed, (Some(1), None))?,
-            "area byte {byte}"
-        );
+        passes(crash_leaves(alloc, &disk, &[byte], (Some(1), None)))?;
     }
     Ok(())
 }
 
 #[test]
 fn a_closed_library_still_answers_from_its_map(rt: HostRuntime) -> Result<(), Fail> {
-    let alloc = rt.alloc();
+    passes(still_answers(rt.alloc()))
+}
+
+fn still_answers(alloc: Global) -> Result<bool, Fail> {
     let mut library = cut_off(alloc)?;
-    for step in [
-        Step::Compact,
-        Step::Add(b'b', 2),
-        Step::Replace(b'a', 2),
-        Step::Withdraw(b'a'),
-    ] {
-        assert!(rt; does(alloc, &mut library, step)? == 36);
-    }
-    assert!(rt; holds(alloc, &library, (Some(1), None))?);
+    let steps = [
+        (Step::Compact, 36),
+        (Step::Add(b'b', 2), 36),
+        (Step::Replace(b'a', 2), 36),
+        (Step::Withdraw(b'a'), 36),
+    ];
+    let right = answers(alloc, &mut library, &steps)? && holds(alloc, &library, (Some(1), None))?;
     // No call but the one that met the fuse reached the device.
-    assert!(rt; library.into_disk().failures() == 1);
-    Ok(())
+    Ok(right && library.into_disk().failures() == 1)
 }
 
 #[test]
 fn compact_writes_one_add_per_name(rt: HostRuntime) -> Result<(), Fail> {
-    let alloc = rt.alloc();
+    passes(is_compacted(rt.alloc()))
+}
+
+fn is_compacted(alloc: Global) -> Result<bool, Fail> {
     let mut library = opened(alloc, formatted(alloc, 128)?)?;
     let steps = [
         Step::Add(b'b', 2),
@@ -215,21 +211,18 @@ fn compact_writes_one_add_per_name(rt: HostRuntime) -> Result<(), Fail> {
         Step::Add(b'b', 4),
         Step::Compact,
     ];
-    assert!(rt; steps_done(alloc, &mut library, &steps)? == 5);
-    let bytes = bytes_of(alloc, &mut library.into_disk())?;
+    let done = steps_done(alloc, &mut library, &steps)?;
     // Area B begins at 144: an Add of `a` and one of `b`, each of 25 bytes, and a closed gate.
-    for (offset, byte) in [
-        (0usize, 1u8),
-        (144, 0xa5),
-        (149, 1),
-        (150, 1),
-        (152, b'a'),
-        (169, 0xa5),
-        (175, 1),
-        (177, b'b'),
-        (194, 0),
-    ] {
-        assert!(rt; bytes.get(offset).copied() == Some(byte), "byte {offset}");
-    }
-    Ok(())
+    let parts: [(usize, &[u8]); 9] = [
+        (0, &[1]),
+        (144, &[0xa5]),
+        (149, &[1]),
+        (150, &[1]),
+        (152, b"a"),
+        (169, &[0xa5]),
+        (175, &[1]),
+        (177, b"b"),
+        (194, &[0]),
+    ];
+    Ok(done == 5 && has_parts(alloc, &mut library.into_disk(), &parts)?)
 }

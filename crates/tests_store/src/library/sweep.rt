@@ -8,6 +8,7 @@ use cc_disk::{FuseDisk, FuseMode, MemoryDisk};
 use cc_library::Library;
 use std::alloc::Global;
 use std::test::Fail;
+use tests_texts::verdict::passes;
 
 // Three calls of opening an empty library, four of each change and of `compact`.
 const CALLS: u64 = 23;
@@ -77,14 +78,17 @@ fn is_right(alloc: Global, disk: &MemoryDisk, done: usize) -> Result<bool, Fail>
     Ok(true)
 }
 
+// Whether the steps are right over a fuse that this many calls pass.
+fn survives(alloc: Global, calls: u64, mode: FuseMode) -> Result<bool, Fail> {
+    let (disk, done) = changed(alloc, fused(alloc, calls, mode)?)?;
+    Ok((done == 5 || calls < CALLS) && is_right(alloc, &disk, done)?)
+}
+
 #[test]
 fn every_failure_and_a_crash(rt: HostRuntime) -> Result<(), Fail> {
-    let alloc = rt.alloc();
-    for passes in 0..CALLS + 1 {
+    for calls in 0..CALLS + 1 {
         for mode in [FuseMode::Once, FuseMode::Before, FuseMode::Within] {
-            let (disk, done) = changed(alloc, fused(alloc, passes, mode)?)?;
-            let right = (done == 5 || passes < CALLS) && is_right(alloc, &disk, done)?;
-            assert!(rt; right, "{passes} calls, {mode:?}");
+            passes(survives(rt.alloc(), calls, mode))?;
         }
     }
     Ok(())
@@ -119,30 +123,32 @@ fn run_over(alloc: Global, passes: u64, mode: FuseMode) -> Result<Ran, Fail> {
     })
 }
 
+fn goes_on(alloc: Global, calls: u64) -> Result<bool, Fail> {
+    let ran = run_over(alloc, calls, FuseMode::Once)?;
+    let right = ran.stopped == 0 && ran.count == 5 && ran.failed == usize::from(calls < CALLS);
+    Ok(right && refusal(alloc, ran.disk) == 0)
+}
+
 #[test]
 fn a_run_goes_on_after_one_failure(rt: HostRuntime) -> Result<(), Fail> {
-    for passes in 3..CALLS + 1 {
-        let ran = run_over(rt.alloc(), passes, FuseMode::Once)?;
-        let right = ran.stopped == 0 && ran.count == 5 && ran.failed == usize::from(passes < CALLS);
-        assert!(rt;
-            right && refusal(rt.alloc(), ran.disk) == 0,
-            "{passes} calls"
-        );
+    for calls in 3..CALLS + 1 {
+        passes(goes_on(rt.alloc(), calls))?;
     }
     Ok(())
 }
 
 #[test]
 fn a_run_stops_where_its_disk_is_not_opened_again(rt: HostRuntime) -> Result<(), Fail> {
-    for passes in 3..CALLS {
-        let ran = run_over(rt.alloc(), passes, FuseMode::Before)?;
-        // The last number is that of the step that met the fuse.
-        let done = ran.count.saturating_sub(1);
-        let right = ran.stopped == 35 && ran.failed == 1 && done as u64 == (passes - 3) / 4;
-        assert!(rt;
-            right && is_right(rt.alloc(), &ran.disk, done)?,
-            "{passes} calls"
-        );
+    for calls in 3..CALLS {
+        passes(stops(rt.alloc(), calls))?;
     }
     Ok(())
+}
+
+fn stops(alloc: Global, calls: u64) -> Result<bool, Fail> {
+    let ran = run_over(alloc, calls, FuseMode::Before)?;
+    // The last number is that of the step that met the fuse.
+    let done = ran.count.saturating_sub(1);
+    let right = ran.stopped == 35 && ran.failed == 1 && done as u64 == calls.saturating_sub(3) / 4;
+    Ok(right && is_right(alloc, &ran.disk, done)?)
 }

@@ -6,6 +6,7 @@ use cc_ltl::{Ltl, Operation, write_ltl};
 use cc_words::Binary;
 use std::alloc::Global;
 use std::test::Fail;
+use tests_texts::verdict::{each_passes, passes};
 
 // The LTL of the first function, where the validator takes all functions of the text.
 fn right(alloc: Global, text: &str) -> Result<Option<Ltl>, Fail> {
@@ -42,18 +43,18 @@ static WITHOUT_MOVES: [&str; 5] = [
 
 #[test]
 fn parameters_and_results_stay_where_they_are(rt: HostRuntime) -> Result<(), Fail> {
-    for text in WITHOUT_MOVES {
-        assert!(rt; has_moves(rt.alloc(), text, 0)?, "{text}");
-    }
-    Ok(())
+    each_passes(
+        rt.alloc(),
+        WITHOUT_MOVES.as_slice(),
+        |alloc, text| has_moves(alloc, text, 0),
+    )
 }
 
 #[test]
 fn an_identity_has_no_slots(rt: HostRuntime) -> Result<(), Fail> {
     let ltl = first_coloured(rt.alloc(), b"int f(int x){return x;}int main(void){}")?;
     let bytes = write_ltl(rt.alloc(), &ltl)?;
-    assert!(rt; bytes.as_slice().starts_with(&[0, 0, 0, 0]));
-    Ok(())
+    passes(Ok(bytes.as_slice().starts_with(&[0, 0, 0, 0])))
 }
 
 // A cycle of n registers takes n + 1 moves.
@@ -78,10 +79,19 @@ static CYCLES: [(&str, usize); 4] = [
 
 #[test]
 fn a_cycle_of_moves_takes_one_more(rt: HostRuntime) -> Result<(), Fail> {
-    for (text, moves) in CYCLES {
-        assert!(rt; has_moves(rt.alloc(), text, moves)?, "{text}");
+    each_passes(
+        rt.alloc(),
+        CYCLES.as_slice(),
+        |alloc, row| has_moves(alloc, row.0, row.1),
+    )
+}
+
+// Whether the first function of a text has so many slots, and saves registers that calls keep, or none.
+fn has_slots(alloc: Global, text: &str, slots: u16, saves: bool) -> Result<bool, Fail> {
+    match right(alloc, text)? {
+        Some(ltl) => Ok(ltl.slots() == slots && saves_registers(&ltl) == saves),
+        None => Ok(false),
     }
-    Ok(())
 }
 
 // What lives over the calls of a loop stands in registers that calls keep; what lives over a service of the machine needs none of these.
@@ -89,22 +99,17 @@ fn a_cycle_of_moves_takes_one_more(rt: HostRuntime) -> Result<(), Fail> {
 fn what_lives_over_calls_in_a_loop_is_in_saved_registers(rt: HostRuntime) -> Result<(), Fail> {
     let calls =
         "int g(int i);int f(int n){int i;int s=0;for(i=0;i<n;i++)s=s+g(i);return s;}int g(int i){return i*i;}int main(void){}";
-    let ltl = right(rt.alloc(), calls)?;
-    assert!(rt; ltl.is_some_and(|ltl| ltl.slots() == 0 && saves_registers(&ltl)));
+    passes(has_slots(rt.alloc(), calls, 0, true))?;
     let services =
         "int f(int n){int i;int s=n;for(i=0;i<n;i++)s=s+read_word()*i;return s;}int main(void){}";
-    let ltl = right(rt.alloc(), services)?;
-    assert!(rt; ltl.is_some_and(|ltl| ltl.slots() == 0 && !saves_registers(&ltl)));
-    Ok(())
+    passes(has_slots(rt.alloc(), services, 0, false))
 }
 
 // What lives over one call is cheaper in a slot than in a register that has to be saved.
 #[test]
 fn what_lives_over_one_call_is_in_a_slot(rt: HostRuntime) -> Result<(), Fail> {
     let text = "int f(int n){if(n<2)return n;return f(n-1)+f(n-2);}int main(void){}";
-    let ltl = right(rt.alloc(), text)?;
-    assert!(rt; ltl.is_some_and(|ltl| ltl.slots() == 2 && !saves_registers(&ltl)));
-    Ok(())
+    passes(has_slots(rt.alloc(), text, 2, false))
 }
 
 // Of more values than there are registers those stay in registers that the loop uses: no block that multiplies has a slot.
@@ -128,6 +133,5 @@ fn multiplies_in_registers(ltl: &Ltl) -> bool {
 #[test]
 fn what_a_loop_uses_is_spilled_last(rt: HostRuntime) -> Result<(), Fail> {
     let ltl = right(rt.alloc(), CROWDED)?;
-    assert!(rt; ltl.is_some_and(|ltl| multiplies_in_registers(&ltl)));
-    Ok(())
+    passes(Ok(ltl.is_some_and(|ltl| multiplies_in_registers(&ltl))))
 }

@@ -4,6 +4,7 @@ use super::functions::all_are_accepted;
 use std::alloc::{AllocError, Global};
 use std::ops::Range;
 use std::test::Fail;
+use tests_texts::verdict::each_passes;
 
 fn put(text: &mut Vec<u8>, part: &str) -> Result<(), AllocError> {
     text.extend_from_slice(part.as_bytes())
@@ -45,13 +46,22 @@ fn many_alive(alloc: Global, count: usize) -> Result<Vec<u8>, AllocError> {
     Ok(text)
 }
 
+fn are_kept(alloc: Global, count: &usize) -> Result<bool, Fail> {
+    let text = many_alive(alloc, *count)?;
+    all_are_accepted(alloc, text.as_slice())
+}
+
 #[test]
 fn more_values_than_registers_are_accepted(rt: HostRuntime) -> Result<(), Fail> {
-    for count in [1, 24, 25, 26, 27, 64, 250, 255] {
-        let text = many_alive(rt.alloc(), count)?;
-        assert!(rt; all_are_accepted(rt.alloc(), text.as_slice())?, "{count}");
-    }
-    Ok(())
+    each_passes(rt.alloc(), &[1, 24, 25, 26, 27, 64, 250, 255], are_kept)
+}
+
+// `vM=vN;`
+fn put_move(text: &mut Vec<u8>, to: usize, from: usize) -> Result<(), AllocError> {
+    put_name(text, to)?;
+    put(text, "=")?;
+    put_name(text, from)?;
+    put(text, ";")
 }
 
 // Variables that are passed round in a loop, this many.
@@ -61,23 +71,30 @@ fn turning(alloc: Global, count: usize) -> Result<Vec<u8>, AllocError> {
     put_each(&mut text, "int ", 0..count, "=read_word();")?;
     put(&mut text, "while(t>=0){t=v000;")?;
     for number in 1..count {
-        put_name(&mut text, number.saturating_sub(1))?;
-        put(&mut text, "=")?;
-        put_name(&mut text, number)?;
-        put(&mut text, ";")?;
+        put_move(&mut text, number.saturating_sub(1), number)?;
     }
     put_name(&mut text, count.saturating_sub(1))?;
     put(&mut text, "=t;write_word(t);}}")?;
     Ok(text)
 }
 
+fn are_passed_round(alloc: Global, count: &usize) -> Result<bool, Fail> {
+    let text = turning(alloc, *count)?;
+    all_are_accepted(alloc, text.as_slice())
+}
+
 #[test]
 fn values_that_are_passed_round_are_accepted(rt: HostRuntime) -> Result<(), Fail> {
-    for count in [2, 3, 22, 26, 60] {
-        let text = turning(rt.alloc(), count)?;
-        assert!(rt; all_are_accepted(rt.alloc(), text.as_slice())?, "{count}");
-    }
-    Ok(())
+    each_passes(rt.alloc(), &[2, 3, 22, 26, 60], are_passed_round)
+}
+
+// `for(vN=0;vN<2;vN++)`
+fn put_loop(text: &mut Vec<u8>, number: usize) -> Result<(), AllocError> {
+    put(text, "for(")?;
+    put_name(text, number)?;
+    put_each(text, "=0;", number..number.saturating_add(1), "<2;")?;
+    put_name(text, number)?;
+    put(text, "++)")
 }
 
 // Loops within one another, each with a counter that is called with, as deep as statements go.
@@ -89,13 +106,7 @@ fn nested(alloc: Global, depth: usize) -> Result<Vec<u8>, AllocError> {
     )?;
     put_each(&mut text, "int ", 0..depth, ";")?;
     for number in 0..depth {
-        put(&mut text, "for(")?;
-        put_name(&mut text, number)?;
-        put(&mut text, "=0;")?;
-        put_name(&mut text, number)?;
-        put(&mut text, "<2;")?;
-        put_name(&mut text, number)?;
-        put(&mut text, "++)")?;
+        put_loop(&mut text, number)?;
     }
     put(&mut text, "s=s+g(s,0")?;
     put_each(&mut text, "+", 0..depth, "")?;
@@ -103,11 +114,12 @@ fn nested(alloc: Global, depth: usize) -> Result<Vec<u8>, AllocError> {
     Ok(text)
 }
 
+fn are_deep(alloc: Global, depth: &usize) -> Result<bool, Fail> {
+    let text = nested(alloc, *depth)?;
+    all_are_accepted(alloc, text.as_slice())
+}
+
 #[test]
 fn deep_loops_are_accepted(rt: HostRuntime) -> Result<(), Fail> {
-    for depth in [1, 5, 13, 40] {
-        let text = nested(rt.alloc(), depth)?;
-        assert!(rt; all_are_accepted(rt.alloc(), text.as_slice())?, "{depth}");
-    }
-    Ok(())
+    each_passes(rt.alloc(), &[1, 5, 13, 40], are_deep)
 }

@@ -8,6 +8,7 @@ use cc_ltl::{read_ltl, write_ltl};
 use cc_validate::validate;
 use std::alloc::Global;
 use std::test::Fail;
+use tests_texts::verdict::passes_for;
 use tests_texts::worked::PROGRAMS;
 
 fn live_of(alloc: Global, text: &str) -> Result<Liveness, Fail> {
@@ -46,7 +47,7 @@ fn any_live_sets_have_an_answer(rt: HostRuntime) -> Result<(), Fail> {
     for (other, _) in PROGRAMS.iter() {
         let live = live_of(rt.alloc(), other)?;
         for (text, _) in PROGRAMS.iter() {
-            assert!(rt; is_answered(rt.alloc(), text, &live)?, "{text}");
+            passes_for(is_answered(rt.alloc(), text, &live), text)?;
         }
     }
     Ok(())

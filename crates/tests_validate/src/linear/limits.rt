@@ -1,12 +1,16 @@
 // The largest functions go through.
 
 use super::helpers::all_go_through;
+use std::alloc::Global;
 use std::test::Fail;
 use tests_texts::parts::{Part, text_of};
+use tests_texts::verdict::each_passes;
 
 /// The parts of functions of some 4,000 nodes, and how many functions the text has. What stands in a `main`: 1,364 writes and a read are
 /// 4,096 nodes, the most that a function may have.
-static LARGEST: [(&[Part<'static>], usize); 4] = [
+type Large = (&'static [Part<'static>], usize);
+
+static LARGEST: [Large; 4] = [
     (
         &[
             ("int main(void){", 1),
@@ -41,13 +45,12 @@ static LARGEST: [(&[Part<'static>], usize); 4] = [
     ),
 ];
 
+fn goes_through(alloc: Global, row: &Large) -> Result<bool, Fail> {
+    let text = text_of(alloc, row.0)?;
+    all_go_through(alloc, text.as_slice(), row.1)
+}
+
 #[test]
 fn largest_functions(rt: HostRuntime) -> Result<(), Fail> {
-    for (parts, functions) in LARGEST.iter() {
-        let text = text_of(rt.alloc(), *parts)?;
-        let right = all_go_through(rt.alloc(), text.as_slice(), *functions)?;
-        drop(text);
-        assert!(rt; right);
-    }
-    Ok(())
+    each_passes(rt.alloc(), LARGEST.as_slice(), goes_through)
 }

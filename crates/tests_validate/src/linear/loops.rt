@@ -5,6 +5,7 @@ use crate::pairs::unit_of;
 use cc_linear_language::LinearItem;
 use std::alloc::Global;
 use std::test::Fail;
+use tests_texts::verdict::passes_for;
 
 /// A turn: how many branches and how many jumps stand in it.
 type Turn = (usize, usize);
@@ -97,8 +98,7 @@ static LOOPS: [(&str, &[Turn]); 9] = [
 #[test]
 fn turns_of_loops(rt: HostRuntime) -> Result<(), Fail> {
     for (text, turns) in LOOPS.iter() {
-        let right = has_turns(rt.alloc(), text, *turns)?;
-        assert!(rt; right, "{text}");
+        passes_for(has_turns(rt.alloc(), text, *turns), text)?;
     }
     Ok(())
 }

@@ -3,7 +3,7 @@
 
 use super::helpers::LinearStage;
 use std::test::Fail;
-use tests_texts::stages::first_unlike;
+use tests_texts::stages::shows_all;
 
 /// A text, the number of a function, and the text of its Linear.
 static SHOWN: [(&str, usize, &str); 4] = [
@@ -96,9 +96,5 @@ static SHOWN: [(&str, usize, &str); 4] = [
 
 #[test]
 fn texts_of_functions(rt: HostRuntime) -> Result<(), Fail> {
-    assert_eq!(rt;
-        first_unlike::<LinearStage>(rt.alloc(), SHOWN.as_slice())?,
-        None
-    );
-    Ok(())
+    shows_all::<LinearStage>(rt.alloc(), SHOWN.as_slice())
 }

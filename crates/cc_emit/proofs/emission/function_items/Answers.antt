@@ -14,7 +14,7 @@ put_code-requires-clause-leads c =
     let code = c.args.code.now in
     let sets_pointer = c.in_ok-steps.sets_pointer in
     let count = length c.in_ok-places.places.first.items in
-    let below : AllByRecursion (λ label. label < count) (labels code) = subst (λ n. AllByRecursion (λ label. label < n) (labels code)) (sym c.in_ok-places.ensures.labels) c.label_count.ensures in
+    let below : AllByRecursion (λ label. label < count) (labels code) = subst (λ n. AllByRecursion (λ label. label < n) (labels code)) (sym c.in_ok-places.ensures.labels) c.label_count-count.ensures in
     let steps : c.as_slice-2.result.now ≡ addressed (base_in c.args.bases.now) sets_pointer nothing code = c.as_slice-2.ensures.value ∙ c.in_ok-steps.ensures.steps in
     subst (AllByRecursion (LeadsBelow count)) (sym steps) (leads_all count c.args.slots c.requires.fit.0 (labels code) (base_in c.args.bases.now) sets_pointer nothing code below c.requires.fit.1)
 

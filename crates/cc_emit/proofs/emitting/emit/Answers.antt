@@ -3,7 +3,7 @@ use Rattle.cc_ast.specs.Source.{source}
 use Rattle.cc_ast.specs.declared.unit.Unit as parsed
 use Rattle.cc_types.specs.Typed.{IsTyped, IsWithinLimits}
 use Rattle.cc_emit.specs.Piece.{Piece}
-use Rattle.cc_emit.proofs.Handing.{fit_handed, items_handed, items_selected, piece_handed}
+use Rattle.cc_emit.proofs.Handing.{fit_handed, frame_handed, items_handed, items_selected, piece_handed}
 use Rattle.cc_emit.proofs.Pieces.{piece_of}
 use Rattle.cc_emit.proofs.emitting.emit.Goals as goal
 
@@ -24,7 +24,11 @@ new-requires-2 c =
     let items = items_handed p _ _ _ c.in_ok-items.items.items _ tree c.in_ok-bases.ensures c.slots.ensures.answer c.code-code.ensures.code c.in_ok-items.ensures in
     let limits = subst (λ (u : parsed.Unit). IsWithinLimits (source u).externals) unit c.externals.ensures.limits in
     let parts = c.into_parts-unit.ensures in
-    piece_handed p _ _ _ _ parts.unit c.function-function.ensures.answer parts.ltl items (piece_of p parts.is_ltl parts.few parts.keeps_up c.code-code.ensures.typed limits c.function-function.ensures.of_unit c.code-code.ensures.selected c.code-code.ensures.keeps_up)
+    let frame = frame_handed p _ _ c.in_ok-frame.frame c.slots-2.ensures.answer c.code-code.ensures.code c.in_ok-frame.ensures in
+    piece_handed p _ _ _ _ _ _ c.mode-mode.ensures.answer parts.unit c.function-function.ensures.answer parts.ltl frame items (piece_of p parts.is_ltl parts.few parts.keeps_up c.code-code.ensures.typed limits c.function-function.ensures.of_unit c.code-code.ensures.selected c.code-code.ensures.keeps_up)
+
+pub returns-clause-mode : goal.returns-clause-mode
+returns-clause-mode c = ap (λ (p : Piece). p.mode) c.new-2.ensures ∙ c.mode-mode.ensures.answer ∙ c.in_ok-selected.ensures.mode
 
 pub returns-clause-unit : goal.returns-clause-unit
 returns-clause-unit c = ap (λ (p : Piece). p.unit) c.new-2.ensures ∙ c.into_parts-unit.ensures.unit ∙ c.in_ok-selected.ensures.unit

@@ -1,5 +1,6 @@
 -- The type keeps that the run keeps up: a pair of LTL and what is made of its code are a pair of Linear.
 use Rattle.std.proofs.Common.{ap, sym, subst, ◌∙◌}
+use Rattle.std.specs.Arc.{arc_value}
 use Rattle.cc_ast.specs.declared.unit.Unit as parsed
 use Rattle.cc_ltl.specs.Ltl.{Ltl}
 use Rattle.cc_linear_language.specs.Pair.{Pair, IsPair}
@@ -18,9 +19,10 @@ new-requires c =
     let kept : above.IsPair p = record { typed = e.typed; function = c.function-function.ensures.of_unit; ltl = e.ltl; graph = e.graph; calls = e.calls; keeps_up = e.keeps_up } in
     let unit = c.into_parts-unit.ensures.unit in
     let ltl = c.into_parts-unit.ensures.ltl in
-    subst (λ (u : parsed.Unit). IsPair (record { unit = u; function = c.function-function.result; ltl = c.into_parts-unit.result.1; code = items })) (sym unit)
-    (subst (λ f. IsPair (record { unit = p.unit; function = f; ltl = c.into_parts-unit.result.1; code = items })) (sym c.function-function.ensures.answer)
-    (subst (λ (l : Ltl). IsPair (record { unit = p.unit; function = p.function; ltl = l; code = items })) (sym ltl) (pair_made p items kept made)))
+    subst (λ m. IsPair (record { mode = m; unit = arc_value c.into_parts-unit.result.0; function = c.function-function.result; ltl = c.into_parts-unit.result.1; code = items })) (sym c.mode-mode.ensures.answer)
+    (subst (λ (u : parsed.Unit). IsPair (record { mode = p.mode; unit = u; function = c.function-function.result; ltl = c.into_parts-unit.result.1; code = items })) (sym unit)
+    (subst (λ f. IsPair (record { mode = p.mode; unit = p.unit; function = f; ltl = c.into_parts-unit.result.1; code = items })) (sym c.function-function.ensures.answer)
+    (subst (λ (l : Ltl). IsPair (record { mode = p.mode; unit = p.unit; function = p.function; ltl = l; code = items })) (sym ltl) (pair_made p items kept made))))
 
 pub returns-clause-labels : goal.returns-clause-labels
 returns-clause-labels c =

@@ -1,21 +1,27 @@
 -- Pieces of one's own are refused for the size of the image alone.
-use Rattle.std.proofs.Common.{inl, inr, Err, ap, ◌∙◌}
+use Rattle.std.proofs.Common.{◌≡◌, ◌⊎◌, inl, inr, Err, List, ap, subst, ◌∙◌}
 use Rattle.std.specs.Arc.{arc_value}
 use Rattle.cc_ast.specs.Source.{source}
+use Rattle.cc_emit.specs.Piece.{Piece}
 use Rattle.cc_link.specs.declared.fault.LinkFault.{LinkFault}
+use Rattle.cc_link.specs.declared.fault.LinkFault.TheVariants.{OutOfMemory}
+use Rattle.cc_link.specs.Linked.{linked_in}
 use Rattle.cc_link.proofs.Own.{only_large}
 use Rattle.cc_link.proofs.compiling.compile_unit.Goals as goal
 
-pub returns-in-Err-link-clause-refused : goal.returns-in-Err-link-clause-refused
-returns-in-Err-link-clause-refused c =
-    let s = source (arc_value c.args.unit.now) in
+pub returns-in-Err-link_all_in-clause-refused : goal.returns-in-Err-link_all_in-clause-refused
+returns-in-Err-link_all_in-clause-refused c =
+    let mode = c.args.mode in
+    let s = source (arc_value c.args.typed) in
     let ps = c.in-Ok.pieces.items in
     let own = c.in-Ok.ensures.own in
     let count = c.in-Ok.ensures.count in
-    elim c.in-Err-link.ensures.refused [
+    let fault = c.in-Err-link_all_in.fault in
+    let said : (fault ≡ OutOfMemory) ⊎ (linked_in mode s ps ≡ Err fault) = subst (λ (l : List Piece). (fault ≡ OutOfMemory) ⊎ (linked_in mode s l ≡ Err fault)) c.as_slice.ensures.value c.in-Err-link_all_in.ensures.refused in
+    elim said [
       | inl e ↦ inl e
       | inr e ↦ inr (
-        only_large s ps c.in-Err-link.fault own count e,
+        only_large mode s ps fault own count e,
         record {
           tree = s.externals;
           is = c.requires;
@@ -23,14 +29,14 @@ returns-in-Err-link-clause-refused c =
           compiled = c.in-Ok.ensures.compiled;
           own = own;
           count = count;
-          refused = e ∙ ap (λ (f : LinkFault). Err f) (only_large s ps c.in-Err-link.fault own count e);
+          refused = e ∙ ap (λ (f : LinkFault). Err f) (only_large mode s ps fault own count e);
         },
       )
     ]
 
 pub returns-in-Err-clause-refused : goal.returns-in-Err-clause-refused
 returns-in-Err-clause-refused c =
-    let s = source (arc_value c.args.unit.now) in
+    let s = source (arc_value c.args.typed) in
     let r = c.in-Err.ensures.refused in
     record {
       function = r.0;

@@ -1,4 +1,4 @@
-use Rattle.std.proofs.Common.{◌≡◌, ap, subst, ◌∙◌}
+use Rattle.std.proofs.Common.{◌≡◌, sym, subst, ◌∙◌}
 use Rattle.cc_ast.specs.Parse.{SpellsText}
 use Rattle.cc_types.specs.Checked.{IsChecked}
 use Rattle.cc_emit.specs.Piece.{IsPieceOfUnit}
@@ -13,8 +13,7 @@ loop-at-preserved c =
     let one : c.deref-other.result.now ≡ c.index-pieces-at.result.now.unit = c.deref-other.ensures ∙ c.unit.ensures.answer in
     let tree = c.externals-kept.ensures in
     record {
-      left = c.loop-at.invariant.left ∙ stranger_next c.args.text.now c.text.result.now c.loop-at.at c.args.pieces.now c.index-pieces-at.result c.loop-at-test.true c.index-pieces-at.is
-          (c.text.ensures.answer ∙ ap (λ (u : parsed.Unit). (source u).text) (c.deref-other.ensures ∙ c.unit.ensures.answer)) c.if-ne.ensures;
+      left = c.loop-at.invariant.left ∙ stranger_next c.args.mode c.args.text.now c.loop-at.at c.args.pieces.now c.index-pieces-at.result c.loop-at-test.true c.index-pieces-at.is (sym c.is_own.ensures ∙ c.if-not-is_own.false);
       kept = kept_next IsPieceOfUnit c.args.pieces.now c.loop-at.at c.index-pieces-at.result c.loop-at-test.true c.index-pieces-at.is c.items-kept.ensures.piece c.loop-at.invariant.kept;
       compiled = kept_next IsCompiled c.args.pieces.now c.loop-at.at c.index-pieces-at.result c.loop-at-test.true c.index-pieces-at.is
           (record {

@@ -7,7 +7,7 @@ use Rattle.cc_link.proofs.order.stranger.Given as goal
 -- no stranger so far, and each piece so far is what its type keeps
 abbrev pub invariant-loop-at : goal.invariant-loop-at
 invariant-loop-at l = record {
-  left : stranger l.text 0 (lent_pieces l.pieces) ≡ stranger l.text l.at (lent_pieces (drop l.at l.pieces));
+  left : stranger l.mode l.text 0 (lent_pieces l.pieces) ≡ stranger l.mode l.text l.at (lent_pieces (drop l.at l.pieces));
   kept : (k : ℕ) (d : Piece) → k < l.at → IsPieceOfUnit (get_or (lent_pieces l.pieces) k d);
   compiled : (k : ℕ) (d : Piece) → k < l.at → IsCompiled (get_or (lent_pieces l.pieces) k d);
 }

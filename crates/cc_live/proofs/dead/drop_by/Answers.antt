@@ -31,5 +31,5 @@ returns-clause-dropped c =
     let live = rows_at nodes c.args.live.now in
     let named : c.as_slice.result.now ≡ dead_labels live nodes = c.as_slice.ensures.value ∙ (c.in_ok-labels.ensures ∙ ap (λ (r : Rtl). dead_labels (rows_at r.nodes c.args.live.now) r.nodes) c.code.ensures.code) in
     c.make_nops.ensures
-    ∙ ap {B = Pair} (λ (ns : List Labelled). record { unit = pair.unit; function = pair.function; rtl = record { parameters = pair.rtl.parameters; entry = pair.rtl.entry; nodes = ns } })
+    ∙ ap {B = Pair} (λ (ns : List Labelled). record { mode = pair.mode; unit = pair.unit; function = pair.function; rtl = record { parameters = pair.rtl.parameters; entry = pair.rtl.entry; nodes = ns } })
     (ap (λ ls. with_nops (these ls) nodes) named ∙ without_labels live nodes c.code.ensures.rtl.ascend)

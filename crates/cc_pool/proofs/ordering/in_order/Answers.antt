@@ -7,7 +7,7 @@ use Rattle.cc_ast.specs.declared.unit.Unit as parsed
 use Rattle.cc_types.specs.Checked.{IsChecked}
 use Rattle.cc_emit.specs.Piece.{Piece}
 use Rattle.cc_link.specs.Made.{IsCompiled}
-use Rattle.cc_link.specs.Pieces.{AreFrom}
+use Rattle.cc_link.specs.Pieces.{AreFromIn}
 use Rattle.cc_pool.proofs.Pieces.{one_from, refusal_of}
 use Rattle.cc_pool.proofs.ordering.in_order.Goals as goal
 
@@ -16,7 +16,7 @@ loop-function-init c =
     let none : c.new-pieces.result.items ≡ [] = search rules in
     record {
       count = ap length none;
-      own = subst (λ (ps : List Piece). AreFrom c.args.text.now 0 ps) (sym none) tt;
+      own = subst (λ (ps : List Piece). AreFromIn c.args.mode c.args.text.now 0 ps) (sym none) tt;
       compiled = subst (λ (ps : List Piece). All IsCompiled ps) (sym none) (All-nil IsCompiled);
     }
 
@@ -36,11 +36,11 @@ loop-function-preserved c =
     let items : c.push.new.self.items ≡ c.loop-function.pieces.items ++ p ∷ [] = search rules in
     record {
       count = ap length items ∙ omega (arith, length-append c.loop-function.pieces.items (p ∷ []), h.count);
-      own = subst (λ (ps : List Piece). AreFrom text 0 ps) (sym items) (one_from text 0 c.loop-function.pieces.items p h.own is.0 (is.1 ∙ omega (arith, h.count)));
+      own = subst (λ (ps : List Piece). AreFromIn c.args.mode text 0 ps) (sym items) (one_from c.args.mode text 0 c.loop-function.pieces.items p h.own is.0 (is.1 ∙ omega (arith, h.count)));
       compiled = subst (λ (ps : List Piece). All IsCompiled ps) (sym items) (All-push IsCompiled c.loop-function.pieces.items p h.compiled compiled);
     }
 
 pub returns-in_default-clause-refused : goal.returns-in_default-clause-refused
 returns-in_default-clause-refused c =
     let h = c.loop-function.invariant in
-    refusal_of c.args.text.now c.loop-function.function c.loop-function.pieces.items c.reason.result h.own h.compiled h.count c.reason.ensures
+    refusal_of c.args.mode c.args.text.now c.loop-function.function c.loop-function.pieces.items c.reason.result h.own h.compiled h.count c.reason.ensures

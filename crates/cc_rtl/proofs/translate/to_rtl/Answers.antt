@@ -28,23 +28,23 @@ returns-then-not-fits-clause-large c = λ _.
 
 pub new-rtl-requires-clause-numbered : goal.new-rtl-requires-clause-numbered
 new-rtl-requires-clause-numbered c =
-    let m = made_function c.with_statement-count.result (statement_of c.code-code.result.now) in
+    let m = made_function c.variables_above-count.result (statement_of c.code-code.result.now) in
     subst (AreNumbered 0) (sym c.in-Ok.ensures.nodes) (numbered_from m.entry 0 (nodes_back m.places))
 
 pub new-rtl-requires-clause-rtl : goal.new-rtl-requires-clause-rtl
 new-rtl-requires-clause-rtl c =
-    rtl_made c.args.pair c.code-code.result.now c.parameters_of-parameters.result c.with_statement-count.result (labelled_of c.in-Ok.nodes.entries) c.code-code.ensures.code c.with_statement-count.ensures.counted c.in-Ok.ensures.nodes
+    rtl_made c.args.pair c.code-code.result.now c.parameters_of-parameters.result c.variables_above-count.result (labelled_of c.in-Ok.nodes.entries) c.code-code.ensures.code c.variables_above-count.ensures.counted c.in-Ok.ensures.nodes
     (c.if-not-fits.ensures.small refl)
 
 pub new-requires : goal.new-requires
 new-requires c =
-    subst (λ (r : Rtl). IsPair (record { unit = arc_value c.into_unit.result; function = c.function-function.result; rtl = r })) (sym c.new-rtl.ensures)
-    (pair_made c.args.pair c.code-code.result.now c.parameters_of-parameters.result c.with_statement-count.result (labelled_of c.in-Ok.nodes.entries) c.code-code.ensures.code c.with_statement-count.ensures.counted c.in-Ok.ensures.nodes
-    (c.if-not-fits.ensures.small refl) (arc_value c.into_unit.result) c.function-function.result c.into_unit.ensures.answer c.function-function.ensures.answer c.code-code.ensures.typed c.function-function.ensures.of_unit
+    subst (λ (r : Rtl). IsPair (record { mode = c.mode-mode.result; unit = arc_value c.into_unit.result; function = c.function-function.result; rtl = r })) (sym c.new-rtl.ensures)
+    (pair_made c.args.pair c.code-code.result.now c.parameters_of-parameters.result c.variables_above-count.result (labelled_of c.in-Ok.nodes.entries) c.code-code.ensures.code c.variables_above-count.ensures.counted c.in-Ok.ensures.nodes
+    (c.if-not-fits.ensures.small refl) c.mode-mode.result (arc_value c.into_unit.result) c.function-function.result c.mode-mode.ensures.answer c.into_unit.ensures.answer c.function-function.ensures.answer c.code-code.ensures.typed c.function-function.ensures.of_unit
     c.parameters_of-parameters.ensures.parameters c.code-code.ensures.calls c.code-code.ensures.keeps_up)
 
 pub returns-in-Ok-clause-nodes : goal.returns-in-Ok-clause-nodes
 returns-in-Ok-clause-nodes c =
     ap (λ (p : Pair). length p.rtl.nodes) c.new.ensures ∙ ap (λ (r : Rtl). length r.nodes) c.new-rtl.ensures
-    ∙ as_many_nodes c.args.pair c.code-code.result.now c.parameters_of-parameters.result c.with_statement-count.result (labelled_of c.in-Ok.nodes.entries) c.code-code.ensures.code c.with_statement-count.ensures.counted c.in-Ok.ensures.nodes
+    ∙ as_many_nodes c.args.pair c.code-code.result.now c.parameters_of-parameters.result c.variables_above-count.result (labelled_of c.in-Ok.nodes.entries) c.code-code.ensures.code c.variables_above-count.ensures.counted c.in-Ok.ensures.nodes
     (c.if-not-fits.ensures.small refl)

@@ -14,8 +14,11 @@ pub new-requires : goal.new-requires
 new-requires c =
     let p = c.args.pair in
     let limits = subst (λ (u : parsed.Unit). IsWithinLimits (source u).externals) (c.deref.ensures ∙ c.unit.ensures.answer) c.is_within_limits.ensures in
-    handed p.unit _ p.function _ p.ltl _ (selected p.code) _ c.into_parts-unit.ensures.unit c.function-function.ensures.answer c.into_parts-unit.ensures.ltl (c.in_ok-steps.ensures ∙ ap selected c.code.ensures.code)
+    handed p.mode _ p.unit _ p.function _ p.ltl _ (selected p.code) _ c.mode-mode.ensures.answer c.into_parts-unit.ensures.unit c.function-function.ensures.answer c.into_parts-unit.ensures.ltl (c.in_ok-steps.ensures ∙ ap selected c.code.ensures.code)
     (pair_selected p (subst above.IsPair c.pair.view_is c.pair.invariant) limits)
+
+pub returns-clause-mode : goal.returns-clause-mode
+returns-clause-mode c = ap (λ (p : Pair). p.mode) c.new.ensures ∙ c.mode-mode.ensures.answer
 
 pub returns-clause-function : goal.returns-clause-function
 returns-clause-function c = ap (λ (p : Pair). p.function) c.new.ensures ∙ c.function-function.ensures.answer

@@ -1,5 +1,5 @@
 -- The shares are the whole ledger, so the receipts are as many as the history is long; the rest is `receipts_count_up`.
-use Rattle.std.proofs.Common.{◌≡◌, List, length, sym, ap, ◌∙◌, subst, arith}
+use Rattle.std.proofs.Common.{◌≡◌, List, length, sym, ap, subst, arith}
 use Rattle.cc_history.specs.declared.entry.Entry.{Entry}
 use Rattle.cc_history.specs.Closing.{ReceiptsStand, receipts_of}
 use Rattle.cc_recorded.specs.Book.{BookView}

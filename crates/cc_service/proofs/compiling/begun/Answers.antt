@@ -1,5 +1,5 @@
 use Rattle.std.proofs.Common.{ℕ, List, subst}
-use Rattle.cc_service.specs.Compiling.{HasHandedIn, HasSentFor}
+use Rattle.cc_service.specs.Compiling.{HasSentFor}
 use Rattle.cc_service.proofs.compiling.begun.Goals as goal
 
 pub returns-in-Ok-clause-sent : goal.returns-in-Ok-clause-sent

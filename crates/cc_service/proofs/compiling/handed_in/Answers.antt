@@ -1,5 +1,5 @@
 -- The pass has sent the functions of one job, all or the first: those of the text's program, whose tree is the unit's.
-use Rattle.std.proofs.Common.{◌≡◌, ◌++◌, ℕ, length, inr, List, ap, sym, ◌∙◌, subst}
+use Rattle.std.proofs.Common.{◌≡◌, ◌++◌, ℕ, length, inr, List, ap, ◌∙◌, subst}
 use Rattle.std.specs.Arc.{arc_value}
 use Rattle.cc_ast.specs.Source.{source}
 use Rattle.cc_ast.specs.Tree.{Source}
@@ -27,29 +27,30 @@ pub invariant_of-result : goal.invariant_of-result
 invariant_of-result g c =
     let s = source (arc_value c.args.unit) in
     let same : source (arc_value c.in-Ok.theirs) ≡ s = cc c.in-Ok.ensures in
-    (c.requires.program, c.in-Ok-submit.ensures.text ∙ ap (λ (t : Source). t.text) same, c.in-Ok-submit.ensures.functions ∙ ap (λ (t : Source). length (defined_names t)) same)
+    (c.requires.program, c.in-Ok-submit_in.ensures.text ∙ ap (λ (t : Source). t.text) same, c.in-Ok-submit_in.ensures.mode, c.in-Ok-submit_in.ensures.functions ∙ ap (λ (t : Source). length (defined_names t)) same)
 
-pub returns-in-Ok-submit-clause-handed : goal.returns-in-Ok-submit-clause-handed
-returns-in-Ok-submit-clause-handed g c =
+pub returns-in-Ok-submit_in-clause-handed : goal.returns-in-Ok-submit_in-clause-handed
+returns-in-Ok-submit_in-clause-handed g c =
     let s = source (arc_value c.args.unit) in
     let other = source (arc_value c.in-Ok.theirs) in
     let same : other ≡ s = cc c.in-Ok.ensures in
-    all_of s other c.args.pass.now.sent c.submit.new.pass.sent c.in-Ok-submit.ticket.number c.in-Ok-submit.ticket.functions same c.requires.program c.in-Ok-submit.ensures.functions c.in-Ok-submit.ensures.sent
+    all_of s other c.args.pass.now.sent c.submit_in.new.pass.sent c.in-Ok-submit_in.ticket.number c.in-Ok-submit_in.ticket.functions same c.requires.program c.in-Ok-submit_in.ensures.functions c.in-Ok-submit_in.ensures.sent
 
-pub returns-in-Ok-submit-clause-sent : goal.returns-in-Ok-submit-clause-sent
-returns-in-Ok-submit-clause-sent g c =
-    of_tree (source (arc_value c.args.unit)) (source (arc_value c.in-Ok.theirs)) c.args.pass.now.sent c.submit.new.pass.sent (cc c.in-Ok.ensures) c.requires.program c.submit.ensures.some
+pub returns-in-Ok-submit_in-clause-sent : goal.returns-in-Ok-submit_in-clause-sent
+returns-in-Ok-submit_in-clause-sent g c =
+    of_tree (source (arc_value c.args.unit)) (source (arc_value c.in-Ok.theirs)) c.args.pass.now.sent c.submit_in.new.pass.sent (cc c.in-Ok.ensures) c.requires.program c.submit_in.ensures.some
 
 pub returns-in-Err-OutOfMemory-clause-sent : goal.returns-in-Err-OutOfMemory-clause-sent
 returns-in-Err-OutOfMemory-clause-sent g c =
-    of_tree (source (arc_value c.args.unit)) (source (arc_value c.in-Ok.theirs)) c.args.pass.now.sent c.submit.new.pass.sent (cc c.in-Ok.ensures) c.requires.program c.submit.ensures.some
+    of_tree (source (arc_value c.args.unit)) (source (arc_value c.in-Ok.theirs)) c.args.pass.now.sent c.submit_in.new.pass.sent (cc c.in-Ok.ensures) c.requires.program c.submit_in.ensures.some
 
 pub returns : goal.returns
 returns g c =
     let s = source (arc_value c.args.unit) in
     record {
       text = tt;
+      mode = tt;
       handed = tt;
       refused = record { tree = s.externals; is = c.requires.program };
-      sent = of_tree s (source (arc_value c.in-Ok.theirs)) c.args.pass.now.sent c.submit.new.pass.sent (cc c.in-Ok.ensures) c.requires.program c.submit.ensures.some;
+      sent = of_tree s (source (arc_value c.in-Ok.theirs)) c.args.pass.now.sent c.submit_in.new.pass.sent (cc c.in-Ok.ensures) c.requires.program c.submit_in.ensures.some;
     }

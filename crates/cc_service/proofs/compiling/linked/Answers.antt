@@ -1,29 +1,29 @@
 -- There is one piece of each function, so linking refuses them for the size of the image alone.
-use Rattle.std.proofs.Common.{◌≡◌, ◌⊎◌, inl, inr, length, List, Result, Err, sym, ap, ◌∙◌}
+use Rattle.std.proofs.Common.{◌≡◌, ◌⊎◌, inl, inr, length, List, Err, sym, ap, ◌∙◌}
 use Rattle.std.specs.Arc.{arc_value}
 use Rattle.cc_ast.specs.Source.{source}
 use Rattle.cc_ast.specs.Tree.{Source}
+use Rattle.cc_c_laws.specs.declared.mode.Mode.{Mode}
 use Rattle.cc_link.specs.Meaning.{functions}
-use Rattle.cc_library.specs.unit.StoredUnit.{StoredUnit}
 use Rattle.cc_emit.specs.Piece.{Piece}
-use Rattle.cc_link.specs.Linked.{linked}
-use Rattle.cc_link.specs.Pieces.{AreFrom}
+use Rattle.cc_link.specs.Linked.{linked_in}
+use Rattle.cc_link.specs.Pieces.{AreFromIn}
 use Rattle.cc_link.specs.declared.fault.LinkFault.{LinkFault}
-use Rattle.cc_link.specs.declared.fault.LinkFault.TheVariants.{ImageTooLarge, Missing, Doubled, Stranger, OutOfMemory}
+use Rattle.cc_link.specs.declared.fault.LinkFault.TheVariants.{ImageTooLarge, OutOfMemory}
 use Rattle.cc_link.proofs.Deciding.{defined_long}
 use Rattle.cc_link.proofs.Own.{only_large}
 use Rattle.cc_service.proofs.compiling.linked.Goals as goal
 
-one_of_two : (s : Source) (ps : List Piece) (f : LinkFault) → AreFrom s.text 0 ps → length ps ≡ length (functions s.externals) → (f ≡ OutOfMemory) ⊎ (linked s ps ≡ Err f)
+one_of_two : (mode : Mode) (s : Source) (ps : List Piece) (f : LinkFault) → AreFromIn mode s.text 0 ps → length ps ≡ length (functions s.externals) → (f ≡ OutOfMemory) ⊎ (linked_in mode s ps ≡ Err f)
     → (f ≡ OutOfMemory) ⊎ (f ≡ ImageTooLarge)
-one_of_two s ps f own count (inl e) = inl e
-one_of_two s ps f own count (inr e) = inr (only_large s ps f own count e)
+one_of_two mode s ps f own count (inl e) = inl e
+one_of_two mode s ps f own count (inr e) = inr (only_large mode s ps f own count e)
 
 pub unreachable-requires : goal.unreachable-requires
 unreachable-requires c =
     let s = source (arc_value c.args.unit.now) in
     let count : length c.args.pieces.items ≡ length (functions s.externals) = c.requires.count ∙ defined_long s in
-    elim (one_of_two s c.args.pieces.items c.in-Err-Missing.field-0 c.requires.own count c.in-Err-Missing.ensures.refused) [
+    elim (one_of_two c.args.mode s c.args.pieces.items c.in-Err-Missing.field-0 c.requires.own count c.in-Err-Missing.ensures.refused) [
       | inl e ↦ let is = c.in-Err-Missing.field-0-is in cc
       | inr e ↦ let is = c.in-Err-Missing.field-0-is in cc
     ]
@@ -32,7 +32,7 @@ pub unreachable-requires-in-Err-Doubled : goal.unreachable-requires-in-Err-Doubl
 unreachable-requires-in-Err-Doubled c =
     let s = source (arc_value c.args.unit.now) in
     let count : length c.args.pieces.items ≡ length (functions s.externals) = c.requires.count ∙ defined_long s in
-    elim (one_of_two s c.args.pieces.items c.in-Err-Doubled.field-0 c.requires.own count c.in-Err-Doubled.ensures.refused) [
+    elim (one_of_two c.args.mode s c.args.pieces.items c.in-Err-Doubled.field-0 c.requires.own count c.in-Err-Doubled.ensures.refused) [
       | inl e ↦ let is = c.in-Err-Doubled.field-0-is in cc
       | inr e ↦ let is = c.in-Err-Doubled.field-0-is in cc
     ]
@@ -41,7 +41,7 @@ pub unreachable-requires-in-Err-Stranger : goal.unreachable-requires-in-Err-Stra
 unreachable-requires-in-Err-Stranger c =
     let s = source (arc_value c.args.unit.now) in
     let count : length c.args.pieces.items ≡ length (functions s.externals) = c.requires.count ∙ defined_long s in
-    elim (one_of_two s c.args.pieces.items c.in-Err-Stranger.field-0 c.requires.own count c.in-Err-Stranger.ensures.refused) [
+    elim (one_of_two c.args.mode s c.args.pieces.items c.in-Err-Stranger.field-0 c.requires.own count c.in-Err-Stranger.ensures.refused) [
       | inl e ↦ let is = c.in-Err-Stranger.field-0-is in cc
       | inr e ↦ let is = c.in-Err-Stranger.field-0-is in cc
     ]

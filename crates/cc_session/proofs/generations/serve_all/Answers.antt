@@ -2,20 +2,22 @@
 use Rattle.std.proofs.Common.{zero, suc, map}
 use Rattle.cc_session.specs.Spooling.{ServingEnds, given_by}
 use Rattle.cc_session.proofs.Chains.{goes_on_by, serves_one_more, serves_still}
-use Rattle.cc_session.proofs.generations.serve_all.Goals.{in-None, in-Some+then-not-goes_on}
 use Rattle.cc_session.proofs.generations.serve_all.Goals as goal
 
 pub returns-then-not-is_well : goal.returns-then-not-is_well
-returns-then-not-is_well g c = record { generations = (zero, c.serve_quietly-left.ensures.answers) }
+returns-then-not-is_well g c = record {
+  generations = (zero, c.serve_quietly-left.ensures.answers);
+  over = λ finished. absurd (c.is_well.ensures.not c.if-not-is_well.true finished);
+}
 
 pub loop-init : goal.loop-init
-loop-init g c = (zero, c.serve_quietly-left.ensures.answers, c.is_well.ensures c.if-not-is_well.false)
+loop-init g c = (zero, c.serve_quietly-left.ensures.answers, c.is_well.ensures.well c.if-not-is_well.false)
 
 pub loop-preserved : goal.loop-preserved
 loop-preserved g c =
     let D = g.D.Disk in
     let by = given_by g.S.Spool.taken g.S.Spool.ended in
-    let Ends = ServingEnds D in
+    let Ends = ServingEnds c.args.mode D in
     let so_far = c.loop.invariant in
     let looked = c.goes_on.ensures in
     let now = c.goes_on.new.left in
@@ -27,20 +29,19 @@ loop-preserved g c =
       tt,
     )
 
-pub returns : goal.returns
-returns g c =
+pub returns-then-not-goes_on : goal.returns-then-not-goes_on
+returns-then-not-goes_on g c =
     let D = g.D.Disk in
     let by = given_by g.S.Spool.taken g.S.Spool.ended in
-    let Ends = ServingEnds D in
+    let Ends = ServingEnds c.args.mode D in
     let so_far = c.loop.invariant in
     let left = c.loop.left in
+    let looked = c.goes_on.ensures in
+    let now = c.goes_on.new.left in
     record {
-      generations = elim c.match-next.branch [
-        | in-None w ↦ rw w.left-is (so_far.0, so_far.1)
-        | in-Some+then-not-goes_on w ↦
-            let looked = w.goes_on.ensures in
-            let now = w.goes_on.new.left in
-            rw w.left-is
-            (so_far.0, serves_still Ends so_far.0 (map by c.args.spools.items) (map by left.spools.items) (map by now.spools.items) c.args.disk left.disk now.disk left.end now.end looked.spools looked.disk looked.end so_far.1)
-      ];
+      generations = (
+        so_far.0,
+        serves_still Ends so_far.0 (map by c.args.spools.items) (map by left.spools.items) (map by now.spools.items) c.args.disk left.disk now.disk left.end now.end looked.spools looked.disk looked.end so_far.1,
+      );
+      over = looked.over c.if-not-goes_on.true;
     }

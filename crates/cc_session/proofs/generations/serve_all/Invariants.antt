@@ -10,5 +10,5 @@ invariant-loop g l =
     let D = g.D.Disk in
     let by = given_by g.S.Spool.taken g.S.Spool.ended in
     (earlier : ℕ)
-    × ServesOn (ServingEnds D) earlier (map by l.fn.spools.items) (map by l.left.spools.items) l.fn.disk l.left.disk l.left.end
+    × ServesOn (ServingEnds l.mode D) earlier (map by l.fn.spools.items) (map by l.left.spools.items) l.fn.disk l.left.disk l.left.end
     × BeginsWell earlier l.left.end

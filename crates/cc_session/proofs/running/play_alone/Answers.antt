@@ -9,5 +9,5 @@ returns-in-Ok g c = λ end after written.
     let W = g.W.Write.contents in
     let now = c.play-played.new.client.member in
     let alone : members c.push_reserved.new.self.items ≡ now ∷ [] = search rules in
-    called_by c.play-played.result c.ended.result c.args.script.now.rest (W c.args.answers.now) (W c.play-played.new.answers) after end (members c.push_reserved.new.self.items)
+    called_by c.args.mode c.play-played.result c.ended.result c.args.script.now.rest (W c.args.answers.now) (W c.play-played.new.answers) after end (members c.push_reserved.new.self.items)
     c.in-Ok.client.member now c.in-Ok.ensures.ok.0 alone c.play-played.ensures.played c.ended.ensures written

@@ -14,7 +14,7 @@ returns-in_default g c =
     let u = c.unserved.ensures in
     let before = map by c.args.spools.items in
     let after = map by c.unserved.result.spools.items in
-    unserved_by D N.from N.left (after ≡ before) (HaveServed before after) N.base (Opening OutOfMemory) c.args.begun.library.disk
+    unserved_by D N.from N.left (after ≡ before) (HaveServed c.args.mode before after) N.base (Opening OutOfMemory) c.args.begun.library.disk
     c.args.begun.library.disk c.unserved.result.disk c.unserved.result.end (u.disk ∙ c.into_disk.ensures) u.end refl (λ h. reads_none D c.args.begun.library.disk) (ap (λ v. map by v.items) u.spools)
 
 pub returns : goal.returns
@@ -26,7 +26,7 @@ returns g c =
     let left = c.unserved-in-Err.result in
     let before = map by c.args.spools.items in
     let after = map by left.spools.items in
-    unserved_by D N.from N.left (after ≡ before) (HaveServed before after) N.base c.in-Err.fault c.args.begun.library.disk
+    unserved_by D N.from N.left (after ≡ before) (HaveServed c.args.mode before after) N.base c.in-Err.fault c.args.begun.library.disk
     c.in-Err.disk left.disk left.end u.disk u.end
     (not_over D N.base c.args.begun.library c.in-Err.disk c.in-Err.fault c.requires.recovered c.requires.named c.in-Err.ensures.refused c.in-Err.ensures.back)
     (λ h. reads_back D c.args.begun.library.disk c.in-Err.disk c.in-Err.ensures.back) (ap (λ v. map by v.items) u.spools)

@@ -14,7 +14,7 @@ returns-in-Ok g c =
     let before = map by c.args.spools.items in
     let after = map by c.serve_begun.result.spools.items in
     record {
-      answers = ends_on D (after ≡ before) (HaveServed before after) c.in-Ok.begun.before.value c.args.disk c.in-Ok.begun.library.disk
+      answers = ends_on D (after ≡ before) (HaveServed c.args.mode before after) c.in-Ok.begun.before.value c.args.disk c.in-Ok.begun.library.disk
           c.serve_begun.result.disk c.serve_begun.result.end e.before e.sound e.reads c.serve_begun.ensures;
     }
 
@@ -27,6 +27,6 @@ returns-in-Err g c =
     let before = map by c.args.spools.items in
     let after = map by left.spools.items in
     record {
-      answers = unserved_by D (D.moment c.args.disk) (D.may_leave c.args.disk) (after ≡ before) (HaveServed before after) empty
+      answers = unserved_by D (D.moment c.args.disk) (D.may_leave c.args.disk) (after ≡ before) (HaveServed c.args.mode before after) empty
           (Opening c.in-Err.fault) c.args.disk c.in-Err.disk left.disk left.end u.disk u.end c.in-Err.ensures.refused c.in-Err.ensures.reads_refused (ap (λ v. map by v.items) u.spools);
     }

@@ -5,7 +5,7 @@ use Rattle.cc_recorded.specs.Book.{BookView}
 use Rattle.cc_recorded.specs.Since.{AreSince, IsSinceOpening}
 use Rattle.cc_recorded.specs.Tie.{IsTied}
 use Rattle.cc_recorded.proofs.Tying.{opening_tied}
-use Rattle.cc_recorded.proofs.Sinces.{one_more, opening_now}
+use Rattle.cc_recorded.proofs.Sinces.{one_more, opening_now, ordered_begins}
 use Rattle.cc_recorded.proofs.book.Book.begin.Goals as goal
 
 pub invariant_of-result : goal.invariant_of-result
@@ -21,4 +21,6 @@ invariant_of-result g c =
           (λ k old at. let none : None ≡ Some old = sym (ap (λ (l : List (BookView g.row.D.Denot)). slice_get l k) c.new.ensures) ∙ at in absurd (cc)));
       opened = λ h. subst (λ (b : BookView g.row.D.Denot). IsSinceOpening D g.N.Based.from g.N.Based.left b) (sym c.new-recorded.ensures)
           (opening_now D first g.N.Based.from g.N.Based.left (c.requires.past h));
+      ordered = λ h. ordered_begins D book c.kept.ensures.replays c.kept.ensures.one (λ image left. g.met.D.Disk.only_now book.library.disk image h left) (c.kept.ensures.images h)
+          (ap (λ (b : BookView g.row.D.Denot). b.history) c.new-recorded.ensures);
     }

@@ -8,7 +8,7 @@ use Rattle.cc_core.specs.Rules.{HasBuilt}
 use Rattle.cc_history.specs.Calls.{change_of}
 use Rattle.cc_recorded.proofs.Tying.{TurnLaw, commit_tied}
 use Rattle.cc_recorded.proofs.Putting.{built_of}
-use Rattle.cc_recorded.proofs.Sinces.{Goes, commit_goes, one_more, opening_goes, since_goes}
+use Rattle.cc_recorded.proofs.Sinces.{Goes, commit_goes, one_more, opening_goes, ordered_goes, since_goes}
 use Rattle.cc_recorded.proofs.book.Book.commit.Goals as goal
 
 pub invariant_of-self : goal.invariant_of-self
@@ -29,6 +29,8 @@ invariant_of-self g c =
           (one_more D after_it c.self.inside.since.items c.kept-3.ensures.replays c.kept-3.ensures.one (λ image left. g.met.D.Disk.only_now after_it.library.disk image h left) (c.kept-3.ensures.images h)
           (λ k old at. since_goes D before after_it old (goes h) (c.self.invariant.since h k old at)));
       opened = λ h. opening_goes D before after_it (goes h) g.N.Based.from g.N.Based.left (c.self.invariant.opened h);
+      ordered = λ h. ordered_goes D after_it c.kept-3.ensures.replays c.kept-3.ensures.one (λ image left. g.met.D.Disk.only_now after_it.library.disk image h left) (c.kept-3.ensures.images h) before (goes h)
+          (c.self.invariant.ordered h);
     }
 
 pub returns-clause-changed : goal.returns-clause-changed

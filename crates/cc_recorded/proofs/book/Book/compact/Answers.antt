@@ -4,7 +4,7 @@ use Rattle.cc_recorded.specs.Book.{BookView}
 use Rattle.cc_recorded.specs.Changed.{IsBookCompacted}
 use Rattle.cc_recorded.specs.Since.{AreSince, BookSince}
 use Rattle.cc_recorded.proofs.Tying.{TurnLaw, compact_tied}
-use Rattle.cc_recorded.proofs.Sinces.{Goes, compact_goes, one_more, opening_goes, since_goes}
+use Rattle.cc_recorded.proofs.Sinces.{Goes, compact_goes, one_more, opening_goes, ordered_goes, since_goes}
 use Rattle.cc_recorded.proofs.book.Book.compact.Goals as goal
 
 pub invariant_of-self : goal.invariant_of-self
@@ -22,6 +22,8 @@ invariant_of-self g c =
           (one_more D after_it c.self.inside.since.items c.kept-2.ensures.replays c.kept-2.ensures.one (λ image left. g.met.D.Disk.only_now after_it.library.disk image h left) (c.kept-2.ensures.images h)
           (λ k old at. since_goes D before after_it old (goes h) (c.self.invariant.since h k old at)));
       opened = λ h. opening_goes D before after_it (goes h) g.N.Based.from g.N.Based.left (c.self.invariant.opened h);
+      ordered = λ h. ordered_goes D after_it c.kept-2.ensures.replays c.kept-2.ensures.one (λ image left. g.met.D.Disk.only_now after_it.library.disk image h left) (c.kept-2.ensures.images h) before (goes h)
+          (c.self.invariant.ordered h);
     }
 
 pub returns-clause-compacted : goal.returns-clause-compacted

@@ -1,6 +1,5 @@
-use Rattle.std.proofs.Common.{◌≡◌, map, sym, ap, subst}
+use Rattle.std.proofs.Common.{◌≡◌, map, ap, subst}
 use Rattle.cc_history.specs.Closing.{IsClosed, IsNotWhole}
-use Rattle.cc_history.specs.History.{MemberView}
 use Rattle.cc_recorded.specs.Book.{BookView}
 use Rattle.cc_recorded.specs.Since.{BookSince}
 use Rattle.cc_recorded.proofs.book.Book.give_up.Goals as goal
@@ -11,8 +10,7 @@ returns g c =
     let book : c.self.inside.recorded ≡ c.args.self.book = ap (λ (b : BookSince g.row.D.Denot). b.book) c.self.view_is in
     let whole = c.is_whole-are_all.ensures in
     record {
-      book = c.args.self.book;
-      disk_is = sym c.into_disk.ensures;
+      disk = c.into_disk.ensures;
       sound = c.survives.ensures.sound;
       own = whole.own;
       closed = λ all. subst (λ (b : BookView g.row.D.Denot). IsClosed b.history clients) book (whole.closed all);

@@ -34,6 +34,7 @@ returns-clause-sound g c =
       survives = λ h image left. tied_survives compiling Keeps c.crash_law.ensures.survives c.crash_law.ensures.units D book (c.self.invariant.tied h) image left;
       since = λ h image left.
           or_prefix book N.left image (held_agrees c.units_agree.ensures c.units_law.ensures.found book kept.replays kept.agreed kept.agreed_failed 0 image) ((c.self.invariant.opened h).holds image left);
+      ordered = λ h. c.self.invariant.ordered h;
     })
 
 pub returns-clause-since : goal.returns-clause-since

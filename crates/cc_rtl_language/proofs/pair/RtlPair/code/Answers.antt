@@ -5,9 +5,9 @@ use Rattle.cc_rtl_language.proofs.Layer.{follows_of}
 use Rattle.cc_rtl_language.proofs.pair.RtlPair.code.Goals as goal
 
 pub returns-clause-keeps_up : goal.returns-clause-keeps_up
-returns-clause-keeps_up c = subst (λ (p : Pair). KeepsUp (tree_of p) p.function p.rtl) c.self.view_is c.self.invariant.keeps_up
+returns-clause-keeps_up c = subst (λ (p : Pair). KeepsUp p.mode (tree_of p) p.function p.rtl) c.self.view_is c.self.invariant.keeps_up
 
 pub returns-clause-follows : goal.returns-clause-follows
 returns-clause-follows c =
-    follows_of (tree_of c.args.self.now) c.args.self.now.function c.args.self.now.rtl
-    (subst (λ (p : Pair). KeepsUp (tree_of p) p.function p.rtl) c.self.view_is c.self.invariant.keeps_up)
+    follows_of c.args.self.now.mode (tree_of c.args.self.now) c.args.self.now.function c.args.self.now.rtl
+    (subst (λ (p : Pair). KeepsUp p.mode (tree_of p) p.function p.rtl) c.self.view_is c.self.invariant.keeps_up)

@@ -13,10 +13,10 @@ make_nops-requires c = subst (λ (p : Pair). All (λ l. IsSome (node_at p.rtl.no
 
 pub invariant_of-self : goal.invariant_of-self
 invariant_of-self c =
-    let old : Pair = record { unit = arc_value c.self.inside.unit; function = c.self.inside.function; rtl = c.self.inside.code } in
-    subst (λ (r : Rtl). IsPair (record { unit = arc_value c.self.inside.unit; function = c.self.inside.function; rtl = r })) (sym c.make_nops.ensures)
+    let old : Pair = record { mode = c.self.inside.mode; unit = arc_value c.self.inside.unit; function = c.self.inside.function; rtl = c.self.inside.code } in
+    subst (λ (r : Rtl). IsPair (record { mode = c.self.inside.mode; unit = arc_value c.self.inside.unit; function = c.self.inside.function; rtl = r })) (sym c.make_nops.ensures)
     (pair_without old c.args.labels.now (subst (λ (p : Pair). MayGo c.args.labels.now p.rtl) (sym c.self.view_is) c.requires.dead) c.self.invariant)
 
 pub returns : goal.returns
 returns c =
-    ap {B = Pair} (λ r. record { unit = arc_value c.self.inside.unit; function = c.self.inside.function; rtl = r }) c.make_nops.ensures ∙ ap (λ (p : Pair). record p { rtl = without c.args.labels.now p.rtl }) c.self.view_is
+    ap {B = Pair} (λ r. record { mode = c.self.inside.mode; unit = arc_value c.self.inside.unit; function = c.self.inside.function; rtl = r }) c.make_nops.ensures ∙ ap (λ (p : Pair). record p { rtl = without c.args.labels.now p.rtl }) c.self.view_is

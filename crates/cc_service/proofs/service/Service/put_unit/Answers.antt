@@ -7,11 +7,12 @@ use Rattle.cc_service.proofs.service.Service.put_unit.Goals as goal
 pub returns-in-Ok-clause-answers : goal.returns-in-Ok-clause-answers
 returns-in-Ok-clause-answers g c =
     let name = c.args.name in
-    let text = c.args.prepared in
-    let Asks = Puts c.args.put name text in
+    let mode = c.args.prepared.mode in
+    let text = c.args.prepared.text in
+    let Asks = Puts c.args.put mode name text in
     let command = c.change_of.result in
-    let asked = c.change_of.ensures text (c.in-Ok.ensures.source, c.in-Ok.ensures.agrees) in
-    put Asks command asked c.args.client.now.member c.change.new.client.member name text c.requires.named c.in-Ok.ensures.program c.change.result c.change.ensures.answers
+    let asked = c.change_of.ensures mode text (c.in-Ok.ensures.source, c.in-Ok.ensures.agrees, c.in-Ok.ensures.follows) in
+    put Asks command asked c.args.client.now.member c.change.new.client.member mode name text c.requires.named c.in-Ok.ensures.program c.change.result c.change.ensures.answers
 
 pub returns-in-Ok-clause-past_text : goal.returns-in-Ok-clause-past_text
 returns-in-Ok-clause-past_text g c =
@@ -20,6 +21,7 @@ returns-in-Ok-clause-past_text g c =
 pub returns-in-Err-clause-answers : goal.returns-in-Err-clause-answers
 returns-in-Err-clause-answers g c =
     let name = c.args.name in
-    let text = c.args.prepared in
+    let mode = c.args.prepared.mode in
+    let text = c.args.prepared.text in
     let member = c.args.client.now.member in
-    not_put (Puts c.args.put name text) name text member member c.requires.named refl c.in-Err.fault c.in-Err.ensures.refused
+    not_put mode (Puts c.args.put mode name text) name text member member c.requires.named refl c.in-Err.fault c.in-Err.ensures.refused

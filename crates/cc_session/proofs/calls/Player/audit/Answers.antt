@@ -14,10 +14,10 @@ returns-in-Ok-true g c =
     let last = talk c.audit_names.new.client.member (W c.audit_names.new.answers) in
     let are : c.in-Ok.listing.entry.reply ≡ reply.Names c.as_slice.result.now = cc in
     let all : c.in-Ok-true.field-0 ≡ true = search rules in
-    let each = subst (λ (b : Bool). AuditsEach c.as_slice.result.now b (talk heard (W c.args.answers.now)) last) all c.in-Ok-true.ensures in
-    audits_all c.tell_ok.result c.in-Ok.listing c.as_slice.result.now heard old new (W c.audit_names.new.answers) c.in-Ok.ensures.answers are each c.tell_ok.ensures
+    let each = subst (λ (b : Bool). AuditsEach c.args.self.now.mode c.as_slice.result.now b (talk heard (W c.args.answers.now)) last) all c.in-Ok-true.ensures in
+    audits_all c.args.self.now.mode c.tell_ok.result c.in-Ok.listing c.as_slice.result.now heard old new (W c.audit_names.new.answers) c.in-Ok.ensures.answers are each c.tell_ok.ensures
 
 pub returns : goal.returns
 returns g c =
     let W = g.W.Write.contents in
-    audits_none c.refuse.result c.in-Err.fault (talk c.args.client.now.member (W c.args.answers.now)) (talk c.list.new.client.member (W c.refuse.new.answers)) c.in-Err.ensures.answers c.refuse.ensures
+    audits_none c.args.self.now.mode c.refuse.result c.in-Err.fault (talk c.args.client.now.member (W c.args.answers.now)) (talk c.list.new.client.member (W c.refuse.new.answers)) c.in-Err.ensures.answers c.refuse.ensures

@@ -14,17 +14,17 @@ use Rattle.cc_session.proofs.calls.Player.obey.Goals as goal
 
 pub returns-in-Some-Add-clause-done : goal.returns-in-Some-Add-clause-done
 returns-in-Some-Add-clause-done g c =
-    obeyed_as c.args.self.now.most c.put.result (asked_of c.args.dialect c.args.line.now) (Some (Add c.in-Some-Add.name.now c.in-Some-Add.length)) c.args.script.now c.put.new.script (talk c.args.client.now.member (g.W.Write.contents c.args.answers.now)) (talk c.put.new.client.member (g.W.Write.contents c.put.new.answers))
+    obeyed_as c.args.self.now.mode c.args.self.now.most c.put.result (asked_of c.args.dialect c.args.line.now) (Some (Add c.in-Some-Add.name.now c.in-Some-Add.length)) c.args.script.now c.put.new.script (talk c.args.client.now.member (g.W.Write.contents c.args.answers.now)) (talk c.put.new.client.member (g.W.Write.contents c.put.new.answers))
     (rw c.in-Some-Add.field-0-is at c.in-Some-Add.ensures) c.put.ensures.done
 
 pub returns-in-Some-Replace-clause-done : goal.returns-in-Some-Replace-clause-done
 returns-in-Some-Replace-clause-done g c =
-    obeyed_as c.args.self.now.most c.put-in-Some-Replace.result (asked_of c.args.dialect c.args.line.now) (Some (Replace c.in-Some-Replace.name.now c.in-Some-Replace.length)) c.args.script.now c.put-in-Some-Replace.new.script (talk c.args.client.now.member (g.W.Write.contents c.args.answers.now)) (talk c.put-in-Some-Replace.new.client.member (g.W.Write.contents c.put-in-Some-Replace.new.answers))
+    obeyed_as c.args.self.now.mode c.args.self.now.most c.put-in-Some-Replace.result (asked_of c.args.dialect c.args.line.now) (Some (Replace c.in-Some-Replace.name.now c.in-Some-Replace.length)) c.args.script.now c.put-in-Some-Replace.new.script (talk c.args.client.now.member (g.W.Write.contents c.args.answers.now)) (talk c.put-in-Some-Replace.new.client.member (g.W.Write.contents c.put-in-Some-Replace.new.answers))
     (rw c.in-Some-Replace.field-0-is at c.in-Some-Replace.ensures) c.put-in-Some-Replace.ensures.done
 
 pub returns-in-Some-Withdraw-clause-done : goal.returns-in-Some-Withdraw-clause-done
 returns-in-Some-Withdraw-clause-done g c =
-    called_as c.args.self.now.most c.withdraw.result (asked_of c.args.dialect c.args.line.now) (Some (Withdraw c.in-Some-Withdraw.name.now)) c.args.script.now (talk c.args.client.now.member (g.W.Write.contents c.args.answers.now)) (talk c.withdraw.new.client.member (g.W.Write.contents c.withdraw.new.answers))
+    called_as c.args.self.now.mode c.args.self.now.most c.withdraw.result (asked_of c.args.dialect c.args.line.now) (Some (Withdraw c.in-Some-Withdraw.name.now)) c.args.script.now (talk c.args.client.now.member (g.W.Write.contents c.args.answers.now)) (talk c.withdraw.new.client.member (g.W.Write.contents c.withdraw.new.answers))
     (CallsAndWrites (WithdrawAnswers c.in-Some-Withdraw.name.now) (SaysChange [])) (rw c.in-Some-Withdraw.field-0-is at c.in-Some-Withdraw.ensures)
     (tells_call c.withdraw.result (WithdrawAnswers c.in-Some-Withdraw.name.now) (SaysChange []) (talk c.args.client.now.member (g.W.Write.contents c.args.answers.now)) (talk c.withdraw.new.client.member (g.W.Write.contents c.withdraw.new.answers)) c.withdraw.ensures) (λ b n it. (refl, it))
 
@@ -33,7 +33,7 @@ returns-in-Some-Withdraw-clause-grows g c = withdraw_grows c.in-Some-Withdraw.na
 
 pub returns-in-Some-List-clause-done : goal.returns-in-Some-List-clause-done
 returns-in-Some-List-clause-done g c =
-    called_as c.args.self.now.most c.list.result (asked_of c.args.dialect c.args.line.now) (Some Names) c.args.script.now (talk c.args.client.now.member (g.W.Write.contents c.args.answers.now)) (talk c.list.new.client.member (g.W.Write.contents c.list.new.answers))
+    called_as c.args.self.now.mode c.args.self.now.most c.list.result (asked_of c.args.dialect c.args.line.now) (Some Names) c.args.script.now (talk c.args.client.now.member (g.W.Write.contents c.args.answers.now)) (talk c.list.new.client.member (g.W.Write.contents c.list.new.answers))
     (CallsAndWrites ListAnswers SaysNames) (rw c.in-Some-List.field-0-is at c.in-Some-List.ensures)
     (tells_call c.list.result ListAnswers SaysNames (talk c.args.client.now.member (g.W.Write.contents c.args.answers.now)) (talk c.list.new.client.member (g.W.Write.contents c.list.new.answers)) c.list.ensures) (λ b n it. (refl, it))
 
@@ -42,7 +42,7 @@ returns-in-Some-List-clause-grows g c = list_grows c.args.client.now.member c.li
 
 pub returns-in-Some-Run-clause-done : goal.returns-in-Some-Run-clause-done
 returns-in-Some-Run-clause-done g c =
-    obeyed_run c.run.result c.args.self.now.most (asked_of c.args.dialect c.args.line.now) c.in-Some-Run.name.now c.in-Some-Run.steps c.args.script.now
+    obeyed_run c.args.self.now.mode c.run.result c.args.self.now.most (asked_of c.args.dialect c.args.line.now) c.in-Some-Run.name.now c.in-Some-Run.steps c.args.script.now
     (talk c.args.client.now.member (g.W.Write.contents c.args.answers.now)) (talk c.run.new.client.member (g.W.Write.contents c.run.new.answers))
     (rw c.in-Some-Run.field-0-is at c.in-Some-Run.ensures) c.run.ensures
 
@@ -53,7 +53,7 @@ returns-in-Some-Run-clause-grows g c =
 
 pub returns-in-Some-Image-clause-done : goal.returns-in-Some-Image-clause-done
 returns-in-Some-Image-clause-done g c =
-    called_as c.args.self.now.most c.show.result (asked_of c.args.dialect c.args.line.now) (Some (Image c.in-Some-Image.name.now)) c.args.script.now (talk c.args.client.now.member (g.W.Write.contents c.args.answers.now)) (talk c.show.new.client.member (g.W.Write.contents c.show.new.answers))
+    called_as c.args.self.now.mode c.args.self.now.most c.show.result (asked_of c.args.dialect c.args.line.now) (Some (Image c.in-Some-Image.name.now)) c.args.script.now (talk c.args.client.now.member (g.W.Write.contents c.args.answers.now)) (talk c.show.new.client.member (g.W.Write.contents c.show.new.answers))
     (CallsAndWrites (GetAnswers c.in-Some-Image.name.now) (SaysShown part.Image)) (rw c.in-Some-Image.field-0-is at c.in-Some-Image.ensures)
     (tells_call c.show.result (GetAnswers c.in-Some-Image.name.now) (SaysShown part.Image) (talk c.args.client.now.member (g.W.Write.contents c.args.answers.now)) (talk c.show.new.client.member (g.W.Write.contents c.show.new.answers)) c.show.ensures) (λ b n it. (refl, it))
 
@@ -62,7 +62,7 @@ returns-in-Some-Image-clause-grows g c = get_grows c.in-Some-Image.name.now c.ar
 
 pub returns-in-Some-Source-clause-done : goal.returns-in-Some-Source-clause-done
 returns-in-Some-Source-clause-done g c =
-    called_as c.args.self.now.most c.show-in-Some-Source.result (asked_of c.args.dialect c.args.line.now) (Some (Source c.in-Some-Source.name.now)) c.args.script.now (talk c.args.client.now.member (g.W.Write.contents c.args.answers.now)) (talk c.show-in-Some-Source.new.client.member (g.W.Write.contents c.show-in-Some-Source.new.answers))
+    called_as c.args.self.now.mode c.args.self.now.most c.show-in-Some-Source.result (asked_of c.args.dialect c.args.line.now) (Some (Source c.in-Some-Source.name.now)) c.args.script.now (talk c.args.client.now.member (g.W.Write.contents c.args.answers.now)) (talk c.show-in-Some-Source.new.client.member (g.W.Write.contents c.show-in-Some-Source.new.answers))
     (CallsAndWrites (GetAnswers c.in-Some-Source.name.now) (SaysShown part.Source)) (rw c.in-Some-Source.field-0-is at c.in-Some-Source.ensures)
     (tells_call c.show-in-Some-Source.result (GetAnswers c.in-Some-Source.name.now) (SaysShown part.Source) (talk c.args.client.now.member (g.W.Write.contents c.args.answers.now)) (talk c.show-in-Some-Source.new.client.member (g.W.Write.contents c.show-in-Some-Source.new.answers)) c.show-in-Some-Source.ensures) (λ b n it. (refl, it))
 
@@ -71,15 +71,15 @@ returns-in-Some-Source-clause-grows g c = get_grows c.in-Some-Source.name.now c.
 
 pub returns-in-Some-Audit-clause-done : goal.returns-in-Some-Audit-clause-done
 returns-in-Some-Audit-clause-done g c =
-    called_as c.args.self.now.most c.audit.result (asked_of c.args.dialect c.args.line.now) (Some Audit) c.args.script.now (talk c.args.client.now.member (g.W.Write.contents c.args.answers.now)) (talk c.audit.new.client.member (g.W.Write.contents c.audit.new.answers))
-    Audits (rw c.in-Some-Audit.field-0-is at c.in-Some-Audit.ensures) c.audit.ensures (λ b n it. (refl, it))
+    called_as c.args.self.now.mode c.args.self.now.most c.audit.result (asked_of c.args.dialect c.args.line.now) (Some Audit) c.args.script.now (talk c.args.client.now.member (g.W.Write.contents c.args.answers.now)) (talk c.audit.new.client.member (g.W.Write.contents c.audit.new.answers))
+    (Audits c.args.self.now.mode) (rw c.in-Some-Audit.field-0-is at c.in-Some-Audit.ensures) c.audit.ensures (λ b n it. (refl, it))
 
 pub returns-in-Some-Audit-clause-grows : goal.returns-in-Some-Audit-clause-grows
-returns-in-Some-Audit-clause-grows g c = audit_grows c.audit.result (talk c.args.client.now.member (g.W.Write.contents c.args.answers.now)) (talk c.audit.new.client.member (g.W.Write.contents c.audit.new.answers)) c.audit.ensures
+returns-in-Some-Audit-clause-grows g c = audit_grows c.args.self.now.mode c.audit.result (talk c.args.client.now.member (g.W.Write.contents c.args.answers.now)) (talk c.audit.new.client.member (g.W.Write.contents c.audit.new.answers)) c.audit.ensures
 
 pub returns-in-Some-Compact-clause-done : goal.returns-in-Some-Compact-clause-done
 returns-in-Some-Compact-clause-done g c =
-    called_as c.args.self.now.most c.compact.result (asked_of c.args.dialect c.args.line.now) (Some Compact) c.args.script.now (talk c.args.client.now.member (g.W.Write.contents c.args.answers.now)) (talk c.args.client.now.member (g.W.Write.contents c.compact.new.answers))
+    called_as c.args.self.now.mode c.args.self.now.most c.compact.result (asked_of c.args.dialect c.args.line.now) (Some Compact) c.args.script.now (talk c.args.client.now.member (g.W.Write.contents c.args.answers.now)) (talk c.args.client.now.member (g.W.Write.contents c.compact.new.answers))
     Compacts (rw c.in-Some-Compact.field-0-is at c.in-Some-Compact.ensures) (c.compact.ensures c.args.client.now.member) (λ b n it. (refl, it))
 
 pub returns-in-Some-Compact-clause-grows : goal.returns-in-Some-Compact-clause-grows
@@ -87,7 +87,7 @@ returns-in-Some-Compact-clause-grows g c = grows_same c.args.client.now.member c
 
 pub returns-in-None-clause-done : goal.returns-in-None-clause-done
 returns-in-None-clause-done g c =
-    called_as c.args.self.now.most c.tell_fault.result (asked_of c.args.dialect c.args.line.now) None c.args.script.now (talk c.args.client.now.member (g.W.Write.contents c.args.answers.now)) (talk c.args.client.now.member (g.W.Write.contents c.tell_fault.new.answers))
+    called_as c.args.self.now.mode c.args.self.now.most c.tell_fault.result (asked_of c.args.dialect c.args.line.now) None c.args.script.now (talk c.args.client.now.member (g.W.Write.contents c.args.answers.now)) (talk c.args.client.now.member (g.W.Write.contents c.tell_fault.new.answers))
     (Writes (script_fault_text BadLine)) c.in-None.ensures
     (tells_only c.tell_fault.result c.args.client.now.member (g.W.Write.contents c.args.answers.now) (g.W.Write.contents c.tell_fault.new.answers) (script_fault_text BadLine) c.tell_fault.ensures)
     (λ b n it. (refl, it))

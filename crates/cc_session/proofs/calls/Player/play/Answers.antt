@@ -10,6 +10,6 @@ returns-in-Err-tell_fault-clause-played g c =
     let old = talk c.args.client.now.member (W c.args.answers.now) in
     let between = talk c.play_lines-played.new.client.member (W c.play_lines-played.new.answers) in
     let new = talk c.play_lines-played.new.client.member (W c.tell_fault.new.answers) in
-    let why : IsStopped c.args.dialect c.args.self.now.most c.args.script.now.rest old new c.in-Err-tell_fault.unwritten =
-    line_unwritten c.args.dialect c.args.self.now.most c.args.script.now.rest old between new c.in-Err.fault c.in-Err-tell_fault.unwritten refl c.in-Err-tell_fault.ensures.0 c.in-Err.ensures.halted in
+    let why : IsStopped c.args.self.now.mode c.args.dialect c.args.self.now.most c.args.script.now.rest old new c.in-Err-tell_fault.unwritten =
+    line_unwritten c.args.self.now.mode c.args.dialect c.args.self.now.most c.args.script.now.rest old between new c.in-Err.fault c.in-Err-tell_fault.unwritten refl c.in-Err-tell_fault.ensures.0 c.in-Err.ensures.halted in
     search (rules, why)

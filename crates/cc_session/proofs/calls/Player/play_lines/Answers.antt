@@ -13,8 +13,8 @@ returns-in_err-length-clause-halted g c =
     let limit = c.limit-limit.ensures c.args.client.now.member c.loop-lines.client.member counted in
     let start = (talk c.args.client.now.member (g.W.Write.contents c.args.answers.now)) in
     let now = (talk c.loop-lines.client.member (g.W.Write.contents c.loop-lines.answers)) in
-    let why : IsHaltedBy c.args.dialect c.args.self.now.most c.args.script.now.rest start now c.in_err-length.field-0.0 =
-    no_line_ends c.args.dialect c.args.self.now.most c.args.script.now c.loop-lines.script c.loop-lines.lines start now c.next_line.new.self.left c.limit-limit.result _ c.requires c.loop-lines.invariant.played limit c.in_err-length.ensures.refused in
+    let why : IsHaltedBy c.args.self.now.mode c.args.dialect c.args.self.now.most c.args.script.now.rest start now c.in_err-length.field-0.0 =
+    no_line_ends c.args.self.now.mode c.args.dialect c.args.self.now.most c.args.script.now c.loop-lines.script c.loop-lines.lines start now c.next_line.new.self.left c.limit-limit.result _ c.requires c.loop-lines.invariant.played limit c.in_err-length.ensures.refused in
     search (rules, why)
 
 pub returns-in_err-length-clause-grows : goal.returns-in_err-length-clause-grows
@@ -31,8 +31,8 @@ returns-in_err-obey-in-Line-clause-halted g c =
     let start = (talk c.args.client.now.member (g.W.Write.contents c.args.answers.now)) in
     let now = (talk c.loop-lines.client.member (g.W.Write.contents c.loop-lines.answers)) in
     let last = (talk c.obey.new.client.member (g.W.Write.contents c.obey.new.answers)) in
-    let why : IsHaltedBy c.args.dialect c.args.self.now.most c.args.script.now.rest start last c.in_err-obey-in-Line.field-0.0 =
-    obey_ends c.args.dialect c.args.self.now.most c.args.script.now c.loop-lines.script c.next_line.new.self c.loop-lines.lines start now last c.in-Line.length c.next_line.new.line _
+    let why : IsHaltedBy c.args.self.now.mode c.args.dialect c.args.self.now.most c.args.script.now.rest start last c.in_err-obey-in-Line.field-0.0 =
+    obey_ends c.args.self.now.mode c.args.dialect c.args.self.now.most c.args.script.now c.loop-lines.script c.next_line.new.self c.loop-lines.lines start now last c.in-Line.length c.next_line.new.line _
     few more c.requires c.loop-lines.invariant.played next c.in_err-obey-in-Line.ensures.done in
     search (rules, why)
 
@@ -45,8 +45,8 @@ returns-in_err-refuse_and_skip-in-TooLong-clause-halted g c =
     let start = (talk c.args.client.now.member (g.W.Write.contents c.args.answers.now)) in
     let now = (talk c.loop-lines.client.member (g.W.Write.contents c.loop-lines.answers)) in
     let last = (talk c.loop-lines.client.member (g.W.Write.contents c.refuse_and_skip.new.answers)) in
-    let why : IsHaltedBy c.args.dialect c.args.self.now.most c.args.script.now.rest start last c.in_err-refuse_and_skip-in-TooLong.field-0.0 =
-    skip_ends c.args.dialect c.args.self.now.most c.args.script.now c.loop-lines.script c.next_line.new.self c.loop-lines.lines start now last c.next_line.new.line c.refuse_and_skip.new.self.left _
+    let why : IsHaltedBy c.args.self.now.mode c.args.dialect c.args.self.now.most c.args.script.now.rest start last c.in_err-refuse_and_skip-in-TooLong.field-0.0 =
+    skip_ends c.args.self.now.mode c.args.dialect c.args.self.now.most c.args.script.now c.loop-lines.script c.next_line.new.self c.loop-lines.lines start now last c.next_line.new.line c.refuse_and_skip.new.self.left _
     c.requires refl c.loop-lines.invariant.played next c.in_err-refuse_and_skip-in-TooLong.ensures.refused in
     search (rules, why)
 
@@ -56,7 +56,7 @@ returns-in_err-refuse_and_skip-in-TooLong-clause-grows g c = c.loop-lines.invari
 pub returns-in-End-clause-halted : goal.returns-in-End-clause-halted
 returns-in-End-clause-halted g c =
     let next = rw c.in-End.is at c.in_ok-length.ensures.bytes in
-    script_ends c.args.dialect c.args.self.now.most c.args.script.now c.loop-lines.script c.next_line.new.self c.loop-lines.lines (talk c.args.client.now.member (g.W.Write.contents c.args.answers.now)) (talk c.loop-lines.client.member (g.W.Write.contents c.loop-lines.answers)) c.next_line.new.line c.loop-lines.invariant.played next
+    script_ends c.args.self.now.mode c.args.dialect c.args.self.now.most c.args.script.now c.loop-lines.script c.next_line.new.self c.loop-lines.lines (talk c.args.client.now.member (g.W.Write.contents c.args.answers.now)) (talk c.loop-lines.client.member (g.W.Write.contents c.loop-lines.answers)) c.next_line.new.line c.loop-lines.invariant.played next
 
 pub returns-in-End-clause-grows : goal.returns-in-End-clause-grows
 returns-in-End-clause-grows g c = c.loop-lines.invariant.grows
@@ -64,14 +64,14 @@ returns-in-End-clause-grows g c = c.loop-lines.invariant.grows
 pub returns-clause-halted : goal.returns-clause-halted
 returns-clause-halted g c =
     let many : 16777216 < c.loop-lines.lines = search rules in
-    lines_end c.args.dialect c.args.self.now.most c.args.script.now c.loop-lines.script c.loop-lines.lines (talk c.args.client.now.member (g.W.Write.contents c.args.answers.now)) (talk c.loop-lines.client.member (g.W.Write.contents c.loop-lines.answers)) many c.loop-lines.invariant.played
+    lines_end c.args.self.now.mode c.args.dialect c.args.self.now.most c.args.script.now c.loop-lines.script c.loop-lines.lines (talk c.args.client.now.member (g.W.Write.contents c.args.answers.now)) (talk c.loop-lines.client.member (g.W.Write.contents c.loop-lines.answers)) many c.loop-lines.invariant.played
 
 pub returns-clause-grows : goal.returns-clause-grows
 returns-clause-grows g c = c.loop-lines.invariant.grows
 
 pub loop-lines-init : goal.loop-lines-init
 loop-lines-init g c = record {
-  played = begins c.args.dialect c.args.self.now.most c.args.script.now (talk c.args.client.now.member (g.W.Write.contents c.args.answers.now));
+  played = begins c.args.self.now.mode c.args.dialect c.args.self.now.most c.args.script.now (talk c.args.client.now.member (g.W.Write.contents c.args.answers.now));
   grows = grows_same c.args.client.now.member c.args.client.now.member refl;
   counts = (c.args.client.now.member, c.new-held.ensures, grows_same c.args.client.now.member c.args.client.now.member refl);
 }
@@ -89,13 +89,13 @@ loop-lines-preserved g c =
             let none = rw w.in-Line.is at c.in_ok-length.ensures.few in
             let more = line_follows c.args.self.now.most c.args.client.now.member c.loop-lines.lines c.loop-lines.client.member c.limit-limit.result limit none in
             rw (w.client-is, w.script-is, w.answers-is)
-            (line_on _ _ _ _ _ _ c.loop-lines.lines _ (talk c.loop-lines.client.member (g.W.Write.contents c.loop-lines.answers)) _ w.in-Line.length c.next_line.new.line few more c.loop-lines.invariant.played next w.in_ok-obey-in-Line.ensures.done)
+            (line_on c.args.self.now.mode _ _ _ _ _ _ c.loop-lines.lines _ (talk c.loop-lines.client.member (g.W.Write.contents c.loop-lines.answers)) _ w.in-Line.length c.next_line.new.line few more c.loop-lines.invariant.played next w.in_ok-obey-in-Line.ensures.done)
         | in-TooLong+in_ok-refuse_and_skip-in-TooLong w ↦
             let next = rw w.in-TooLong.is at c.in_ok-length.ensures.bytes in
             let none = rw w.in-TooLong.is at c.in_ok-length.ensures.few in
             let more = line_follows c.args.self.now.most c.args.client.now.member c.loop-lines.lines c.loop-lines.client.member c.limit-limit.result limit none in
             rw (w.client-is, w.script-is, w.answers-is)
-            (skip_on _ _ _ _ _ _ c.loop-lines.lines _ (talk c.loop-lines.client.member (g.W.Write.contents c.loop-lines.answers)) _ c.next_line.new.line more c.loop-lines.invariant.played next w.in_ok-refuse_and_skip-in-TooLong.ensures.bytes
+            (skip_on c.args.self.now.mode _ _ _ _ _ _ c.loop-lines.lines _ (talk c.loop-lines.client.member (g.W.Write.contents c.loop-lines.answers)) _ c.next_line.new.line more c.loop-lines.invariant.played next w.in_ok-refuse_and_skip-in-TooLong.ensures.bytes
             (refl, w.in_ok-refuse_and_skip-in-TooLong.ensures.written))
       ];
       grows = elim c.match-branch-2.branch [

@@ -8,7 +8,7 @@ use Rattle.cc_session.proofs.calls.Player.play_lines.Given as goal
 
 abbrev pub invariant-loop-lines : goal.invariant-loop-lines
 invariant-loop-lines g l = record {
-  played : Between l.initial.script l.script (Played l.dialect l.self.most l.lines (talk l.initial.client.member (g.W.Write.contents l.initial.answers)) (talk l.client.member (g.W.Write.contents l.answers)));
+  played : Between l.initial.script l.script (Played l.self.mode l.dialect l.self.most l.lines (talk l.initial.client.member (g.W.Write.contents l.initial.answers)) (talk l.client.member (g.W.Write.contents l.answers)));
   grows : Grows l.initial.client.member l.client.member;
   counts : (old : MemberView) × CountsSince l.initial.client.member.receipts old.receipts l.held × Grows old l.client.member;
 }

@@ -11,17 +11,17 @@ use Rattle.cc_session.proofs.calls.Player.put.Goals as goal
 pub returns-in-Source-clause-done : goal.returns-in-Source-clause-done
 returns-in-Source-clause-done g c =
     let read = rw c.in-Source.is at c.in_ok-source.ensures.bytes in
-    put_step c.change.result (Puts c.args.put) c.args.name.now c.in-Source.source c.as_slice-source.result.now c.as_slice-source.ensures.value c.args.length c.args.script.now c.source.new.self
+    put_step c.args.self.now.mode c.change.result (Puts c.args.put) c.args.name.now c.in-Source.source c.as_slice-source.result.now c.as_slice-source.ensures.value c.args.length c.args.script.now c.source.new.self
     (talk c.args.client.now.member (g.W.Write.contents c.args.answers.now)) (talk c.change.new.client.member (g.W.Write.contents c.change.new.answers)) read c.change.ensures
 
 pub returns-in-Source-clause-grows : goal.returns-in-Source-clause-grows
 returns-in-Source-clause-grows g c =
-    put_grows (Puts c.args.put c.args.name.now c.as_slice-source.result.now) c.args.name.now c.as_slice-source.result.now c.args.client.now.member c.change.new.client.member c.change.ensures.0 c.change.ensures.1
+    put_grows c.args.self.now.mode (Puts c.args.put c.args.self.now.mode c.args.name.now c.as_slice-source.result.now) c.args.name.now c.as_slice-source.result.now c.args.client.now.member c.change.new.client.member c.change.ensures.0 c.change.ensures.1
 
 pub returns-in-Unended-clause-done : goal.returns-in-Unended-clause-done
 returns-in-Unended-clause-done g c =
     let read = rw c.in-Unended.is at c.in_ok-source.ensures.bytes in
-    skip_step c.refuse_and_skip.result (Puts c.args.put) c.args.name.now c.args.length c.args.script.now c.source.new.self c.refuse_and_skip.new.self c.refuse_and_skip.new.self.left
+    skip_step c.args.self.now.mode c.refuse_and_skip.result (Puts c.args.put) c.args.name.now c.args.length c.args.script.now c.source.new.self c.refuse_and_skip.new.self c.refuse_and_skip.new.self.left
     (talk c.args.client.now.member (g.W.Write.contents c.args.answers.now)) (talk c.args.client.now.member (g.W.Write.contents c.refuse_and_skip.new.answers)) refl read c.refuse_and_skip.ensures.bytes c.refuse_and_skip.ensures.written
     c.refuse_and_skip.ensures.refused
 
@@ -31,7 +31,7 @@ returns-in-Unended-clause-grows g c = grows_same c.args.client.now.member c.args
 pub returns-in-NoRoom-clause-done : goal.returns-in-NoRoom-clause-done
 returns-in-NoRoom-clause-done g c =
     let read = rw c.in-NoRoom.is at c.in_ok-source.ensures.bytes in
-    unsent_step c.tell_no_memory.result (Puts c.args.put) c.args.name.now c.args.length c.args.script.now c.source.new.self
+    unsent_step c.args.self.now.mode c.tell_no_memory.result (Puts c.args.put) c.args.name.now c.args.length c.args.script.now c.source.new.self
     (talk c.args.client.now.member (g.W.Write.contents c.args.answers.now)) (talk c.args.client.now.member (g.W.Write.contents c.tell_no_memory.new.answers)) refl read c.tell_no_memory.ensures
 
 pub returns-in-NoRoom-clause-grows : goal.returns-in-NoRoom-clause-grows
@@ -40,8 +40,8 @@ returns-in-NoRoom-clause-grows g c = grows_same c.args.client.now.member c.args.
 pub returns-in_err-source-clause-done : goal.returns-in_err-source-clause-done
 returns-in_err-source-clause-done g c =
     let here = (talk c.args.client.now.member (g.W.Write.contents c.args.answers.now)) in
-    let why : IsNotDone (λ b a o n. IsSent (Puts c.args.put) c.args.name.now c.args.length b a o n) (IsShortOf c.args.length) (IsUnended c.args.length) c.args.script.now here here
-    c.in_err-source.field-0.0 = not_sent (λ b a o n. IsSent (Puts c.args.put) c.args.name.now c.args.length b a o n) (IsUnended c.args.length) c.args.script.now c.args.length c.source.new.self.left here _
+    let why : IsNotDone (λ b a o n. IsSent c.args.self.now.mode (Puts c.args.put) c.args.name.now c.args.length b a o n) (IsShortOf c.args.length) (IsUnended c.args.length) c.args.script.now here here
+    c.in_err-source.field-0.0 = not_sent (λ b a o n. IsSent c.args.self.now.mode (Puts c.args.put) c.args.name.now c.args.length b a o n) (IsUnended c.args.length) c.args.script.now c.args.length c.source.new.self.left here _
     c.in_err-source.ensures.refused in
     search (rules, why)
 

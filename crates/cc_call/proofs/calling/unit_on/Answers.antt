@@ -1,0 +1,22 @@
+-- The map that `unit_in` looks into is the one to which the disk recovers.
+use Rattle.std.proofs.Common.{IsTrue, sym, subst}
+use Rattle.std.specs.Arc.{arc_value}
+use Rattle.cc_library.specs.Apply.{Units}
+use Rattle.cc_library.specs.Recovered.{Recovers}
+use Rattle.cc_tasks.specs.Part.{IsFound}
+use Rattle.cc_tasks.proofs.Parting.{of_ok, of_err, no_part_on}
+use Rattle.cc_call.proofs.calling.unit_on.Goals as goal
+
+pub returns-after-found-clause-found : goal.returns-after-found-clause-found
+returns-after-found-clause-found g c =
+    let D = g.D.Disk in
+    let recovers = λ (h : IsTrue D.honest). subst (λ (units : Units). Recovers (D.seen c.args.disk) units) (sym c.units.ensures) (c.in-Ok.ensures.recovered h) in
+    of_ok {P = λ unit. IsFound c.units.result.now c.args.name.now (arc_value unit)} (λ unit is h. (c.units.result.now, recovers h, is))
+    c.unit_in-found.result c.unit_in-found.ensures.found
+
+pub returns-after-found-clause-refused : goal.returns-after-found-clause-refused
+returns-after-found-clause-refused g c =
+    let D = g.D.Disk in
+    let seen = D.seen c.args.disk in
+    let recovers = λ (h : IsTrue D.honest). subst (λ (units : Units). Recovers seen units) (sym c.units.ensures) (c.in-Ok.ensures.recovered h) in
+    of_err (λ fault why. no_part_on D.honest seen _ _ c.args.name.now c.units.result.now recovers fault why) c.unit_in-found.result c.unit_in-found.ensures.refused

@@ -1,0 +1,2 @@
+-- What a call of a unit answers.
+pub mod Call

@@ -1,0 +1,158 @@
+// Runs of one image, each on the words of a line.
+
+ghost use Rattle.std.specs.Prelude.{IfOk, OnOk};
+ghost use Rattle.std.specs.Io.KnownBytes.{Appends};
+ghost use Rattle.cc_call.specs.Call.{AnswersLine, answer_text, refusal_text};
+
+use cc_answers::{Stands, write_fault_line};
+use cc_runs::{CountedRun, run_words, words_in, write_counted_run};
+use cc_rv32::image::Image;
+use std::alloc::Global;
+use std::io::{self, BufRead, ErrorKind, Write};
+
+/// What was answered to a line.
+#[derive(Clone, Copy, Debug, Drop, PartialEq, Eq)]
+pub enum LineEnd {
+    /// The run on its words.
+    Answered,
+    /// 50: it is no list of words.
+    BadLine,
+    /// 40: memory was refused.
+    OutOfMemory,
+}
+
+/// What has become of the lines.
+#[derive(Clone, Copy, Debug, Drop, PartialEq, Eq)]
+pub enum LinesEnd {
+    /// Each was a list of words, and its run was answered.
+    Answered,
+    /// A line was no list of words, or could not be read (53), or memory was refused (40): it is written so.
+    Refused,
+    /// 54: an answer could not be written.
+    Unwritten,
+}
+
+// Writes the line of a fault, and an empty one.
+#[tactic(auto, using(cc_answers::proofs::Writing::written_on))]
+fn write_refusal<W: Write>(number: u32, writer: &mut W) -> io::Result<()>
+    ensures { OnOk result (Appends (W.contents writer.old) (W.contents writer.new) (refusal_text number)) }
+{
+    write_fault_line(number, Stands::Nowhere, b"", writer)?;
+    writer.write_all(b"\n")
+}
+
+// Writes a run, and an empty line.
+#[tactic(auto, using(cc_answers::proofs::Writing::written_on))]
+fn write_answer<W: Write>(run: &CountedRun, writer: &mut W) -> io::Result<()>
+    ensures { OnOk result (Appends (W.contents writer.old) (W.contents writer.new) (answer_text run.now)) }
+{
+    write_counted_run(run, writer)?;
+    writer.write_all(b"\n")
+}
+
+/// Runs an image on the words of a line, which is given without its newline, and writes what `run` would, and an empty line; the line of 50
+/// and an empty one where it is no list of words, that of 40 where memory was refused.
+pub fn answer_line<W: Write>(
+    alloc: Global,
+    image: &Image,
+    steps: u64,
+    is_counted: bool,
+    line: &[u8],
+    writer: &mut W,
+) -> io::Result<LineEnd>
+    ensures { IfOk result (AnswersLine image.now is_counted steps line.now (W.contents writer.old) (W.contents writer.new)) }
+{
+    let words = match words_in(alloc, line) {
+        Ok(Some(words)) => words,
+        Ok(None) => {
+            write_refusal(50, writer)?;
+            return Ok(LineEnd::BadLine);
+        }
+        Err(_) => {
+            write_refusal(40, writer)?;
+            return Ok(LineEnd::OutOfMemory);
+        }
+    };
+    match run_words(alloc, image, words.as_slice(), steps, is_counted) {
+        Ok(run) => {
+            write_answer(&run, writer)?;
+            Ok(LineEnd::Answered)
+        }
+        Err(_) => {
+            write_refusal(40, writer)?;
+            Ok(LineEnd::OutOfMemory)
+        }
+    }
+}
+
+// A line without its newline.
+fn without_newline(line: &[u8]) -> &[u8] {
+    match line.split_last() {
+        Some((b'\n', rest)) => rest,
+        _ => line,
+    }
+}
+
+// Answers one line, and flushes the answer.
+fn tell_line<W: Write>(
+    alloc: Global,
+    image: &Image,
+    steps: u64,
+    is_counted: bool,
+    line: &[u8],
+    writer: &mut W,
+) -> io::Result<LineEnd> {
+    let end = answer_line(
+        alloc,
+        image,
+        steps,
+        is_counted,
+        without_newline(line),
+        writer,
+    )?;
+    writer.flush()?;
+    Ok(end)
+}
+
+// Says why the next line could not be read.
+fn tell_unread<W: Write>(error: io::Error, writer: &mut W) -> LinesEnd {
+    let number = if error.kind() == ErrorKind::OutOfMemory {
+        40
+    } else {
+        53
+    };
+    drop(error);
+    if write_refusal(number, writer).is_err() || writer.flush().is_err() {
+        return LinesEnd::Unwritten;
+    }
+    LinesEnd::Refused
+}
+
+/// Runs an image on the words of each line of a reader, as `answer_line` does, and flushes each answer before it reads the next line. A line
+/// that is no list of words doesn't end it; lack of memory does.
+pub fn call_lines<R: BufRead, W: Write>(
+    alloc: Global,
+    image: &Image,
+    steps: u64,
+    is_counted: bool,
+    reader: &mut R,
+    writer: &mut W,
+) -> LinesEnd {
+    let mut end = LinesEnd::Answered;
+    let mut line = Vec::new(alloc);
+    for _ in 0..u64::MAX {
+        line.clear();
+        match reader.read_until(b'\n', &mut line) {
+            Ok(0) => return end,
+            Ok(_) => {}
+            Err(error) => return tell_unread(error, writer),
+        }
+        match tell_line(alloc, image, steps, is_counted, line.as_slice(), writer) {
+            Ok(LineEnd::Answered) => {}
+            Ok(LineEnd::BadLine) => end = LinesEnd::Refused,
+            Ok(LineEnd::OutOfMemory) => return LinesEnd::Refused,
+            Err(_) => return LinesEnd::Unwritten,
+        }
+    }
+    end
+}

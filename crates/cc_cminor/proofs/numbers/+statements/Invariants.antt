@@ -1,0 +1,14 @@
+use Rattle.std.proofs.Common.{◌≡◌, ◌≤◌, drop}
+use Rattle.cc_cminor.specs.Code.{in_sequence}
+use Rattle.cc_cminor.specs.internal.Statements.{statements_of}
+use Rattle.cc_cminor.specs.Numbers.{most_variables, StatementFits}
+use Rattle.cc_cminor.specs.Variables.{above_statement}
+use Rattle.cc_cminor.proofs.numbers.+statements.Given as goal
+
+-- what is counted and the rest is what all come to
+abbrev pub invariant-all_above-loop-s : goal.invariant-all_above-loop-s
+invariant-all_above-loop-s l = record {
+  counted : above_statement l.counted (in_sequence (statements_of (drop l.s-index l.all))) ≡ above_statement l.fn.count (in_sequence (statements_of l.all));
+  few : l.counted ≤ most_variables;
+  rest : StatementFits (in_sequence (statements_of (drop l.s-index l.all)));
+}

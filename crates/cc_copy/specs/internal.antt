@@ -1,0 +1,4 @@
+-- Why the records of units are not written.
+pub mod Writing
+-- Names that were judged.
+pub mod Judged

@@ -1,0 +1,58 @@
+// Which units are copied.
+
+ghost use Rattle.std.specs.Prelude.{◌≡◌, ◌∷◌, ℕ, List, Some, IfOk, IfErr, OnOk, if◌then◌else◌};
+ghost use Rattle.std.specs.Arc.{arc_value};
+ghost use Rattle.std.specs.FinMap as map;
+ghost use Rattle.cc_library.specs.Apply.{after};
+ghost use Rattle.cc_library.specs.declared.command.LibraryCommand.TheVariants as command;
+ghost use Rattle.cc_copy.specs.Choice.{IsChosen, IsNotChosen};
+
+use cc_library::{LibraryCommand, Name, SharedUnit, UnitMap};
+use cc_unit::StoredUnit;
+use std::alloc::{AllocError, Global};
+use std::sync::Arc;
+
+/// Why units are not chosen.
+#[derive(Clone, Copy, Debug, Drop)]
+pub enum ChooseFault {
+    /// 32: the name of this index has no unit, and each before it has one.
+    Absent(usize),
+    /// 40: memory ran out.
+    OutOfMemory,
+}
+
+// The map with this unit under this name, if it has none there.
+fn add(chosen: &mut UnitMap, name: &Name, unit: &Arc<StoredUnit>) -> Result<(), AllocError>
+    ensures { OnOk result (chosen.new ≡ after chosen.old (command.Add name.now (arc_value unit.now))) }
+{
+    let unit = SharedUnit::new(Arc::try_clone(unit)?);
+    let command = LibraryCommand::Add(name.clone()?, unit);
+    let answer = chosen.apply(&command);
+    drop(command);
+    answer
+}
+
+/// The units of these names in a map, each of which has to have one.
+///
+/// Refusals: 32 with the first name that has none, 40 where memory ran out.
+pub fn choose(alloc: Global, units: &UnitMap, names: &[Name]) -> Result<UnitMap, ChooseFault>
+    ensures chosen { IfOk result (IsChosen units.now names.now) }
+    ensures refused { IfErr result (IsNotChosen units.now names.now) }
+{
+    let mut chosen = UnitMap::new(alloc);
+    for i in 0..names.len() {
+        let name = &names[i];
+        let Some(unit) = units.get(name) else {
+            drop(chosen);
+            return Err(ChooseFault::Absent(i));
+        };
+        match add(&mut chosen, name, unit) {
+            Ok(()) => {}
+            Err(_) => {
+                drop(chosen);
+                return Err(ChooseFault::OutOfMemory);
+            }
+        }
+    }
+    Ok(chosen)
+}

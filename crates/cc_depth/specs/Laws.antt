@@ -1,0 +1,11 @@
+-- What holds of programs whose calls have no cycle.
+use Rattle.std.specs.Prelude.{◌≢◌, ℕ, List}
+use Rattle.cc_ast.specs.Tree.{Source}
+use Rattle.cc_c_laws.specs.Meaning.{source_behavior}
+use Rattle.cc_c_laws.specs.Outcome.{Wrong}
+use Rattle.cc_c_laws.specs.declared.cause.Cause.TheVariants.{Depth}
+use Rattle.cc_depth.specs.Cycles.{HasNoCycle}
+
+-- it never goes wrong for too many open calls
+abbrev pub AcyclicProgramsAreNeverDeep : Type 0
+AcyclicProgramsAreNeverDeep = (s : Source) → HasNoCycle s.externals → (input : List ℕ) (n : ℕ) → (source_behavior s input n).stop ≢ Wrong Depth

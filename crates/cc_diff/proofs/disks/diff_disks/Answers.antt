@@ -1,0 +1,23 @@
+-- The maps that are compared are those to which the disks recover.
+use Rattle.std.proofs.Common.{IsTrue, sym, subst}
+use Rattle.cc_library.specs.Apply.{Units}
+use Rattle.cc_library.specs.Recovered.{Recovers}
+use Rattle.cc_diff.proofs.disks.diff_disks.Goals.{in-Ok-diff_maps, in-Err-diff_maps}
+use Rattle.cc_diff.proofs.disks.diff_disks.Goals as goal
+
+pub returns-after-diff_maps-clause-lines : goal.returns-after-diff_maps-clause-lines
+returns-after-diff_maps-clause-lines g c =
+    let D = g.D.Disk in
+    let left = λ (h : IsTrue D.honest). subst (λ (units : Units). Recovers (D.seen c.args.left) units) (sym c.units.ensures) (c.in-Ok.ensures.recovered h) in
+    let right = λ (h : IsTrue D.honest). subst (λ (units : Units). Recovers (D.seen c.args.right) units) (sym c.units-in-Ok-open.ensures) (c.in-Ok-open.ensures.recovered h) in
+    elim c.match-diff_maps.branch [
+      | in-Ok-diff_maps w ↦ rw w.lines-is (λ h. record {
+        left = c.units.result.now;
+        right = c.units-in-Ok-open.result.now;
+        recovers_left = left h;
+        recovers_right = right h;
+        is_diff = w.in-Ok-diff_maps.ensures.lines;
+        equal = w.in-Ok-diff_maps.ensures.equal;
+      })
+      | in-Err-diff_maps w ↦ rw w.lines-is tt
+    ]

@@ -1,0 +1,2 @@
+-- A map with one name more.
+pub mod Names

@@ -1,0 +1,15 @@
+//! Where two libraries differ, name by name.
+//!
+//! `difference` compares the units of one name, `maps` two maps, `disks` the libraries of two disks; `written` writes the lines.
+//! Hands out `diff_disks`, `diff_maps`, `write_diff`, their types, and the definitions that the contracts name (`specs/`).
+#![tactic(auto)]
+
+mod difference;
+mod disks;
+mod maps;
+mod written;
+
+pub use difference::{DiffLine, Difference};
+pub use disks::{DiffFault, diff_disks};
+pub use maps::diff_maps;
+pub use written::write_diff;

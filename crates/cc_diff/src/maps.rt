@@ -1,0 +1,69 @@
+// Where two maps differ.
+
+ghost use Rattle.std.specs.Prelude.{◌≡◌, ◌↔◌, [], true, IfOk, OnOk};
+ghost use Rattle.std.specs.Arc.{arc_value};
+ghost use Rattle.std.specs.FinMap as map;
+ghost use Rattle.cc_library.specs.Apply.{after};
+ghost use Rattle.cc_library.specs.declared.command.LibraryCommand.TheVariants as command;
+ghost use Rattle.cc_diff.specs.internal.Names.{HasNameToo};
+ghost use Rattle.cc_diff.specs.Diff.{HasNamesOf, IsDiff};
+
+use crate::difference::{DiffLine, push_lines};
+use cc_library::{LibraryCommand, Name, SharedUnit, UnitMap};
+use cc_unit::StoredUnit;
+use std::alloc::{AllocError, Global};
+use std::sync::Arc;
+
+// The map with this unit under this name, if it has none there.
+fn add(both: &mut UnitMap, name: &Name, unit: &Arc<StoredUnit>) -> Result<(), AllocError>
+    ensures { OnOk result (both.new ≡ after both.old (command.Add name.now (arc_value unit.now))) }
+{
+    let unit = SharedUnit::new(Arc::try_clone(unit)?);
+    let command = LibraryCommand::Add(name.clone()?, unit);
+    let answer = both.apply(&command);
+    drop(command);
+    answer
+}
+
+// The map with the unit that the other one has under this name, if it has none there.
+#[tactic(auto, using(crate::proofs::Names::added_on))]
+fn add_name(both: &mut UnitMap, other: &UnitMap, name: &Name) -> Result<(), AllocError>
+    requires { map.contains_key other.now name.now ≡ true }
+    ensures { OnOk result (HasNameToo both.old name.now both.new) }
+{
+    match other.get(name) {
+        Some(unit) => add(both, name, unit),
+        None => Ok(()),
+    }
+}
+
+// A map with the names of both.
+fn with_names_of(alloc: Global, left: &UnitMap, right: &UnitMap) -> Result<UnitMap, AllocError>
+    ensures { IfOk result (HasNamesOf left.now right.now) }
+{
+    let mut both = left.again()?;
+    let names = right.names(alloc)?;
+    for name in &names {
+        add_name(&mut both, right, name)?;
+    }
+    Ok(both)
+}
+
+/// Where two maps differ: by name, in the order of the names' bytes.
+pub fn diff_maps(
+    alloc: Global,
+    left: &UnitMap,
+    right: &UnitMap,
+) -> Result<Vec<DiffLine>, AllocError>
+    ensures lines { IfOk result (λ lines. IsDiff left.now right.now lines.items) }
+    // There is none exactly if the two are the same.
+    ensures equal { IfOk result (λ lines. (lines.items ≡ []) ↔ (left.now ≡ right.now)) }
+{
+    let both = with_names_of(alloc, left, right)?;
+    let names = both.names(alloc)?;
+    let mut lines = Vec::new(alloc);
+    for name in &names {
+        push_lines(&mut lines, name, left.get(name), right.get(name))?;
+    }
+    Ok(lines)
+}

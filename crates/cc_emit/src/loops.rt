@@ -1,0 +1,77 @@
+// Loops: a step is in one where it stands between a label and a later step that leads back to it. Of each label it is noted how far the last
+// such step is from the beginning, so the first steps need not be looked at again.
+
+ghost use Rattle.std.specs.Prelude.{◌≡◌, ◌<◌, ℕ, length, get_or, IfOk};
+ghost use Rattle.cc_emit.specs.Emission.{label_of_step};
+ghost use Rattle.cc_emit.specs.Scratch.{led_to, is_led};
+ghost use Rattle.cc_emit.specs.internal.Loops.{AreLast, noted, later, reach_past};
+
+use crate::tables::label_of_step;
+use cc_linear_language::LinearItem;
+use cc_select::Step;
+use std::alloc::{AllocError, Global};
+
+// The label to which a step may lead.
+fn led_to(step: &Step) -> Option<u32>
+    ensures { result ≡ led_to step.now }
+{
+    match step {
+        Step::One(
+            LinearItem::Jump { to }
+            | LinearItem::IfNonzero { to, .. }
+            | LinearItem::IfZero { to, .. },
+        )
+        | Step::Branch { to, .. }
+        | Step::BranchImmediate { to, .. } => Some(*to),
+        _ => None,
+    }
+}
+
+// Notes of a step that has this many up to it, and leads to a label, that no step before it is the last that does.
+fn note(last: &mut Vec<usize>, step: &Step, at: usize)
+    ensures long { length last.new.items ≡ length last.old.items }
+    ensures each { (label : ℕ) → label < length last.old.items → get_or last.new.items label 0 ≡ noted (is_led (led_to step.now) label) (get_or last.old.items label 0) at }
+{
+    if let Some(label) = led_to(step) {
+        let label = label as usize;
+        if label < last.len() && last[label] == 0 {
+            last[label] = at;
+        }
+    }
+}
+
+/// Of each label below a number, how many steps there are up to the last that leads to it: 0 where none does.
+pub(crate) fn last_leads(
+    alloc: Global,
+    code: &[Step],
+    count: usize,
+) -> Result<Vec<usize>, AllocError>
+    ensures { IfOk result (λ last. AreLast code.now count last.items) }
+{
+    let mut last = vec![in alloc; 0; count]?;
+    let mut at = code.len();
+    while at > 0 {
+        note(&mut last, &code[at - 1], at);
+        at -= 1;
+    }
+    Ok(last)
+}
+
+fn later(a: usize, b: usize) -> usize
+    ensures { result ≡ later a b }
+{
+    if a < b { b } else { a }
+}
+
+/// How many steps there are up to the last that leads back to a label before what is behind this step.
+pub(crate) fn reach_past(last: &[usize], reach: usize, step: &Step) -> usize
+    ensures { result ≡ reach_past last.now (label_of_step step.now) reach }
+{
+    match label_of_step(step) {
+        Some(label) => match last.get(label as usize) {
+            Some(there) => later(reach, *there),
+            None => reach,
+        },
+        None => reach,
+    }
+}

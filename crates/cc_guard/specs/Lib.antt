@@ -1,0 +1,11 @@
+-- the guards, and the code with them
+pub mod Guard
+-- what holds of all guarded code
+pub mod Laws
+-- units in which no function needs a guard
+pub mod Safe
+-- the number of a fault
+pub mod Fault
+pub mod internal
+-- worked examples
+pub mod rows

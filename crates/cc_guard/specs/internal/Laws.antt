@@ -1,0 +1,16 @@
+-- The law of the pass.
+use Rattle.std.specs.Prelude.{ℕ, suc}
+use Rattle.cc_simulation.specs.Meaning.{Meaning}
+use Rattle.cc_simulation.specs.Tracks.{Tracks}
+use Rattle.cc_cminor.specs.Cminor.{Statement, cminor_move, cminor_output, cminor_start}
+use Rattle.cc_cminor.specs.Breaks.{TracksOrBreaks}
+use Rattle.cc_guard.specs.Guard.{guarded_function}
+use Rattle.cc_guard.specs.internal.Fits.{Fits, KeepsSizes}
+
+-- Code that keeps up with a meaning, or breaks while that is not finished, keeps up with it when it is guarded, at the same rate. It reads
+-- variables below n alone, and the guards set those from n on.
+abbrev pub GuardedKeepsUp : Type 0
+GuardedKeepsUp =
+    (meaning : Meaning) → KeepsSizes meaning → (f rate n : ℕ) (s : Statement) → Fits n 0 s
+    → TracksOrBreaks meaning f (suc rate) cminor_move cminor_output (cminor_start s)
+    → Tracks meaning f (suc rate) cminor_move cminor_output (cminor_start (guarded_function meaning.objects n s))

@@ -1,0 +1,2 @@
+-- guards, evident cases, what waits
+pub mod Guard

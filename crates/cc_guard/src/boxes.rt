@@ -1,0 +1,99 @@
+// Expressions and statements of Cminor, made in boxes.
+
+ghost use Rattle.std.specs.Prelude.{◌≡◌, IfOk};
+ghost use Rattle.cc_cminor.specs.Cminor as cminor;
+ghost use Rattle.cc_cminor.specs.Code.{expression_of, statement_of, in_sequence};
+ghost use Rattle.cc_cminor.specs.internal.Statements.{statements_of};
+
+use cc_cminor::{Expression, Statement};
+use cc_words::{Binary, Unary, Width};
+use std::alloc::{AllocError, Global};
+
+pub fn boxed_expression(
+    alloc: Global,
+    expression: Expression,
+) -> Result<Box<Expression>, AllocError>
+    ensures { IfOk result (λ e. e.value ≡ expression) }
+{
+    Ok(Box::new(alloc, expression)?)
+}
+
+pub fn boxed_statement(alloc: Global, statement: Statement) -> Result<Box<Statement>, AllocError>
+    ensures { IfOk result (λ s. s.value ≡ statement) }
+{
+    Ok(Box::new(alloc, statement)?)
+}
+
+pub fn constant(alloc: Global, word: u32) -> Result<Box<Expression>, AllocError>
+    ensures { IfOk result (λ e. expression_of e.value ≡ cminor.Constant word) }
+{
+    boxed_expression(alloc, Expression::Constant(word))
+}
+
+pub fn local(alloc: Global, variable: usize) -> Result<Box<Expression>, AllocError>
+    ensures { IfOk result (λ e. expression_of e.value ≡ cminor.Local variable) }
+{
+    boxed_expression(alloc, Expression::Local(variable))
+}
+
+pub fn unary(
+    alloc: Global,
+    operator: Unary,
+    operand: Box<Expression>,
+) -> Result<Box<Expression>, AllocError>
+    ensures { IfOk result (λ e. expression_of e.value ≡ cminor.Unary operator (expression_of operand.value)) }
+{
+    boxed_expression(alloc, Expression::Unary(operator, operand))
+}
+
+pub fn binary(
+    alloc: Global,
+    operator: Binary,
+    left: Box<Expression>,
+    right: Box<Expression>,
+) -> Result<Box<Expression>, AllocError>
+    ensures { IfOk result (λ e. expression_of e.value ≡ cminor.Binary operator (expression_of left.value) (expression_of right.value)) }
+{
+    boxed_expression(alloc, Expression::Binary(operator, left, right))
+}
+
+pub fn load(
+    alloc: Global,
+    width: Width,
+    object: usize,
+    index: Box<Expression>,
+) -> Result<Box<Expression>, AllocError>
+    ensures { IfOk result (λ e. expression_of e.value ≡ cminor.Load width object (expression_of index.value)) }
+{
+    boxed_expression(alloc, Expression::Load(width, object, index))
+}
+
+/// An expression once more.
+pub fn copied(alloc: Global, e: &Expression) -> Result<Box<Expression>, AllocError>
+    ensures { IfOk result (λ copy. expression_of copy.value ≡ expression_of e.now) }
+{
+    match e {
+        Expression::Constant(word) => constant(alloc, *word),
+        Expression::Local(variable) => local(alloc, *variable),
+        Expression::Unary(operator, a) => {
+            let a = copied(alloc, a)?;
+            unary(alloc, *operator, a)
+        }
+        Expression::Binary(operator, a, b) => {
+            let a = copied(alloc, a)?;
+            let b = copied(alloc, b)?;
+            binary(alloc, *operator, a, b)
+        }
+        Expression::Load(width, object, i) => {
+            let i = copied(alloc, i)?;
+            load(alloc, *width, *object, i)
+        }
+    }
+}
+
+/// Some statements, one after the other.
+pub fn sequence(alloc: Global, all: Vec<Statement>) -> Result<Box<Statement>, AllocError>
+    ensures { IfOk result (λ s. statement_of s.value ≡ in_sequence (statements_of all.items)) }
+{
+    boxed_statement(alloc, Statement::Sequence(all))
+}

@@ -1,0 +1,127 @@
+// The command `call`: a unit of the library in a file is run. The file is open until the unit was read, and nothing is written to it.
+
+use crate::telling::{refuse, unwritten};
+use cc_answers::Telling;
+use cc_call::{LinesEnd, call, call_lines, unit_on};
+use cc_command_line::Calling;
+use cc_filing::disk_of;
+use cc_runs::{CountedRun, write_counted_run};
+use cc_tasks::PartFault;
+use cc_unit::StoredUnit;
+use std::alloc::{AllocError, Global};
+use std::io::{self, BufRead, BufReader, BufWriter, Input, Print, Write};
+use std::sync::Arc;
+
+// The one run that is asked for.
+fn run_of<E: Write>(
+    alloc: Global,
+    files: &HostRuntime,
+    asked: &Calling,
+    told: &mut E,
+) -> Result<CountedRun, PartFault> {
+    match disk_of(files, asked.disk.as_str(), None) {
+        Ok(disk) => {
+            let name = asked.name.as_bytes();
+            let words = asked.words.as_slice();
+            let (run, disk) = call(
+                alloc,
+                disk,
+                name,
+                words,
+                asked.steps,
+                asked.is_counted,
+                told,
+            );
+            drop(disk);
+            run
+        }
+        Err(reason) => Err(PartFault::Library(reason.fault())),
+    }
+}
+
+// The unit that is to be run line by line.
+fn unit_of<E: Write>(
+    alloc: Global,
+    files: &HostRuntime,
+    asked: &Calling,
+    told: &mut E,
+) -> Result<Arc<StoredUnit>, PartFault> {
+    match disk_of(files, asked.disk.as_str(), None) {
+        Ok(disk) => {
+            let (unit, disk) = unit_on(alloc, disk, asked.name.as_bytes(), told);
+            drop(disk);
+            unit
+        }
+        Err(reason) => Err(PartFault::Library(reason.fault())),
+    }
+}
+
+// Writes a run; the status.
+fn answer<W: Write, E: Write>(run: &CountedRun, writer: &mut W, told: &mut E) -> u8 {
+    let written = write_counted_run(run, writer);
+    if written.is_err() || writer.flush().is_err() {
+        return unwritten(told);
+    }
+    0
+}
+
+// Runs a unit line by line; the status.
+fn answer_lines<R: BufRead, W: Write, E: Write>(
+    alloc: Global,
+    unit: &StoredUnit,
+    asked: &Calling,
+    reader: &mut R,
+    writer: &mut W,
+    told: &mut E,
+) -> u8 {
+    match call_lines(
+        alloc,
+        &unit.image,
+        asked.steps,
+        asked.is_counted,
+        reader,
+        writer,
+    ) {
+        LinesEnd::Answered => 0,
+        LinesEnd::Refused => 1,
+        LinesEnd::Unwritten => unwritten(told),
+    }
+}
+
+/// Runs a unit of the library in a file on input words, or on the words of each line of standard input; the status. The error is lack of memory
+/// before it began.
+pub fn call_in_file<R: AllocGlobal + Input + Print, E: Write + Drop>(
+    rt: &R,
+    files: &HostRuntime,
+    asked: &Calling,
+    is_quiet: bool,
+    errors: E,
+) -> Result<u8, AllocError> {
+    let (Ok(mut writer), Ok(errors)) = (
+        BufWriter::new(rt.alloc(), io::writer(rt)),
+        BufWriter::new(rt.alloc(), errors),
+    ) else {
+        return Err(AllocError);
+    };
+    let mut told = Telling { errors, is_quiet };
+    if !asked.is_lines {
+        return Ok(match run_of(rt.alloc(), files, asked, &mut told) {
+            Ok(run) => answer(&run, &mut writer, &mut told),
+            Err(fault) => refuse(fault, &mut writer, &mut told),
+        });
+    }
+    let Ok(mut reader) = BufReader::new(rt.alloc(), rt.reader()) else {
+        return Err(AllocError);
+    };
+    Ok(match unit_of(rt.alloc(), files, asked, &mut told) {
+        Ok(unit) => answer_lines(
+            rt.alloc(),
+            &unit,
+            asked,
+            &mut reader,
+            &mut writer,
+            &mut told,
+        ),
+        Err(fault) => refuse(fault, &mut writer, &mut told),
+    })
+}

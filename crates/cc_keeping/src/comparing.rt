@@ -1,0 +1,88 @@
+// The command `diff`: where the libraries in two files differ. Nothing is written to them.
+
+use crate::telling::unwritten;
+use cc_answers::{Stands, Telling, explain_words, write_fault_line};
+use cc_diff::{DiffFault, DiffLine, diff_disks, write_diff};
+use cc_filing::disk_of;
+use std::alloc::{AllocError, Global};
+use std::io::{self, BufWriter, Print, Write};
+
+// Where the libraries in the files differ.
+fn lines_of(
+    alloc: Global,
+    files: &HostRuntime,
+    left: &str,
+    right: &str,
+) -> Result<Vec<DiffLine>, DiffFault> {
+    let left = match disk_of(files, left, None) {
+        Ok(disk) => disk,
+        Err(reason) => return Err(DiffFault::Left(reason.fault())),
+    };
+    let right = match disk_of(files, right, None) {
+        Ok(disk) => disk,
+        Err(reason) => {
+            drop(left);
+            return Err(DiffFault::Right(reason.fault()));
+        }
+    };
+    let (lines, disks) = diff_disks(alloc, left, right);
+    drop(disks);
+    lines
+}
+
+// Tells a person of which file a fault is.
+fn explain<E: Write>(fault: DiffFault, left: &str, right: &str, told: &mut E) -> io::Result<()> {
+    let path = match fault {
+        DiffFault::Left(_) => left,
+        DiffFault::Right(_) => right,
+        DiffFault::OutOfMemory => return explain_words(40, told),
+    };
+    match fault.number() {
+        35 => writeln!(
+            told,
+            "cclib: {path}: the file could not be opened, or failed, or another process has it open"
+        )?,
+        37 => writeln!(told, "cclib: {path}: the file's records are damaged")?,
+        38 => writeln!(told, "cclib: {path}: the file is no library")?,
+        number => return explain_words(number, told),
+    }
+    told.flush()
+}
+
+// Writes the lines; the status: 0 if there is none, else 1.
+fn answer<W: Write, E: Write>(lines: &[DiffLine], writer: &mut W, told: &mut E) -> u8 {
+    let written = write_diff(lines, writer);
+    if written.is_err() || writer.flush().is_err() {
+        return unwritten(told);
+    }
+    if lines.is_empty() { 0 } else { 1 }
+}
+
+/// Writes where the libraries in two files differ; the status: 0 if they hold the same. The error is lack of memory before it began.
+pub fn diff_files<R: AllocGlobal + Print, E: Write + Drop>(
+    rt: &R,
+    files: &HostRuntime,
+    left: &str,
+    right: &str,
+    is_quiet: bool,
+    errors: E,
+) -> Result<u8, AllocError> {
+    let (Ok(mut writer), Ok(errors)) = (
+        BufWriter::new(rt.alloc(), io::writer(rt)),
+        BufWriter::new(rt.alloc(), errors),
+    ) else {
+        return Err(AllocError);
+    };
+    let mut told = Telling { errors, is_quiet };
+    Ok(match lines_of(rt.alloc(), files, left, right) {
+        Ok(lines) => answer(lines.as_slice(), &mut writer, &mut told),
+        Err(fault) => {
+            let line = write_fault_line(fault.number(), Stands::Nowhere, b"", &mut writer);
+            if line.is_err() || writer.flush().is_err() {
+                return Ok(unwritten(&mut told));
+            }
+            let _ = explain(fault, left, right, &mut told);
+            1
+        }
+    })
+}

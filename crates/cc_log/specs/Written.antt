@@ -1,0 +1,41 @@
+-- What is written of commands.
+use Rattle.std.specs.Prelude.{ℕ, ◌+◌, Bool, true, List, [], ◌∷◌, ◌++◌, length, Option, Some, None, codes, if◌then◌else◌}
+use Rattle.std.specs.Str.{bytes_eq}
+use Rattle.std.specs.Fmt.{decimal}
+use Rattle.cc_unit.specs.declared.unit.StoredUnit.{StoredUnit}
+use Rattle.cc_library.specs.declared.command.LibraryCommand.{LibraryCommand}
+use Rattle.cc_library.specs.declared.command.LibraryCommand.TheVariants.{Add, Replace, Withdraw}
+
+-- the name that a command is about
+abbrev pub name_of : LibraryCommand → List ℕ
+name_of (Add name unit) = name
+name_of (Replace name unit) = name
+name_of (Withdraw name) = name
+
+-- each command is asked for, or those about one name
+abbrev pub is_asked : Option (List ℕ) → LibraryCommand → Bool
+is_asked None command = true
+is_asked (Some name) command = bytes_eq (name_of command) name
+
+-- a name, the bytes of its source and the words of its code
+abbrev pub unit_text : (name : List ℕ) → StoredUnit → List ℕ
+unit_text name unit = name ++ (codes " " ++ (decimal (length unit.source) ++ (codes " " ++ (decimal (length unit.image.code) ++ codes "\n"))))
+
+-- what a command does
+abbrev pub command_text : LibraryCommand → List ℕ
+command_text (Add name unit) = codes " add " ++ unit_text name unit
+command_text (Replace name unit) = codes " replace " ++ unit_text name unit
+command_text (Withdraw name) = codes " withdraw " ++ (name ++ codes "\n")
+
+-- the line of the command of a number, if it is asked for
+abbrev pub line_text : Option (List ℕ) → (number : ℕ) → LibraryCommand → List ℕ
+line_text name number command = if is_asked name command then decimal number ++ command_text command else []
+
+-- the lines of commands, of which the first has the number after this one
+abbrev pub lines_after : Option (List ℕ) → ℕ → List LibraryCommand → List ℕ
+lines_after name number [] = []
+lines_after name number (command ∷ commands) = line_text name (number + 1) command ++ lines_after name (number + 1) commands
+
+-- the lines of all: line K is that of the K-th command
+abbrev pub log_text : Option (List ℕ) → List LibraryCommand → List ℕ
+log_text name commands = lines_after name 0 commands

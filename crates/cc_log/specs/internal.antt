@@ -1,0 +1,2 @@
+-- Why commands are not read.
+pub mod Reading

@@ -1,0 +1,2 @@
+-- which definitions are surely small enough
+pub mod Long

@@ -1,0 +1,99 @@
+-- What is put back: what a crash leaves of a disk that was read and then changed, and the map that an add or a replace makes.
+use Rattle.std.proofs.Common.{◌≡◌, ◌⊎◌, inl, inr, ℕ, Bool, true, false, List, refl, ap, subst, ◌∙◌, Result, Ok, Err, arith}
+use Rattle.std.specs.Prelude.{if◌then◌else◌, OnOk}
+use Rattle.std.specs.FinMap as map
+use Rattle.cc_disk.specs.Images.{LeavesOnly, OnlyReads}
+use Rattle.cc_unit.specs.declared.unit.StoredUnit.{StoredUnit}
+use Rattle.cc_library.specs.declared.command.LibraryCommand.{LibraryCommand}
+use Rattle.cc_library.specs.declared.command.LibraryCommand.TheVariants.{Add, Replace}
+use Rattle.cc_library.specs.declared.fault.LibraryFault.{LibraryFault}
+use Rattle.cc_library.specs.declared.fault.LibraryFault.TheVariants.{Exists, Absent as NoUnit, Full, DiskFault, Closed, Damaged, NotALibrary, OutOfMemory as NoMemory}
+use Rattle.cc_library.specs.Apply.{Units, after, exists, absent, kept, library_of}
+use Rattle.cc_library.specs.Answers.{ChangeLeaves, OpenFaults}
+use Rattle.cc_library.specs.Recovered.{Recovers, RecoversAlone, RecoversOneOf, View}
+use Rattle.cc_log.specs.Commands.{HasCommands}
+use Rattle.cc_past.specs.Past.{IsStoredOn}
+use Rattle.cc_past.specs.Restored.{IsNotPut, MayBeRestored}
+use Rattle.cc_past.specs.internal.Steps.{MayBe}
+
+-- ---- the map
+
+-- a name without a unit is added, one with a unit is replaced
+pub added : (units : Units) (name : List ℕ) (unit : StoredUnit) → map.contains_key units name ≡ false → after units (Add name unit) ≡ map.insert units name unit
+added units name unit e = ap (λ (b : Bool). kept units (if b then Err exists else Ok (map.insert units name unit))) e
+
+pub replaced : (units : Units) (name : List ℕ) (unit : StoredUnit) → map.contains_key units name ≡ true → after units (Replace name unit) ≡ map.insert units name unit
+replaced units name unit e = ap (λ (b : Bool). kept units (if b then Ok (map.insert units name unit) else Err absent)) e
+
+-- an image that has the records of commands recovers to the map that they made
+pub commands_recover : (image : List ℕ) (commands : List LibraryCommand) → HasCommands image commands → Recovers image (library_of commands)
+commands_recover image commands has = record {
+  area = has.area;
+  bodies = has.bodies;
+  holds = has.holds;
+  stand = record { commands = commands; spelled = has.read.spelled; accepted = has.read.accepted; map_is = refl };
+}
+
+-- ---- moments
+
+module _ {D : Type 0} (seen : D → List ℕ) (may_leave : D → List ℕ → Type 0) (moment : D → ℕ) (left_since : D → ℕ → List ℕ → Type 0) where
+  earlier : {A B P : Type 0} → (A → B) → A ⊎ P → B ⊎ P
+  earlier f (inl a) = inl (f a)
+  earlier f (inr p) = inr p
+
+  deeper : {A B C P : Type 0} → (A → B) → A ⊎ P → B ⊎ (C ⊎ P)
+  deeper f (inl a) = inl (f a)
+  deeper f (inr p) = inr (inr p)
+
+  -- a disk that was read, and of which a crash then leaves P at most
+  pub read_then : (P : List ℕ → Type 0) (old mid new : D) → ((image : List ℕ) → left_since old (moment old) image → may_leave old image)
+      → OnlyReads seen may_leave moment left_since old mid → LeavesOnly moment left_since mid new P → LeavesOnly moment left_since old new (λ image. may_leave old image ⊎ P image)
+  read_then P old mid new only_now first second = record {
+    later = omega (arith, first.later, second.later);
+    each = λ image left. earlier (λ l. only_now image (first.moments (moment old) image (omega arith) l)) (second.before (moment old) image first.later left);
+    before = λ t image le left. deeper (λ l. first.moments t image le l) (second.before t image (omega (arith, le, first.later)) left);
+  }
+
+  -- one that was read alone
+  pub read_alone : (P : List ℕ → Type 0) (old new : D) → ((image : List ℕ) → left_since old (moment old) image → may_leave old image)
+      → OnlyReads seen may_leave moment left_since old new → LeavesOnly moment left_since old new (λ image. may_leave old image ⊎ P image)
+  read_alone P old new only_now reads = record {
+    later = reads.later;
+    each = λ image left. inl (only_now image (reads.moments (moment old) image (omega arith) left));
+    before = λ t image le left. inl (reads.moments t image le left);
+  }
+
+-- ---- refusals
+
+-- why a library is not opened is why nothing is put into it
+pub open_refused : (honest : Bool) (seen : List ℕ) (before after : ℕ) (fault : LibraryFault) → OpenFaults honest seen before after fault → IsNotPut honest seen before after fault
+open_refused honest seen before after DiskFault why = why
+open_refused honest seen before after NotALibrary why = why
+open_refused honest seen before after Damaged why = why
+open_refused honest seen before after NoMemory why = why
+open_refused honest seen before after Full why = absurd why
+open_refused honest seen before after Exists why = absurd why
+open_refused honest seen before after NoUnit why = absurd why
+open_refused honest seen before after Closed why = absurd why
+
+-- what is said of each answer that is one
+pub on_ok : {T F : Type 0} {A B : Type 0} → (A → B) → (r : Result T F) → OnOk r A → OnOk r B
+on_ok step (Ok t) a = step a
+on_ok step (Err f) a = tt
+
+-- the map after a change that was made is the one that it makes
+pub kept_as : {D : Type 0} (answer : Result (Unit {0}) LibraryFault) (command : LibraryCommand) (old new : View D) (may_leave : D → List ℕ → Type 0) (H : Type 0) (made : Units)
+    → after old.units command ≡ made → ChangeLeaves command old new answer → OnOk answer (H → (image : List ℕ) → may_leave new.disk image → RecoversAlone image new.units)
+    → OnOk answer (H → (image : List ℕ) → may_leave new.disk image → RecoversAlone image made)
+kept_as (Ok done) command old new may_leave H made is leaves kept =
+    let units : new.units ≡ made = ap (λ v. v.units) leaves ∙ is in
+    λ h image left. subst (λ (m : Units). RecoversAlone image m) units (kept h image left)
+kept_as (Err fault) command old new may_leave H made is leaves kept = tt
+
+-- what may be left of a disk before it was read may be left before
+pub may_be_restored : (seen name : List ℕ) (number : ℕ) (before mid : List ℕ → Type 0) (units : Units) (stored : List ℕ) (unit : StoredUnit) → ((image : List ℕ) → mid image → before image)
+    → stored ≡ name → IsStoredOn seen name number unit → (image : List ℕ) → before image ⊎ MayBe mid units (map.insert units stored unit) image → MayBeRestored seen name number before units image
+may_be_restored seen name number before mid units stored unit none same is image (inl left) = inl left
+may_be_restored seen name number before mid units stored unit none same is image (inr (inl left)) = inl (none image left)
+may_be_restored seen name number before mid units stored unit none same is image (inr (inr p)) =
+    inr (unit, is, subst (λ (n : List ℕ). RecoversOneOf units (map.insert units n unit) image) same p)

@@ -1,0 +1,42 @@
+// A part of what a command of a library stored.
+
+ghost use Rattle.std.specs.Prelude.{IsTrue, IfOk, IfErr};
+ghost use Rattle.cc_disk.specs.Images.{OnlyReads};
+ghost use Rattle.cc_past.specs.Past.{IsNotStoredOn, IsPartAt};
+
+use crate::stored::stored_on;
+use cc_disk::Disk;
+use cc_task::Part;
+use cc_tasks::{PartFault, part_of};
+use std::alloc::Global;
+
+/// A part of what the command of this number stored under this name in the library on a disk; the disk is handed back, and nothing is written
+/// to it. The first command since the last compaction has the number 1.
+///
+/// Refusals: first those of `Library::open`, 35, 38, 37 and 40; then 33 where the bytes are no name, 32 where the command stored nothing under
+/// it.
+pub fn part_at<D: Disk + Drop>(
+    alloc: Global,
+    disk: D,
+    name: &[u8],
+    part: Part,
+    number: usize,
+) -> (Result<Vec<u8>, PartFault>, D)
+    // Of an honest disk: of the commands of which it has the records.
+    ensures part { IfOk result.0 (λ bytes. IsTrue D.honest → IsPartAt (D.seen disk) name.now number part bytes.items) }
+    ensures refused { IfErr result.0 (λ fault. IsNotStoredOn D.honest (D.seen disk) (D.failures disk) (D.failures result.1) name.now number fault) }
+    ensures reads { IsTrue D.honest → OnlyReads D.seen D.may_leave D.moment D.left_since disk result.1 }
+{
+    let (found, disk) = stored_on(alloc, disk, name, number);
+    match found {
+        Ok(stored) => {
+            let bytes = match part_of(alloc, stored.unit.stored(), part) {
+                Ok(bytes) => Ok(bytes),
+                Err(_) => Err(PartFault::OutOfMemory),
+            };
+            drop(stored);
+            (bytes, disk)
+        }
+        Err(fault) => (Err(fault), disk),
+    }
+}

@@ -1,0 +1,74 @@
+// What a command of a library stored, put back.
+
+ghost use Rattle.std.specs.Prelude.{◌≡◌, ℕ, List, IsTrue, IfErr, OnOk};
+ghost use Rattle.std.specs.FinMap as map;
+ghost use Rattle.cc_disk.specs.Images.{LeavesOnly};
+ghost use Rattle.cc_unit.specs.declared.unit.StoredUnit.{StoredUnit};
+ghost use Rattle.cc_library.specs.Apply.{Units};
+ghost use Rattle.cc_library.specs.Recovered.{Recovers, RecoversAlone, RecoversOneOf};
+ghost use Rattle.cc_past.specs.Restored.{IsNotPut, IsNotRestored, IsRestoredBy, MayBeRestored};
+ghost use Rattle.cc_past.specs.internal.Steps.{MayBe};
+
+use crate::stored::{Stored, stored_on};
+use cc_disk::Disk;
+use cc_library::{Library, LibraryCommand, LibraryFault};
+use cc_tasks::PartFault;
+use std::alloc::Global;
+
+// Puts a unit under its name into the library on a disk, whether the name has one or not.
+fn put<D: Disk + Drop>(alloc: Global, disk: D, stored: Stored) -> (Result<(), LibraryFault>, D)
+    ensures put { OnOk result.0 (IsTrue D.honest → (units : Units) → Recovers (D.seen disk) units
+        → (image : List ℕ) → D.may_leave result.1 image → RecoversAlone image (map.insert units stored.name stored.unit)) }
+    ensures refused { IfErr result.0 (λ fault. IsNotPut D.honest (D.seen disk) (D.failures disk) (D.failures result.1) fault) }
+    ensures moments { IsTrue D.honest → (units : Units) → Recovers (D.seen disk) units
+        → LeavesOnly D.moment D.left_since disk result.1 (MayBe (D.may_leave disk) units (map.insert units stored.name stored.unit)) }
+{
+    match Library::open(alloc, disk) {
+        Ok(mut library) => {
+            let Stored { name, unit } = stored;
+            let command = if library.units().contains(&name) {
+                LibraryCommand::Replace(name, unit)
+            } else {
+                LibraryCommand::Add(name, unit)
+            };
+            let answer = library.change(alloc, command);
+            (answer, library.into_disk())
+        }
+        Err((fault, disk)) => {
+            drop(stored);
+            (Err(fault), disk)
+        }
+    }
+}
+
+/// Puts what the command of this number stored under this name back into the library on a disk, to the byte: as an add where no unit has the
+/// name, else as a replace. The first command since the last compaction has the number 1. At Ok every crash from then on leaves it.
+///
+/// Refusals: first those of `Library::open`, 35, 38, 37 and 40; then 33 where the bytes are no name, 32 where the command stored nothing under
+/// it; then 34 where the record does not fit, 35 where the device failed.
+pub fn restore<D: Disk + Drop>(
+    alloc: Global,
+    disk: D,
+    name: &[u8],
+    number: usize,
+) -> (Result<(), PartFault>, D)
+    // Of an honest disk every image then recovers to the map before with the unit that the command stored.
+    ensures restored { OnOk result.0 (IsTrue D.honest
+        → (unit : StoredUnit) × IsRestoredBy (D.seen disk) name.now number unit (D.may_leave result.1)) }
+    // Whatever it answers, and at every moment: what a crash could leave before, the map before, or the one after it.
+    ensures moments { IsTrue D.honest → (units : Units) → Recovers (D.seen disk) units
+        → LeavesOnly D.moment D.left_since disk result.1 (MayBeRestored (D.seen disk) name.now number (D.may_leave disk) units) }
+    ensures refused { IfErr result.0 (λ fault. IsNotRestored D.honest (D.seen disk) (D.failures disk) (D.failures result.1) name.now number fault) }
+{
+    let (found, disk) = stored_on(alloc, disk, name, number);
+    match found {
+        Ok(stored) => {
+            let (answer, disk) = put(alloc, disk, stored);
+            match answer {
+                Ok(()) => (Ok(()), disk),
+                Err(fault) => (Err(PartFault::Library(fault)), disk),
+            }
+        }
+        Err(fault) => (Err(fault), disk),
+    }
+}

@@ -1,0 +1,2 @@
+-- A line cut at its first space.
+pub mod Cutting

@@ -1,0 +1,28 @@
+// What is written of a run.
+
+ghost use Rattle.std.specs.Prelude.{OnOk};
+ghost use Rattle.std.specs.Io.KnownBytes.{Appends};
+ghost use Rattle.cc_runs.specs.Written.{count_text, counted_text};
+
+use crate::count::CountedRun;
+use cc_answers::write_run;
+use std::io::{self, Write};
+
+// Writes the line of a count, if it was asked for.
+fn write_count<W: Write>(executed: Option<u64>, writer: &mut W) -> io::Result<()>
+    ensures { OnOk result (Appends (W.contents writer.old) (W.contents writer.new) (count_text executed)) }
+{
+    match executed {
+        Some(count) => writeln!(writer, "executed {count}"),
+        None => Ok(()),
+    }
+}
+
+/// Writes the words, one a line, what the run has come to, and the line of its count, if that was asked for.
+#[tactic(auto, using(cc_answers::proofs::Writing::written_on))]
+pub fn write_counted_run<W: Write>(done: &CountedRun, writer: &mut W) -> io::Result<()>
+    ensures { OnOk result (Appends (W.contents writer.old) (W.contents writer.new) (counted_text done.now)) }
+{
+    write_run(&done.run, writer)?;
+    write_count(done.executed, writer)
+}

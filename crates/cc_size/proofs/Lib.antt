@@ -1,0 +1,2 @@
+-- How the table of needs is made.
+pub mod Deepening

@@ -1,0 +1,5 @@
+-- what the functions of a unit take, and its image
+pub mod Size
+-- that so much is enough
+pub mod Sized
+pub mod internal

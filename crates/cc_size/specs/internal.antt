@@ -1,0 +1,3 @@
+-- What only private contracts and proofs speak of.
+-- the table of what functions take
+pub mod Deeper

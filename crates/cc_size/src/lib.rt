@@ -1,0 +1,10 @@
+//! What a compiled unit takes: the words of its code, the frames of its functions, and a stack that is enough for it.
+#![tactic(auto)]
+
+mod measuring;
+mod needs;
+mod size;
+mod tables;
+
+pub use measuring::{size_along_in, size_in};
+pub use size::{FunctionSize, Sized, UnitSize};

@@ -1,0 +1,10 @@
+-- The byte lies as many bytes as are left after where the next text begins.
+use Rattle.std.proofs.Common.{◌≡◌, ◌+◌}
+use Rattle.cc_sources.specs.Places.{begin_of}
+use Rattle.cc_sources.proofs.place.place_in.Given as goal
+
+abbrev pub invariant-loop-text : goal.invariant-loop-text
+invariant-loop-text l = record {
+  number : l.number ≡ l.text-index;
+  begins : l.at ≡ begin_of l.texts l.number + l.left;
+}

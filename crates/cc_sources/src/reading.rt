@@ -1,0 +1,118 @@
+// Reading texts.
+
+ghost use Rattle.std.specs.Prelude.{◌≡◌, ◌≤◌, IfOk, vec_len};
+ghost use Rattle.cc_sources.specs.Reading.{IsTextOf};
+
+use super::text::NamedText;
+use cc_tokens::MOST_BYTES;
+use std::alloc::{AllocError, Global};
+use std::fs::File;
+use std::io::{self, Input, Read};
+use std::rt::Files;
+
+/// One byte more than a text may have: no more are read, so that a longer text is seen to be one.
+pub const MOST_READ: usize = MOST_BYTES + 1;
+
+/// The name of standard input.
+pub const INPUT: &str = "-";
+
+/// Why a text was not read.
+#[derive(Drop)]
+pub enum NoText {
+    /// The system refused to open or to read it.
+    Unread(io::Error),
+    OutOfMemory,
+}
+
+impl From<AllocError> for NoText {
+    ghost use Rattle.cc_sources.specs.declared.reading.NoText.TheVariants.{OutOfMemory};
+
+    ghost from_gives = { λ _ fault. fault ≡ OutOfMemory };
+
+    fn from(_error: AllocError) -> Self {
+        NoText::OutOfMemory
+    }
+}
+
+/// The bytes of a reader up to its end, or the first `MOST_READ` of them.
+pub fn read_text<R: Read>(alloc: Global, reader: &mut R) -> Result<Vec<u8>, NoText>
+    ensures few { IfOk result (λ text. vec_len text ≤ MOST_READ) }
+    ensures text { IfOk result (λ text. IsTextOf (R.remaining reader.old) text.items) }
+{
+    let mut text = Vec::new(alloc);
+    let mut piece = [0u8; 4096];
+    while text.len() < MOST_READ {
+        let room = piece.len().min(MOST_READ - text.len());
+        let count = match reader.read(&mut piece[..room]) {
+            Ok(count) => count,
+            Err(why) => return Err(NoText::Unread(why)),
+        };
+        if count == 0 {
+            break;
+        }
+        text.extend_from_slice(&piece[..count])?;
+    }
+    Ok(text)
+}
+
+// The bytes of the file of a name, or of standard input.
+fn read_named<R: Input, F: Files>(
+    rt: &R,
+    files: &F,
+    alloc: Global,
+    name: &str,
+) -> Result<Vec<u8>, NoText> {
+    if name == INPUT {
+        return read_text(alloc, &mut rt.reader());
+    }
+    match File::open(files, name) {
+        Ok(mut file) => read_text(alloc, &mut file),
+        Err(why) => Err(NoText::Unread(why)),
+    }
+}
+
+/// Which of some texts was not read, by its number from 0, and why.
+#[derive(Drop)]
+pub struct NoTexts {
+    pub number: usize,
+    pub why: NoText,
+}
+
+// The text of a name with that.
+fn named<R: Input, F: Files>(
+    rt: &R,
+    files: &F,
+    alloc: Global,
+    name: &str,
+) -> Result<NamedText, NoText> {
+    let bytes = read_named(rt, files, alloc, name)?;
+    let name = String::from_str(alloc, name)?;
+    Ok(NamedText { name, bytes })
+}
+
+/// The texts of the files of these names, in their order; `-` is standard input. Once they have more bytes together than a text may have, no
+/// further one is read.
+pub fn read_texts<R: Input, F: Files>(
+    rt: &R,
+    files: &F,
+    alloc: Global,
+    names: &[String],
+) -> Result<Vec<NamedText>, NoTexts> {
+    let mut texts = Vec::new(alloc);
+    let mut read = 0usize;
+    for (number, name) in names.iter().enumerate() {
+        if read > MOST_BYTES {
+            break;
+        }
+        let text = match named(rt, files, alloc, name.as_str()) {
+            Ok(text) => text,
+            Err(why) => return Err(NoTexts { number, why }),
+        };
+        read = read.saturating_add(text.bytes.len());
+        if texts.push(text).is_err() {
+            let why = NoText::OutOfMemory;
+            return Err(NoTexts { number, why });
+        }
+    }
+    Ok(texts)
+}

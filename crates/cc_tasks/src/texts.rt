@@ -1,0 +1,156 @@
+// Doing a task for texts that are given one after the other.
+
+ghost use Rattle.std.specs.Prelude.{◌≤◌, [], Some, IsErrAnd};
+ghost use Rattle.cc_sources.specs.Joined.{joined};
+ghost use Rattle.cc_tasks.specs.Written.{IsPerformed};
+ghost use Rattle.cc_tasks.specs.internal.Working.{IsDoneFor, RefusesBy};
+ghost use Rattle.cc_tasks.specs.declared.fault.Fault.TheVariants.{OutOfMemory};
+
+use super::fault::Fault;
+use super::stages::{explain_stages, try_stages};
+use super::work::{Performed, explain, refused, status, try_perform};
+use cc_sources::{NamedText, NoText, NoTexts, Origin, join, read_texts, tell_unread};
+use cc_task::{Kind, Task};
+use std::alloc::{AllocError, Global};
+use std::io::{self, Input, Write};
+use std::rt::Files;
+
+// Writes that a text could not be read, and tells which and why.
+fn refuse_unread<W: Write, E: Write>(
+    name: &str,
+    why: &io::Error,
+    writer: &mut W,
+    told: &mut E,
+) -> io::Result<()> {
+    Fault::Read.write_line(b"", writer)?;
+    writer.flush()?;
+    tell_unread(name, why, told)
+}
+
+/// The texts of the files of these names; none where one could not be read: 53 is written then, and told of which file and why. The error is
+/// lack of memory.
+pub fn read_or_refuse<R: AllocGlobal + Input, F: Files, W: Write, E: Write>(
+    rt: &R,
+    files: &F,
+    names: &[String],
+    writer: &mut W,
+    told: &mut E,
+) -> Result<Option<Vec<NamedText>>, AllocError> {
+    match read_texts(rt, files, rt.alloc(), names) {
+        Ok(texts) => Ok(Some(texts)),
+        Err(NoTexts { number, why }) => match why {
+            NoText::Unread(why) => {
+                let name = match names.get(number) {
+                    Some(name) => name.as_str(),
+                    None => "",
+                };
+                let _ = refuse_unread(name, &why, writer, told);
+                Ok(None)
+            }
+            NoText::OutOfMemory => Err(AllocError),
+        },
+    }
+}
+
+// That memory for the text which texts make ran out.
+fn unjoined<W: Write>(alloc: Global, writer: &mut W) -> Performed
+    ensures { IsErrAnd result.told (λ told. RefusesBy OutOfMemory [] (W.contents writer.old) (W.contents writer.new) told) }
+{
+    Performed {
+        text: Vec::new(alloc),
+        told: Err(refused(Fault::OutOfMemory, b"", writer)),
+    }
+}
+
+// Does a task for the text that texts make.
+#[tactic(auto, using(crate::proofs::Working::undone))]
+fn try_texts<W: Write>(alloc: Global, task: &Task, texts: &[NamedText], writer: &mut W) -> Performed
+    ensures { IsDoneFor task.now (Some (joined texts.now)) (W.contents writer.old) (W.contents writer.new) result.told }
+{
+    match join(alloc, texts) {
+        Ok(whole) => try_perform(alloc, task, &mut whole.as_slice(), writer),
+        Err(_) => unjoined(alloc, writer),
+    }
+}
+
+/// Does a task as `perform` does, for the text that texts make: one after the other, with a newline between two if the first lacks it.
+#[tactic(auto, using(crate::proofs::Working::performed))]
+pub fn perform_texts<H: AllocGlobal, W: Write>(
+    rt: &H,
+    task: Task,
+    texts: &[NamedText],
+    writer: &mut W,
+) -> u8
+    ensures { IsPerformed task (Some (joined texts.now)) (W.contents writer.old) (W.contents writer.new) result }
+{
+    let performed = try_texts(rt.alloc(), &task, texts, writer);
+    status(performed)
+}
+
+/// Does a task as `perform_texts` does, and writes to `explanations` what `perform_and_explain` does, with the name of the text that a place
+/// lies in, and line and column there.
+#[tactic(auto, using(crate::proofs::Working::performed))]
+pub fn perform_texts_and_explain<H: AllocGlobal, W: Write, E: Write>(
+    rt: &H,
+    task: Task,
+    texts: &[NamedText],
+    writer: &mut W,
+    explanations: &mut E,
+) -> u8
+    ensures { IsPerformed task (Some (joined texts.now)) (W.contents writer.old) (W.contents writer.new) result }
+{
+    let performed = try_texts(rt.alloc(), &task, texts, writer);
+    let origin = Origin::Texts(texts);
+    explain(rt.alloc(), &task, &performed, origin, explanations);
+    status(performed)
+}
+
+// Shows the functions of the text that texts make.
+fn try_stages_of_texts<W: Write>(
+    alloc: Global,
+    kind: Kind,
+    function: Option<&[u8]>,
+    texts: &[NamedText],
+    writer: &mut W,
+) -> Performed {
+    match join(alloc, texts) {
+        Ok(whole) => try_stages(alloc, kind, function, &mut whole.as_slice(), writer),
+        Err(_) => unjoined(alloc, writer),
+    }
+}
+
+/// Shows functions as `perform_stages` does, of the text that texts make.
+pub fn perform_stages_of_texts<H: AllocGlobal, W: Write>(
+    rt: &H,
+    kind: Kind,
+    function: Option<&[u8]>,
+    texts: &[NamedText],
+    writer: &mut W,
+) -> u8
+    ensures { result ≤ 1 }
+{
+    let performed = try_stages_of_texts(rt.alloc(), kind, function, texts, writer);
+    status(performed)
+}
+
+/// The same, and explains as `perform_texts_and_explain` does.
+pub fn perform_and_explain_stages_of_texts<H: AllocGlobal, W: Write, E: Write>(
+    rt: &H,
+    kind: Kind,
+    function: Option<&[u8]>,
+    texts: &[NamedText],
+    writer: &mut W,
+    explanations: &mut E,
+) -> u8
+    ensures { result ≤ 1 }
+{
+    let performed = try_stages_of_texts(rt.alloc(), kind, function, texts, writer);
+    explain_stages(
+        rt.alloc(),
+        function,
+        &performed,
+        Origin::Texts(texts),
+        explanations,
+    );
+    status(performed)
+}

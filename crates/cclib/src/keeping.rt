@@ -1,0 +1,56 @@
+// The commands that look into libraries in files, take something out of one, and copy one.
+
+ghost use Rattle.cc_command_line.specs.Work.{IsBoundedLook};
+
+use cc_command_line::{Keeping, Wanted};
+use cc_filing::take_out_of_file;
+use cc_keeping::{
+    call_in_file, copy_file, diff_files, log_of_file, restore_in_file, take_out_of_past,
+};
+use std::alloc::AllocError;
+use std::io::{Input, Print, Write};
+use std::process;
+
+/// Takes a part of a unit out of a library, as it is or as a command stored it; the status. The error is lack of memory before it began.
+pub fn take_out<R: AllocGlobal + Print, E: Write + Drop>(
+    rt: &R,
+    files: &HostRuntime,
+    wanted: &Wanted,
+    is_quiet: bool,
+    errors: E,
+) -> Result<u8, AllocError> {
+    match wanted.at {
+        Some(number) => take_out_of_past(rt, files, wanted, number, is_quiet, errors),
+        None => take_out_of_file(rt, files, wanted, is_quiet, errors),
+    }
+}
+
+/// Looks into libraries; the status. The error is lack of memory before it began.
+pub fn look_into<R: AllocGlobal + Input + Print, E: Write + Drop>(
+    rt: &R,
+    files: &HostRuntime,
+    asked: &Keeping,
+    is_quiet: bool,
+    errors: E,
+) -> Result<u8, AllocError>
+    requires { IsBoundedLook asked.now }
+{
+    match asked {
+        Keeping::Call(asked) => call_in_file(rt, files, asked, is_quiet, errors),
+        Keeping::Diff(left, right) => {
+            diff_files(rt, files, left.as_str(), right.as_str(), is_quiet, errors)
+        }
+        Keeping::Log(disk, name) => {
+            let name = match name {
+                Some(name) => Some(name.as_str()),
+                None => None,
+            };
+            log_of_file(rt, files, disk.as_str(), name, is_quiet, errors)
+        }
+        Keeping::Restore(asked) => restore_in_file(rt, files, asked, is_quiet, errors),
+        Keeping::Copy(asked) => {
+            let process = process::id(files.process());
+            copy_file(rt, files, process, asked, is_quiet, errors)
+        }
+    }
+}

@@ -1,0 +1,72 @@
+// A program that comes in files.
+
+use cc_answers::Telling;
+use cc_task::{Kind, Task};
+use cc_tasks::{
+    perform_and_explain_stages_of_texts, perform_stages_of_texts, perform_texts,
+    perform_texts_and_explain, read_or_refuse,
+};
+use std::alloc::AllocError;
+use std::io::{self, BufWriter, Input, Print, Write};
+
+/// Does a task for the program in these files; the status. The error is lack of memory before it began.
+pub fn start_texts<R: AllocGlobal + Input + Print, E: Write + Drop>(
+    rt: &R,
+    files: &HostRuntime,
+    task: Task,
+    names: &[String],
+    is_quiet: bool,
+    errors: E,
+) -> Result<u8, AllocError> {
+    let (Ok(mut writer), Ok(errors)) = (
+        BufWriter::new(rt.alloc(), io::writer(rt)),
+        BufWriter::new(rt.alloc(), errors),
+    ) else {
+        drop(task);
+        return Err(AllocError);
+    };
+    let mut told = Telling { errors, is_quiet };
+    let texts = match read_or_refuse(rt, files, names, &mut writer, &mut told) {
+        Ok(Some(texts)) => texts,
+        Ok(None) => {
+            drop(task);
+            return Ok(1);
+        }
+        Err(error) => {
+            drop(task);
+            return Err(error);
+        }
+    };
+    let texts = texts.as_slice();
+    if is_quiet {
+        return Ok(perform_texts(rt, task, texts, &mut writer));
+    }
+    Ok(perform_texts_and_explain(rt, task, texts, &mut writer, &mut told))
+}
+
+/// Shows what the compiler makes of the program in these files; the status. The error is lack of memory before it began.
+pub fn start_stages_of_texts<R: AllocGlobal + Input + Print, E: Write + Drop>(
+    rt: &R,
+    files: &HostRuntime,
+    kind: Kind,
+    function: Option<&[u8]>,
+    names: &[String],
+    is_quiet: bool,
+    errors: E,
+) -> Result<u8, AllocError> {
+    let (Ok(mut writer), Ok(errors)) = (
+        BufWriter::new(rt.alloc(), io::writer(rt)),
+        BufWriter::new(rt.alloc(), errors),
+    ) else {
+        return Err(AllocError);
+    };
+    let mut told = Telling { errors, is_quiet };
+    let Some(texts) = read_or_refuse(rt, files, names, &mut writer, &mut told)? else {
+        return Ok(1);
+    };
+    let texts = texts.as_slice();
+    if is_quiet {
+        return Ok(perform_stages_of_texts(rt, kind, function, texts, &mut writer));
+    }
+    Ok(perform_and_explain_stages_of_texts(rt, kind, function, texts, &mut writer, &mut told))
+}

@@ -1,0 +1,19 @@
+//! Tests of what looks into libraries and copies them, over disks in memory: units that are run, where two libraries differ, what their commands
+//! were, what goes back, what a copy has, and which command lines ask for it. The units are made by hand. Expected lines were worked by hand
+//! from the rules of the machine and of the documents.
+#![tactic(auto)]
+
+#[cfg(test)]
+mod calls;
+#[cfg(test)]
+mod copies;
+#[cfg(test)]
+mod differences;
+#[cfg(test)]
+mod helpers;
+#[cfg(test)]
+mod logs;
+#[cfg(test)]
+mod watches;
+#[cfg(test)]
+mod words;

@@ -1,0 +1,185 @@
+// Cminor with guards.
+
+use crate::helpers::shared_unit;
+use cc_cminor::{CminorPair, to_cminor};
+use cc_guard::guard;
+use cc_types::TypedUnit;
+use std::alloc::{AllocError, Global};
+use std::sync::Arc;
+use std::test::Fail;
+use tests_texts::stages::{Stage, shows_all};
+
+// Whether the function with this number goes through, and the pair names it.
+fn goes_through(alloc: Global, unit: &Arc<TypedUnit>, function: usize) -> Result<bool, Fail> {
+    if function >= unit.functions() {
+        return Ok(false);
+    }
+    let pair = to_cminor(alloc, unit, function)?;
+    match guard(alloc, pair) {
+        Ok(made) => {
+            let right = made.function() == function && made.unit().text() == unit.text();
+            drop(made);
+            Ok(right)
+        }
+        Err(_) => Ok(false),
+    }
+}
+
+fn written(alloc: Global, pair: &CminorPair) -> Result<String, AllocError> {
+    pair.to_string(alloc)
+}
+
+/// The way to Cminor with guards.
+pub struct GuardedStage;
+
+impl Stage for GuardedStage {
+    fn all_go_through(alloc: Global, text: &[u8], functions: usize) -> Result<bool, Fail> {
+        let unit = shared_unit(alloc, text)?;
+        let mut right = unit.functions() == functions;
+        for function in 0..functions {
+            right = right && goes_through(alloc, &unit, function)?;
+        }
+        drop(unit);
+        Ok(right)
+    }
+
+    fn text_of(alloc: Global, text: &[u8], function: usize) -> Result<Option<String>, Fail> {
+        let unit = shared_unit(alloc, text)?;
+        if function >= unit.functions() {
+            return Ok(None);
+        }
+        let pair = to_cminor(alloc, &unit, function)?;
+        drop(unit);
+        let made = guard(alloc, pair)?;
+        let shown = written(alloc, &made);
+        drop(made);
+        Ok(Some(shown?))
+    }
+}
+
+/// A text, the number of a function, and the text of its Cminor with guards.
+static SHOWN: [(&str, usize, &str); 5] = [
+    // nothing that may go wrong: as it was, with no loop at its end
+    (
+        "int a[4];int main(void){int i=read_word();return a[i&3]/2+a[3];}",
+        0,
+        "f0
+  v0 = 0
+  v1 = read
+  v0 = v1
+  return add(div_s(o0[and(v0, 3)], 2), o0[3])
+",
+    ),
+    // an index, which waits in a variable while the word is evaluated
+    (
+        "int a[3];int main(void){int i=read_word();a[i]=7;return 5;}",
+        0,
+        "f0
+  block
+    block
+      v0 = 0
+      v1 = read
+      v0 = v1
+      v1 = v0
+      if le_u(3, v1)
+        exit 0
+      else
+        skip
+      o0[v1] = 7
+      return 5
+      exit 1
+    loop
+      skip
+",
+    ),
+    // one test for both accesses of `a[i]`; an index that is no variable waits in one
+    (
+        "int a[3];unsigned char b[8];int main(void){int i;for(i=0;i<9;i=i+1)a[b[i+1]]+=i;}",
+        0,
+        "f0
+  block
+    block
+      v0 = 0
+      v0 = 0
+      block
+        loop
+          if lt_s(v0, 9)
+            block
+              v2 = add(v0, 1)
+              if le_u(8, v2)
+                exit 2
+              else
+                skip
+              v1 = byte o1[v2]
+              if le_u(3, v1)
+                exit 2
+              else
+                skip
+              o0[v1] = add(o0[v1], v0)
+            v0 = add(v0, 1)
+          else
+            exit 0
+      exit 1
+    loop
+      skip
+",
+    ),
+    // signed and unsigned quotients, and a shift
+    (
+        "int main(void){int a=read_word();int b=read_word();unsigned c=b;return a/b+c%7u+(1<<b);}",
+        0,
+        "f0
+  block
+    block
+      v0 = 0
+      v1 = read
+      v0 = v1
+      v1 = 0
+      v2 = read
+      v1 = v2
+      v2 = 0
+      v2 = v1
+      if is_zero(v1)
+        exit 0
+      else
+        skip
+      if eq(v1, 4294967295)
+        if eq(v0, 2147483648)
+          exit 0
+        else
+          skip
+      else
+        skip
+      if le_u(32, v1)
+        exit 0
+      else
+        skip
+      return add(add(div_s(v0, v1), rem_u(v2, 7)), shl(1, v1))
+      exit 1
+    loop
+      skip
+",
+    ),
+    // a value that nobody uses
+    (
+        "int a[2];int main(void){a[9];}",
+        0,
+        "f0
+  block
+    block
+      if le_u(2, 9)
+        exit 0
+      else
+        skip
+      v0 = o0[9]
+      exit 1
+    loop
+      skip
+",
+    ),
+];
+
+#[test]
+fn texts_of_functions(rt: HostRuntime) -> Result<(), Fail> {
+    shows_all::<GuardedStage>(rt.alloc(), SHOWN.as_slice())
+}

@@ -1,0 +1,16 @@
+"""The gate's budget of must-fail edits: each costs a check, and a crate's first one its whole proof again (docs/GATE.md)."""
+import glob
+import os
+
+TOP = os.path.dirname(os.path.dirname(os.path.dirname(os.path.abspath(__file__))))
+A_CRATE, IN_ALL = 12, 125
+
+
+def budget():
+    """At most 12 must-fail edits a crate, 125 in all."""
+    count = {}
+    for path in glob.glob(f"{TOP}/crates/*/must-fail/*.edit"):
+        crate = path.split("/")[-3]
+        count[crate] = count.get(crate, 0) + 1
+    wrong = [f"{crate} has {many} must-fail edits, more than {A_CRATE}" for crate, many in sorted(count.items()) if many > A_CRATE]
+    return wrong + ([f"{sum(count.values())} must-fail edits in all, more than {IN_ALL}"] if sum(count.values()) > IN_ALL else [])

@@ -1,0 +1,94 @@
+"""What stands in two places is the same in both: texts that the program, its script, its tests and its documents have each for itself."""
+import os
+import re
+import subprocess
+
+TOP = os.path.dirname(os.path.dirname(os.path.dirname(os.path.abspath(__file__))))
+PROGRAMS = "crates/tests_texts/src/programs.rt"
+COMMANDS = "crates/cc_script/src/commands.rt"
+
+
+def read(path):
+    with open(f"{TOP}/{path}", encoding="utf-8") as file:
+        return file.read()
+
+
+def said(*words):
+    """Returns what a command of the repository says."""
+    return subprocess.run([f"{TOP}/{words[0]}", *words[1:]], check=True, stdout=subprocess.PIPE, text=True).stdout
+
+
+def found(pattern, text):
+    """Returns what a pattern finds in a text, which has it once."""
+    (one,) = re.findall(pattern, text, re.M | re.S)
+    return one
+
+
+def differ(where, one, other):
+    """Returns the first place where two texts or lists differ, as a complaint, or none."""
+    one, other = (it.split("\n") if isinstance(it, str) else list(it) for it in (one, other))
+    for at in range(max(len(one), len(other))):
+        pair = [it[at] if at < len(it) else None for it in (one, other)]
+        if pair[0] != pair[1]:
+            return [f"{where}, line {at + 1}: {pair[0]!r} and {pair[1]!r}"]
+    return []
+
+
+def help_texts():
+    """What ./cclib says of itself without a build is what a test of tests_program holds the program to."""
+    test = read("crates/tests_program/src/help.rt")
+    wrong = differ("./cclib --help and HELP of tests_program", said("cclib", "--help"), found(r'^static HELP: &str = "\\\n(.*?)^";$', test))
+    return wrong + differ("./cclib --version and VERSION", said("cclib", "--version"), found(r'^static VERSION: &str = "(.*?)^";$', test))
+
+
+def version():
+    """The version is in VERSION; the program and what ./cclib says without a build have the same."""
+    code = read("crates/cc_command_line/src/command_line.rt")
+    return differ("VERSION and command_line.rt", read("VERSION").strip(), found(r'^        \.version\("(.*?)"\)$', code))
+
+
+def programs():
+    """Programs of bench/programs that the tests have too are the same."""
+    wrong, texts = [], re.findall(r'^pub const (\w+): &str =\s*"(.*?)^";$', read(PROGRAMS), re.M | re.S)
+    for name, text in texts:
+        wrong += differ(f"{PROGRAMS}, {name}, and bench/programs/{name.lower()}.c", text, read(f"bench/programs/{name.lower()}.c"))
+    return wrong or ([] if len(texts) > 3 else [f"{PROGRAMS} has {len(texts)} programs"])
+
+
+def in_help(name, file):
+    """Returns the commands that a help text shows."""
+    text = found(rf'^const {name}: &str = "\\\n(.*?)";$', read(f"crates/cc_command_line/src/{file}.rt"))
+    return re.findall(r"^  ([a-z]+(?: [A-Z]+)*)(?:  .*)?$", text, re.M)
+
+
+def commands():
+    """The commands of a script stand in one list: what reads a line, the help of two commands and the table of docs/FORMATS.md have these."""
+    text = read(COMMANDS)
+    listed = re.findall(r'^    b"(.*)",$', found(r"^pub const COMMANDS(.*?)^\];$", text), re.M)
+    plain = int(found(r"^pub const PLAIN_COMMANDS: usize = (\d+);$", text))
+    table = found(r"^## A session's script$(.*?)^## ", read("docs/FORMATS.md"))
+    verbs = re.findall(r'verb == b"([a-z]*)"', read("crates/cc_script/src/command.rt"))
+    wrong = differ(f"{COMMANDS} and command.rt", sorted(it.split()[0] for it in listed), sorted(verbs))
+    wrong += differ(f"{COMMANDS} and LIBRARY_HELP", listed[:plain], in_help("LIBRARY_HELP", "library"))
+    wrong += differ(f"{COMMANDS} and SUBMIT_HELP", [it.removesuffix(" LEN") for it in listed], in_help("SUBMIT_HELP", "spool"))
+    return wrong + differ(f"{COMMANDS} and docs/FORMATS.md", listed, re.findall(r"^\| `([a-z]+(?: [A-Z]+)*)` \|", table, re.M))
+
+
+def from_help():
+    """The manual page and the table of README.md are made from the help."""
+    wrong = differ("docs/from-help man and docs/cclib.1", said("docs/from-help", "man"), read("docs/cclib.1"))
+    table = found(r"^(\| Command \| What it does \|\n(?:\|[^\n]*\n)*)", read("README.md"))
+    return wrong + differ("docs/from-help table and README.md", said("docs/from-help", "table"), table)
+
+
+def example():
+    """The program that docs/SERVICE.md shows is a test of tests_service."""
+    shown = found(r"^```rust\n(.*?)^```$", read("docs/SERVICE.md"))
+    test = found(r"^(fn two_clients_add_one_name.*?)\n#\[test\]$", read("crates/tests_service/src/running/calls.rt"))
+    return differ("docs/SERVICE.md and tests_service", shown, test)
+
+
+def costs():
+    """The table of docs/GATE.md is made of tools/costs.txt."""
+    table = found(r"^(\| crate +\|[^\n]*\n(?:\|[^\n]*\n)*)", read("docs/GATE.md"))
+    return differ("bench/gate.py --table and docs/GATE.md", said("bench/gate.py", "--table"), table)
