@@ -1,8 +1,8 @@
 -- What the program may be asked to do.
 use Rattle.std.specs.Prelude.{◌≤◌, ℕ, Option, Some, None}
-use Rattle.cc_task.specs.Task.{IsWithinLimits}
+use Rattle.cc_task.specs.Task.{IsWithinLimits, most_steps}
 use Rattle.cc_command_line.specs.declared.command_line.Work.{Work}
-use Rattle.cc_command_line.specs.declared.command_line.Work.TheVariants.{One, Stages, TakeOut, Library, Serve, Submit}
+use Rattle.cc_command_line.specs.declared.command_line.Work.TheVariants.{One, Stages, Trace, Cover, TakeOut, Library, Serve, Submit}
 
 -- how many bytes an area may have, where one is to be made
 abbrev pub IsArea : Option ℕ → Type 0
@@ -17,6 +17,8 @@ IsWait (Some seconds) = (1 ≤ seconds) × (seconds ≤ 86400)
 abbrev pub IsAllowed : Work → Type 0
 IsAllowed (One task) = IsWithinLimits task
 IsAllowed (Stages function) = Unit {0}
+IsAllowed (Trace asked) = (asked.steps ≤ most_steps) × (1 ≤ asked.last) × (asked.last ≤ 1000000)
+IsAllowed (Cover asked) = asked.steps ≤ most_steps
 IsAllowed (TakeOut wanted) = Unit {0}
 IsAllowed (Library asked) = IsArea asked.area × (1 ≤ asked.workers) × (asked.workers ≤ 8)
 IsAllowed (Serve asked) =

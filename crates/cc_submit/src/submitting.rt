@@ -8,6 +8,7 @@ ghost use Rattle.cc_submit.specs.internal.Sent.{asks_source, has_source, is_whol
 
 use cc_answers::{Persons, Telling, explain_bad_line, explain_no_command, explain_words, words_of};
 use cc_command_line::Submitter;
+use cc_json::{InJson, LineKind};
 use cc_screen::Screen;
 use cc_script::{Dialect, ScriptCommand, ScriptFault, command_of};
 use cc_sources::{Origin, join};
@@ -457,7 +458,63 @@ pub fn submit_script<R: AllocGlobal + Input + Print, E: Write + Drop>(
         errors,
         is_quiet: persons.is_quiet,
     };
-    let Some(texts) = read_or_refuse(rt, files, names, &mut writer, &mut told)? else {
+    submit_over(
+        rt,
+        files,
+        process,
+        asked,
+        names,
+        persons,
+        &mut writer,
+        &mut told,
+    )
+}
+
+/// The same, with all that is printed as JSON.
+pub fn submit_script_in_json<R: AllocGlobal + Input + Print>(
+    rt: &R,
+    files: &HostRuntime,
+    process: u32,
+    asked: &Submitter,
+    names: &[String],
+    persons: Persons,
+) -> Result<u8, AllocError> {
+    let alloc = rt.alloc();
+    let (Ok(writer), Ok(errors)) = (
+        BufWriter::new(alloc, io::writer(rt)),
+        BufWriter::new(alloc, io::writer(rt)),
+    ) else {
+        return Err(AllocError);
+    };
+    let mut writer = InJson::new(alloc, writer, LineKind::Answers);
+    let mut told = Telling {
+        errors: InJson::new(alloc, errors, LineKind::Told),
+        is_quiet: persons.is_quiet,
+    };
+    submit_over(
+        rt,
+        files,
+        process,
+        asked,
+        names,
+        persons,
+        &mut writer,
+        &mut told,
+    )
+}
+
+// The same, with a writer for the answer and one for what is told.
+fn submit_over<R: AllocGlobal + Input, W: Write, E: Write + Drop>(
+    rt: &R,
+    files: &HostRuntime,
+    process: u32,
+    asked: &Submitter,
+    names: &[String],
+    persons: Persons,
+    writer: &mut W,
+    told: &mut Telling<E>,
+) -> Result<u8, AllocError> {
+    let Some(texts) = read_or_refuse(rt, files, names, writer, told)? else {
         return Ok(1);
     };
     let origin = if names.is_empty() {
@@ -465,14 +522,5 @@ pub fn submit_script<R: AllocGlobal + Input + Print, E: Write + Drop>(
     } else {
         Origin::Texts(texts.as_slice())
     };
-    submit_words(
-        rt,
-        files,
-        process,
-        asked,
-        origin,
-        persons,
-        &mut writer,
-        &mut told,
-    )
+    submit_words(rt, files, process, asked, origin, persons, writer, told)
 }

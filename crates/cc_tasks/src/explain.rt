@@ -5,7 +5,7 @@ use cc_answers::{of_fault, words_of_task};
 use cc_diagnostic::{Diagnostic, further_of_typing, warnings};
 use cc_link::TextFault;
 use cc_meaning::Cause;
-use cc_run_diagnostic::of_wrong;
+use cc_run_diagnostic::{WrongRun, of_wrong_run};
 use cc_sources::{Origin, write_diagnostic};
 use cc_task::Task;
 use std::alloc::{AllocError, Global};
@@ -18,6 +18,8 @@ pub struct Explanation {
     pub words: Option<&'static str>,
     /// What is told of the fault, or of what went wrong in a run.
     pub first: Option<Diagnostic>,
+    /// The calls that were open as a run went wrong, the innermost first.
+    pub calls: Vec<Diagnostic>,
     /// What would be said if the fault were mended, up to twenty in all.
     pub further: Vec<Diagnostic>,
     /// What is warned of in a program.
@@ -30,6 +32,7 @@ impl Explanation {
         Explanation {
             words,
             first: None,
+            calls: Vec::new(alloc),
             further: Vec::new(alloc),
             warnings: Vec::new(alloc),
         }
@@ -82,8 +85,13 @@ pub fn explanation_of_program(alloc: Global, text: &[u8]) -> Explanation {
 pub fn explanation_of_wrong(alloc: Global, task: &Task, text: &[u8], cause: Cause) -> Explanation {
     match task {
         Task::Interpret(steps, words) => {
-            let told = of_wrong(alloc, text, words.as_slice(), *steps, cause);
-            Explanation::first(alloc, told)
+            let mut explanation = Explanation::words(alloc, None);
+            if let Ok(Some(run)) = of_wrong_run(alloc, text, words.as_slice(), *steps, cause) {
+                let WrongRun { first, calls } = run;
+                explanation.first = Some(first);
+                explanation.calls = calls;
+            }
+            explanation
         }
         Task::Check | Task::Run(_, _) | Task::Asm | Task::Image => Explanation::words(alloc, None),
     }
@@ -117,6 +125,7 @@ pub fn write_explanation<W: Write>(
     if let Some(first) = &explanation.first {
         write_diagnostic(alloc, text, origin, first, writer)?;
     }
+    write_each(alloc, text, origin, explanation.calls.as_slice(), writer)?;
     write_each(alloc, text, origin, explanation.further.as_slice(), writer)?;
     write_each(alloc, text, origin, explanation.warnings.as_slice(), writer)
 }

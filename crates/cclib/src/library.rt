@@ -59,24 +59,34 @@ where
         errors,
         is_quiet: persons.is_quiet,
     };
+    Ok(library_over(rt, files, asked, persons, &mut writer, &mut told))
+}
+
+/// The same, with a writer for answers and one for what is told; the status.
+pub fn library_over<R, W: Write, E: Write + Drop>(
+    rt: &R,
+    files: &HostRuntime,
+    asked: &Session,
+    persons: Persons,
+    writer: &mut W,
+    told: &mut Telling<E>,
+) -> u8
+where
+    R: AllocGlobal + Input + Print + Eprint + Threads + Wait + Copy + Send + Sync + 'static,
+    requires some { 1 ≤ asked.now.workers }
+    requires few { asked.now.workers ≤ 8 }
+{
     let disk = match disk_of(files, asked.disk.as_str(), asked.area) {
         Ok(disk) => disk,
-        Err(reason) => return Ok(no_disk(reason, asked.disk.as_str(), &mut writer, &mut told)),
+        Err(reason) => return no_disk(reason, asked.disk.as_str(), writer, told),
     };
-    let _ = tell_wide_disk(files, asked.disk.as_str(), &mut told);
+    let _ = tell_wide_disk(files, asked.disk.as_str(), told);
     let mut reader = rt.reader();
     let (disk, end) = if persons.is_quiet {
-        session(
-            rt,
-            rt.alloc(),
-            &mut reader,
-            &mut writer,
-            disk,
-            asked.workers,
-        )
+        session(rt, rt.alloc(), &mut reader, writer, disk, asked.workers)
     } else {
         if persons.is_typed {
-            let _ = greet(&mut told);
+            let _ = greet(told);
         }
         let progress = Progress {
             rt: *rt,
@@ -86,13 +96,13 @@ where
             rt,
             rt.alloc(),
             &mut reader,
-            &mut writer,
-            &mut told,
+            writer,
+            told,
             disk,
             asked.workers,
             progress,
         )
     };
     drop(disk);
-    Ok(status(end))
+    status(end)
 }

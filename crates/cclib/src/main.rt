@@ -1,13 +1,16 @@
 //! The program `cclib`: reads a C program from standard input or from files, and checks, interprets, runs or lists it, or does a script over a library.
 //! How a command line is read is the matter of `cc_command_line`, how a task is done that of `cc_tasks`, a script that of `cc_session`, the
 //! file of a library and what is taken out of one that of `cc_filing`, a server's client that of `cc_submit`. `library` has a session over
-//! a file, `serving` a server, `stack` what the stack needs, `texts` a program that comes in files.
+//! a file, `serving` a server, `stack` what the stack needs, `texts` a program that comes in files, `in_json` what is printed as JSON, `watching` runs that are watched, `version` of which sources it is.
 #![tactic(auto)]
 
+mod in_json;
 mod library;
 mod serving;
 mod stack;
 mod texts;
+mod version;
+mod watching;
 
 ghost use Rattle.cc_command_line.specs.Work.{IsAllowed};
 
@@ -18,6 +21,7 @@ use cc_filing::take_out_of_file;
 use cc_submit::submit_script;
 use cc_task::Task;
 use cc_tasks::{Fault, perform, perform_and_explain, perform_and_explain_stages, perform_stages};
+use in_json::do_work_in_json;
 use library::library_session;
 use serving::serve_folder;
 use stack::reserve_stack;
@@ -29,6 +33,8 @@ use std::rt::{Clock, Env, Files};
 use std::sync::Wait;
 use std::thread::Threads;
 use texts::{start_stages_of_texts, start_texts};
+use version::print_sources;
+use watching::{start_cover, start_trace};
 
 /// Does what the command line asks; the status is 0 for an answer, 1 for a fault, 2 for a refused command line.
 ///
@@ -124,9 +130,10 @@ fn start_stages_of_input<R: AllocGlobal + Input + Print, E: Write + Drop>(
 }
 
 // The status where there is no work; the error is lack of memory.
-fn status_of(nothing: NoRequest) -> Result<u8, AllocError> {
+fn status_of<R: Print>(rt: &R, files: &HostRuntime, nothing: NoRequest) -> Result<u8, AllocError> {
     match nothing {
         NoRequest::Told(status) => Ok(status),
+        NoRequest::Version => Ok(print_sources(rt, files)),
         NoRequest::OutOfMemory => Err(AllocError),
     }
 }
@@ -158,7 +165,7 @@ where
     let words = match std::env::args(rt) {
         Ok(words) => words,
         Err(error) if error.kind() == io::ErrorKind::InvalidData => {
-            return status_of(tell_bytes(rt, rt.alloc()));
+            return status_of(rt, files, tell_bytes(rt, rt.alloc()));
         }
         Err(_) => return Err(AllocError),
     };
@@ -168,16 +175,20 @@ where
     let Invocation {
         work,
         is_quiet,
+        is_json,
         files: names,
     } = match asked {
         Ok(request) => request,
-        Err(nothing) => return status_of(nothing),
+        Err(nothing) => return status_of(rt, files, nothing),
     };
     persons.is_quiet = is_quiet;
     if goes_deep(&work) && reserve_stack(rt.alloc()).is_err() {
         drop(work);
         drop(names);
         return Err(AllocError);
+    }
+    if is_json {
+        return do_work_in_json(rt, files, persons, work, names);
     }
     do_work(rt, files, errors, persons, work, names.as_slice())
 }
@@ -218,6 +229,8 @@ where
         Work::Stages(function) => {
             start_stages(rt, files, function, names, persons.is_quiet, errors)
         }
+        Work::Trace(asked) => start_trace(rt, files, asked, names, persons.is_quiet, errors),
+        Work::Cover(asked) => start_cover(rt, files, asked, names, persons.is_quiet, errors),
         Work::TakeOut(wanted) => take_out_of_file(rt, files, &wanted, persons.is_quiet, errors),
         Work::Library(asked) => library_session(rt, files, &asked, persons, errors),
         Work::Serve(asked) => serve_folder(rt, files, &asked, persons.is_quiet, errors),

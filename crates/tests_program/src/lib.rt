@@ -20,6 +20,8 @@ mod hostile;
 #[cfg(test)]
 mod images;
 #[cfg(test)]
+mod json;
+#[cfg(test)]
 mod limits;
 #[cfg(test)]
 mod parts;
@@ -35,5 +37,7 @@ mod spools;
 mod stages;
 #[cfg(test)]
 mod taking;
+#[cfg(test)]
+mod watching;
 #[cfg(test)]
 mod words;

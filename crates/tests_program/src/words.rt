@@ -166,6 +166,7 @@ fn asks_for_quiet(alloc: Global, words: &'static [&'static str]) -> Option<bool>
             Invocation {
                 work,
                 is_quiet,
+                is_json: _,
                 files,
             },
         ) => {
@@ -255,6 +256,7 @@ fn reads_quiet_check(rt: &HostRuntime, words: &'static [&'static str]) -> bool {
             Invocation {
                 work: Work::One(Task::Check),
                 is_quiet,
+                is_json: false,
                 files,
             },
         ) => is_quiet && files.is_empty(),

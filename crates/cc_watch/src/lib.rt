@@ -1,0 +1,16 @@
+//! The commands `trace` and `cover`: the newest things that a run does, and how often each line is reached.
+//!
+//! `trace` has the first, `cover` the second, over runs of `cc_trace`; `inputs` reads the inputs of several runs, `lines` says in which line of
+//! the whole a byte lies, `shown` writes places and words. What they print beside the answer is an explanation: no promise rests on it, and it
+//! is left out where the run is not the one that the interpreter answers.
+#![tactic(auto)]
+
+mod cover;
+mod inputs;
+mod lines;
+mod shown;
+mod trace;
+
+pub use cover::perform_cover;
+pub use inputs::{BadInput, inputs_of};
+pub use trace::perform_trace;
