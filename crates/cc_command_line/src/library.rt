@@ -98,7 +98,11 @@ pub(crate) fn library_command<'a>(alloc: Global) -> Result<Command<'a>, AllocErr
         .after_help(LIBRARY_HELP)
         .arg(disk)?
         .arg(area)?;
-    let strict = flag(alloc, STRICT, "End with the status 1 if an answer is a fault");
+    let strict = flag(
+        alloc,
+        STRICT,
+        "End with the status 1 if an answer is a fault",
+    );
     begun.arg(workers_option(alloc))?.arg(strict)
 }
 

@@ -54,7 +54,7 @@ const WORD_RULE: &str = "a word of COMMAND has no space and no newline";
 
 // What a person reads below the options of `serve`.
 const SERVE_HELP: &str = "\
-A script is what `cclib library` reads; it may have the lines `image NAME` and `source NAME` too. `cclib submit FOLDER` leaves
+A script is what `cclib library` reads; it may have the lines `image NAME`, `source NAME` and `audit NAME` too. `cclib submit FOLDER` leaves
 one in the folder and prints its answer. What is not there of the folder is made: everybody may be a client, or, where FOLDER
 has the set-group-id bit, the members of its group.
 
@@ -79,6 +79,7 @@ Without a COMMAND the script comes on standard input. A COMMAND is one line of a
   audit
   image NAME         its image as Intel HEX
   source NAME        its source, to the byte
+  audit NAME         what an audit says of it
 
 A script that waits is taken back after three seconds in which no server is there, and nothing of it is done. One that a server
 has begun is waited for.

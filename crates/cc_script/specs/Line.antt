@@ -20,6 +20,7 @@ pub data ScriptRequest : Type 0 where
   Audit : ScriptRequest
   Image : (name : List ℕ) → ScriptRequest
   Source : (name : List ℕ) → ScriptRequest
+  AuditOne : (name : List ℕ) → ScriptRequest
 
 -- what a command of the code asks for
 abbrev pub asked_by : ScriptCommand → ScriptRequest
@@ -32,6 +33,7 @@ asked_by command.Compact = Compact
 asked_by command.Audit = Audit
 asked_by (command.Image name) = Image name.now
 asked_by (command.Source name) = Source name.now
+asked_by (command.AuditOne name) = AuditOne name.now
 
 -- ---- numbers
 
@@ -77,11 +79,12 @@ one_word verb =
 abbrev pub two_plain_words : (verb name : List ℕ) → Option ScriptRequest
 two_plain_words verb name = if bytes_eq verb (codes "withdraw") && is_word name then Some (Withdraw name) else None
 
--- a script that is left for a server has two lines more
+-- a script that is left for a server has three lines more
 abbrev pub two_served_words : (verb name : List ℕ) → Option ScriptRequest
 two_served_words verb name =
     if bytes_eq verb (codes "image") && is_word name then Some (Image name)
     else if bytes_eq verb (codes "source") && is_word name then Some (Source name)
+    else if bytes_eq verb (codes "audit") && is_word name then Some (AuditOne name)
     else two_plain_words verb name
 
 abbrev pub two_words : Dialect → (verb name : List ℕ) → Option ScriptRequest

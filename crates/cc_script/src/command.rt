@@ -15,7 +15,7 @@ const MOST_LENGTH: u64 = 999_999;
 pub enum Dialect {
     /// Those of a session's script.
     Plain,
-    /// Those, and `image NAME` and `source NAME`: of a script that is left for a server.
+    /// Those, and `image NAME`, `source NAME` and `audit NAME`: of a script that is left for a server.
     Served,
 }
 
@@ -41,6 +41,8 @@ pub enum ScriptCommand<'a> {
     Image { name: &'a [u8] },
     /// Tell the source of the unit by that name.
     Source { name: &'a [u8] },
+    /// Audit the unit by that name.
+    AuditOne { name: &'a [u8] },
 }
 
 // The first word of a line, and what stands behind the space that ends it, if one does.
@@ -117,6 +119,8 @@ fn two_served_words<'a>(verb: &[u8], name: &'a [u8]) -> Option<ScriptCommand<'a>
         Some(ScriptCommand::Image { name })
     } else if verb == b"source".as_slice() && !name.is_empty() {
         Some(ScriptCommand::Source { name })
+    } else if verb == b"audit".as_slice() && !name.is_empty() {
+        Some(ScriptCommand::AuditOne { name })
     } else {
         two_plain_words(verb, name)
     }

@@ -6,7 +6,7 @@ pub const PLAIN_COMMANDS: usize = 7;
 // ORDER ScriptCommand
 /// The commands of a script, in the order in which a person is told of them: those of a session's script, and then those that only one that
 /// is left for a server has. Where LEN stands at the end, that many bytes of source stand behind the line.
-pub const COMMANDS: [&[u8]; 9] = [
+pub const COMMANDS: [&[u8]; 10] = [
     b"add NAME LEN",
     b"replace NAME LEN",
     b"withdraw NAME",
@@ -16,4 +16,5 @@ pub const COMMANDS: [&[u8]; 9] = [
     b"audit",
     b"image NAME",
     b"source NAME",
+    b"audit NAME",
 ];

@@ -3,7 +3,7 @@ use Rattle.std.proofs.Common.{◌≡◌, List, [], ℕ, Option, Some, None, Resu
 use Rattle.std.specs.Prelude.{◌⊎◌}
 use Rattle.std.specs.Io.KnownBytes.{append_known}
 use Rattle.cc_answers.specs.Telling.{Tells}
-use Rattle.cc_script.specs.Line.{ScriptRequest, Add, Replace, Withdraw, Names, Run, Compact, Audit, Image, Source}
+use Rattle.cc_script.specs.Line.{ScriptRequest, Add, Replace, Withdraw, Names, Run, Compact, Audit, Image, Source, AuditOne}
 use Rattle.cc_script.specs.Reading.{Ahead}
 use Rattle.cc_script.specs.declared.fault.ScriptFault.{ScriptFault}
 use Rattle.cc_script.specs.declared.fault.ScriptFault.TheVariants.{BadLine, EndOfScript, ScriptTooLong, ReadFault, WriteFault, Stopped}
@@ -123,3 +123,4 @@ cut_obeyed (Some Compact) rest old last new same it = absurd it
 cut_obeyed (Some Audit) rest old last new same it = absurd it
 cut_obeyed (Some (Image name)) rest old last new same it = absurd it
 cut_obeyed (Some (Source name)) rest old last new same it = absurd it
+cut_obeyed (Some (AuditOne name)) rest old last new same it = absurd it

@@ -14,7 +14,7 @@ use Rattle.cc_service.specs.book_fault.BookFault.{BookFault}
 use Rattle.cc_service.specs.book_fault.BookFault.TheVariants as book
 use Rattle.cc_service.specs.declared.fault.ServiceFault.{ServiceFault}
 use Rattle.cc_service.specs.declared.fault.ServiceFault.TheVariants as service
-use Rattle.cc_session.specs.Playing.{Audits, AuditsEach, EndsAudit, Grows, Talk, talk}
+use Rattle.cc_session.specs.Playing.{Audits, AuditsOne, AuditsEach, EndsAudit, Grows, Talk, talk}
 use Rattle.cc_session.specs.internal.Calls.{DoesAndTells}
 
 pub grows_same : (old new : MemberView) → new ≡ old → Grows old new
@@ -131,3 +131,10 @@ audits_grow old new (inr it) =
 pub audit_grows : {T : Type 0} (answer : Result T ScriptFault) (old new : Talk) → DoesAndTells Audits old new answer → Grows old.client new.client
 audit_grows (Ok done) old new it = audits_grow old new it
 audit_grows (Err fault) old new it = audits_grow old (talk new.client it.1) it.2
+
+audits_one_grow : (name : List ℕ) (old new : Talk) → AuditsOne name old new → Grows old.client new.client
+audits_one_grow name old new it = grows_on old.client it.1.client new.client (audited_grows (name ∷ []) it.0 old it.1 it.2) (ended_grows it.0 it.1 new it.3)
+
+pub audit_one_grows : {T : Type 0} (answer : Result T ScriptFault) (name : List ℕ) (old new : Talk) → DoesAndTells (AuditsOne name) old new answer → Grows old.client new.client
+audit_one_grows (Ok done) name old new it = audits_one_grow name old new it
+audit_one_grows (Err fault) name old new it = audits_one_grow name old (talk new.client it.1) it.2

@@ -1,7 +1,7 @@
 -- What a script is to the client that does it: line by line a call of the service, what its answer makes of the client, and what is written of it.
 use Rattle.std.specs.Prelude.{◌≡◌, ◌≢◌, ◌⊎◌, ◌+◌, ◌<◌, ◌≤◌, ℕ, Bool, true, false, List, [], ◌∷◌, ◌++◌, All, drop, length, take, nat_le, if◌then◌else◌, Option, Some, None, IfSome, Result, Ok, Err, codes}
 use Rattle.std.specs.Io.KnownBytes.{Appends}
-use Rattle.cc_script.specs.Line.{ScriptRequest, Add, Replace, Withdraw, Names, Run, Compact, Audit, Image, Source, asked_of}
+use Rattle.cc_script.specs.Line.{ScriptRequest, Add, Replace, Withdraw, Names, Run, Compact, Audit, Image, Source, AuditOne, asked_of}
 use Rattle.cc_script.specs.Reading.{IsLine}
 use Rattle.cc_script.specs.declared.command.Dialect.{Dialect}
 use Rattle.cc_script.specs.declared.fault.ScriptFault.{ScriptFault}
@@ -77,6 +77,10 @@ pub record ListsAndAudits (old new : Talk) : Type 0 where
 abbrev pub Audits : (old new : Talk) → Type 0
 Audits old new = CallsAndWrites ListAnswers SaysRefusal old new ⊎ ListsAndAudits old new
 
+-- the unit of a name is audited
+abbrev pub AuditsOne : (name : List ℕ) (old new : Talk) → Type 0
+AuditsOne name old new = (all : Bool) × (last : Talk) × AuditsEach (name ∷ []) all old last × EndsAudit all last new
+
 -- the library was written anew, or was not; whoever did so is no client, and has no receipt
 abbrev pub Compacts : (old new : Talk) → Type 0
 Compacts old new = (answer : Result (Unit {0}) ServiceFault) × Writes (done_text answer) old new
@@ -93,6 +97,7 @@ Obeys (Some Compact) before after old new = (after ≡ before) × Compacts old n
 Obeys (Some Audit) before after old new = (after ≡ before) × Audits old new
 Obeys (Some (Image name)) before after old new = (after ≡ before) × CallsAndWrites (GetAnswers name) (SaysShown part.Image) old new
 Obeys (Some (Source name)) before after old new = (after ≡ before) × CallsAndWrites (GetAnswers name) (SaysShown part.Source) old new
+Obeys (Some (AuditOne name)) before after old new = (after ≡ before) × AuditsOne name old new
 Obeys None before after old new = (after ≡ before) × Writes (script_fault_text BadLine) old new
 
 -- what a line of a script asks for; one of more than 128 bytes asks for nothing

@@ -5,7 +5,7 @@ ghost use Rattle.cc_answers.specs.Telling.{Tells};
 ghost use Rattle.cc_script.specs.Line.{asked_of};
 ghost use Rattle.cc_history.specs.History.{MemberView};
 ghost use Rattle.cc_service.specs.Serving.{GetAnswers, ListAnswers, PutAnswers, Puts, WithdrawAnswers};
-ghost use Rattle.cc_session.specs.Playing.{Audits, Compacts, Grows, IsPlayedBy, IsSent, IsUnended, talk};
+ghost use Rattle.cc_session.specs.Playing.{Audits, AuditsOne, Compacts, Grows, IsPlayedBy, IsSent, IsUnended, talk};
 ghost use Rattle.cc_session.specs.Telling.{SaysChange, SaysNames, SaysShown};
 ghost use Rattle.cc_session.specs.internal.Calls.{AuditsName, AuditsNames, CallsAndTells, DoesAndTells, RunsAndTells, TellsAudit, TellsRun};
 ghost use Rattle.cc_session.specs.internal.Steps.{IsDone, IsHalted, IsObeyed, IsShortOf};
@@ -308,6 +308,23 @@ impl<'a, N: Named + Send + Sync + 'static, H: Wait, D: Disk, P: Patience> Player
         Ok(true)
     }
 
+    // Audits the unit of a name.
+    fn audit_one<W: Write, E: Write>(
+        &self,
+        client: &mut Client<N>,
+        name: &[u8],
+        answers: &mut W,
+        explanations: &mut E,
+    ) -> Result<(), ScriptFault>
+        ensures { DoesAndTells (AuditsOne name.now) (talk client.old.member (W.contents answers.old)) (talk client.new.member (W.contents answers.new)) result }
+    {
+        match self.audit_name(client, name, answers, explanations) {
+            Ok(true) => tell_ok(answers),
+            Ok(false) => Ok(()),
+            Err(fault) => Err(fault),
+        }
+    }
+
     // Audits all units.
     fn audit<W: Write, E: Write>(
         &self,
@@ -384,6 +401,9 @@ impl<'a, N: Named + Send + Sync + 'static, H: Wait, D: Disk, P: Patience> Player
             }
             Some(ScriptCommand::Source { name }) => {
                 self.show(client, name, Part::Source, answers, explanations)
+            }
+            Some(ScriptCommand::AuditOne { name }) => {
+                self.audit_one(client, name, answers, explanations)
             }
             None => tell_fault(ScriptFault::BadLine, answers, explanations),
         }

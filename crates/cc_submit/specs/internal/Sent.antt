@@ -1,6 +1,6 @@
 -- What stands behind the line of a command.
 use Rattle.std.specs.Prelude.{Bool, true, false, Option, Some, None}
-use Rattle.cc_script.specs.Line.{ScriptRequest, Add, Replace, Withdraw, Names, Run, Compact, Audit, Image, Source}
+use Rattle.cc_script.specs.Line.{ScriptRequest, Add, Replace, Withdraw, Names, Run, Compact, Audit, Image, Source, AuditOne}
 
 -- a line that has a source behind it
 abbrev pub has_source : Option ScriptRequest → Bool
@@ -14,6 +14,7 @@ has_source (Some Compact) = false
 has_source (Some Audit) = false
 has_source (Some (Image name)) = false
 has_source (Some (Source name)) = false
+has_source (Some (AuditOne name)) = false
 
 -- a line that is a whole command
 abbrev pub is_whole : Option ScriptRequest → Bool
@@ -27,6 +28,7 @@ is_whole (Some Compact) = true
 is_whole (Some Audit) = true
 is_whole (Some (Image name)) = true
 is_whole (Some (Source name)) = true
+is_whole (Some (AuditOne name)) = true
 
 -- a line whose answer is a source
 abbrev pub asks_source : Option ScriptRequest → Bool
