@@ -5,8 +5,8 @@ ghost use Rattle.cc_task.specs.Task.{IsWithinLimits};
 ghost use Rattle.cc_command_line.specs.Work.{IsAllowed};
 
 use crate::keeping::{
-    Keeping, call_command, call_of, copy_command, copy_of, diff_command, diff_of, log_command,
-    log_of, restore_command, restore_of,
+    COUNT, Keeping, call_command, call_of, copy_command, copy_of, count_flag, diff_command,
+    diff_of, log_command, log_of, restore_command, restore_of,
 };
 use crate::library::{Session, library_command, library_of};
 use crate::numbers::number_in;
@@ -120,7 +120,7 @@ fn runner_command<'a>(alloc: Global, runner: &Runner) -> Result<Command<'a>, All
         .num_args(0..)
         .allow_negative_numbers(true)
         .help("The input words: 0 to 4294967295 each");
-    begun.arg(words)
+    begun.arg(words)?.arg(count_flag(alloc))
 }
 
 // A command without words of its own.
@@ -250,11 +250,21 @@ fn task_of(alloc: Global, matches: &ArgMatches<'_>) -> Result<Task, Error>
     match matches.subcommand() {
         Some(("interpret", given)) => {
             let steps = steps_of(alloc, &INTERPRET, given)?;
-            Ok(Task::Interpret(steps, input_words(alloc, &INTERPRET, given)?))
+            let words = input_words(alloc, &INTERPRET, given)?;
+            Ok(if given.get_flag(COUNT) {
+                Task::InterpretCounted(steps, words)
+            } else {
+                Task::Interpret(steps, words)
+            })
         }
         Some(("run", given)) => {
             let steps = steps_of(alloc, &RUN, given)?;
-            Ok(Task::Run(steps, input_words(alloc, &RUN, given)?))
+            let words = input_words(alloc, &RUN, given)?;
+            Ok(if given.get_flag(COUNT) {
+                Task::RunCounted(steps, words)
+            } else {
+                Task::Run(steps, words)
+            })
         }
         Some(("asm", _)) => Ok(Task::Asm),
         _ => Ok(Task::Check),

@@ -12,6 +12,10 @@ pub enum Task {
     Interpret(u64, Vec<u32>),
     /// Compile the program and run its image for at most this many instructions on these input words.
     Run(u64, Vec<u32>),
+    /// As `Interpret`, and say by how many steps it ended.
+    InterpretCounted(u64, Vec<u32>),
+    /// As `Run`, and say by how many instructions it ended.
+    RunCounted(u64, Vec<u32>),
     /// Compile the program and list its image.
     Asm,
     /// Compile the program and write its image as Intel HEX.

@@ -1,5 +1,5 @@
 -- What the program answers of a text.
-use Rattle.std.specs.Prelude.{ℕ, ◌≡◌, List}
+use Rattle.std.specs.Prelude.{ℕ, ◌≡◌, true, List}
 use Rattle.cc_ast.specs.Tree.{Source}
 use Rattle.cc_c_laws.specs.Meaning.{source_behavior}
 use Rattle.cc_meaning.specs.Erase.{outcome_tree}
@@ -12,10 +12,12 @@ use Rattle.cc_link.specs.Agree.{Agree}
 use Rattle.cc_link.specs.Compile.{IsBuildRefusal}
 use Rattle.cc_link.specs.Text.{IsProgramText, IsTextRefusal}
 use Rattle.cc_link.specs.declared.build_fault.BuildFault.TheVariants as build
+use Rattle.cc_runs.specs.Count.{IsCounted}
+use Rattle.cc_steps.specs.Count.{IsStepCount}
 use Rattle.cc_task.specs.declared.task.Task.{Task}
-use Rattle.cc_task.specs.declared.task.Task.TheVariants.{Check, Interpret, Run, Asm, Image as ImageTask}
+use Rattle.cc_task.specs.declared.task.Task.TheVariants.{Check, Interpret, Run, InterpretCounted, RunCounted, Asm, Image as ImageTask}
 use Rattle.cc_tasks.specs.declared.answer.Answer.{Answer}
-use Rattle.cc_tasks.specs.declared.answer.Answer.TheVariants.{Accepted, Ran, Executed, Listed, Image as InHex}
+use Rattle.cc_tasks.specs.declared.answer.Answer.TheVariants.{Accepted, Ran, Executed, RanCounted, ExecutedCounted, Listed, Image as InHex}
 use Rattle.cc_tasks.specs.declared.fault.Fault.{Fault}
 use Rattle.cc_tasks.specs.declared.fault.Fault.TheVariants.{Text, Meaning, Piece, Link, UnknownFunction, OutOfMemory, Read, Write}
 
@@ -40,6 +42,17 @@ abbrev pub IsExecuted : (steps : ℕ) → (words text : List ℕ) → Answer →
 IsExecuted steps words text (Executed done) = (image : Image) × Agree text image × IsRunOf image steps words done
 IsExecuted steps words text answer = ⊥
 
+-- what `interpret --count` answers: that, and the least number of steps with that end
+abbrev pub IsRanCounted : (steps : ℕ) → (words text : List ℕ) → Answer → Type 0
+IsRanCounted steps words text (RanCounted done) =
+    (p : ProgramOf text) × (outcome_tree done.outcome ≡ source_behavior p.program words steps) × IsStepCount p.program steps words done.steps
+IsRanCounted steps words text answer = ⊥
+
+-- what `run --count` answers: what an image that agrees with the text does, and the least number of instructions with that end
+abbrev pub IsExecutedCounted : (steps : ℕ) → (words text : List ℕ) → Answer → Type 0
+IsExecutedCounted steps words text (ExecutedCounted done) = (image : Image) × Agree text image × IsCounted image true steps words done
+IsExecutedCounted steps words text answer = ⊥
+
 -- what `asm` answers: the listing of an image that agrees with the text
 abbrev pub IsListed : (text : List ℕ) → Answer → Type 0
 IsListed text (Listed lines) = (image : Image) × Agree text image × (lines.items ≡ listing image)
@@ -61,6 +74,8 @@ abbrev pub Answers : Task → (text : List ℕ) → Answer → Type 0
 Answers Check text answer = IsAccepted text answer
 Answers (Interpret steps words) text answer = IsRan steps words.items text answer
 Answers (Run steps words) text answer = IsExecuted steps words.items text answer
+Answers (InterpretCounted steps words) text answer = IsRanCounted steps words.items text answer
+Answers (RunCounted steps words) text answer = IsExecutedCounted steps words.items text answer
 Answers Asm text answer = IsListed text answer
 Answers ImageTask text answer = IsImage text answer
 

@@ -10,12 +10,15 @@ use Rattle.cc_meaning.specs.declared.outcome.Outcome.{Outcome}
 use Rattle.cc_rv32.specs.Listing.{signed_text}
 use Rattle.cc_link.specs.Text.{text_fault_place}
 use Rattle.cc_answers.specs.Text.{line, words_text, run_text, fault_line, place_text, function_text}
+use Rattle.std.specs.Fmt.{decimal}
+use Rattle.cc_runs.specs.Written.{counted_text}
+use Rattle.cc_steps.specs.declared.count.CountedOutcome.{CountedOutcome}
 use Rattle.cc_task.specs.declared.task.Task.{Task}
 use Rattle.cc_tasks.specs.Answer.{Answers, IsRefused}
 use Rattle.cc_tasks.specs.Fault.{fault_number}
 use Rattle.cc_tasks.specs.Part.{part_fault_number}
 use Rattle.cc_tasks.specs.declared.answer.Answer.{Answer}
-use Rattle.cc_tasks.specs.declared.answer.Answer.TheVariants.{Accepted, Ran, Executed, Listed, Image}
+use Rattle.cc_tasks.specs.declared.answer.Answer.TheVariants.{Accepted, Ran, Executed, RanCounted, ExecutedCounted, Listed, Image}
 use Rattle.cc_tasks.specs.declared.fault.Fault.{Fault}
 use Rattle.cc_tasks.specs.declared.part.PartFault.{PartFault}
 use Rattle.cc_tasks.specs.declared.fault.Fault.TheVariants.{Text, Meaning, Piece, Link, UnknownFunction, OutOfMemory, Read, Write}
@@ -39,10 +42,16 @@ stop_text (Wrong c) = line (codes "wrong " ++ cause_name c)
 abbrev pub outcome_text : Outcome → List ℕ
 outcome_text o = words_text o.output ++ stop_text o.stop
 
+-- an outcome, and the line of its steps
+abbrev pub counted_outcome_text : CountedOutcome → List ℕ
+counted_outcome_text done = outcome_text done.outcome ++ line (codes "steps " ++ decimal done.steps)
+
 abbrev pub answer_text : Answer → List ℕ
 answer_text Accepted = line (codes "ok")
 answer_text (Ran outcome) = outcome_text outcome
 answer_text (Executed run) = run_text run
+answer_text (RanCounted done) = counted_outcome_text done
+answer_text (ExecutedCounted run) = counted_text run
 answer_text (Listed lines) = lines.items
 answer_text (Image lines) = lines.items
 

@@ -4,12 +4,15 @@ ghost use Rattle.std.specs.Prelude.{IfOk, IfErr};
 ghost use Rattle.cc_link.specs.Agree.{Agree};
 ghost use Rattle.cc_tasks.specs.Answer.{IsAccepted, IsRan, IsExecuted, IsListed, IsImage, Answers, IsRefused};
 
+use super::counting::{executed_counted, ran_counted};
 use super::fault::Fault;
 use cc_answers::{ImageRun, run_image};
 use cc_hex::image::write;
 use cc_link::{BuildFault, CompiledUnit, compile, typed_unit};
 use cc_meaning::{Outcome, interpret};
+use cc_runs::CountedRun;
 use cc_rv32::listing::list;
+use cc_steps::CountedOutcome;
 use cc_task::Task;
 use std::alloc::Global;
 
@@ -22,6 +25,10 @@ pub enum Answer {
     Ran(Outcome),
     /// What the program's image has written, and what its run has come to.
     Executed(ImageRun),
+    /// What the program does, and in how many steps.
+    RanCounted(CountedOutcome),
+    /// What the program's image has written and come to, and in how many instructions.
+    ExecutedCounted(CountedRun),
     /// The listing of the program's image.
     Listed(Vec<u8>),
     /// The program's image as Intel HEX.
@@ -55,7 +62,7 @@ fn ran(alloc: Global, text: &[u8], words: &[u32], steps: u64) -> Result<Answer, 
 }
 
 // The compiled unit of a text.
-fn compiled(alloc: Global, text: &[u8]) -> Result<CompiledUnit, Fault>
+pub(crate) fn compiled(alloc: Global, text: &[u8]) -> Result<CompiledUnit, Fault>
     ensures agrees { IfOk result (λ unit. Agree text.now unit.image) }
     ensures refused { IfErr result (λ fault. IsRefused text.now fault) }
 {
@@ -122,6 +129,8 @@ pub fn answer_for(alloc: Global, task: &Task, text: &[u8]) -> Result<Answer, Fau
         Task::Check => accepted(alloc, text),
         Task::Interpret(steps, words) => ran(alloc, text, words.as_slice(), *steps),
         Task::Run(steps, words) => executed(alloc, text, words.as_slice(), *steps),
+        Task::InterpretCounted(steps, words) => ran_counted(alloc, text, words.as_slice(), *steps),
+        Task::RunCounted(steps, words) => executed_counted(alloc, text, words.as_slice(), *steps),
         Task::Asm => listed(alloc, text),
         Task::Image => in_hex(alloc, text),
     }

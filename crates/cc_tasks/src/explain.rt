@@ -69,10 +69,10 @@ pub fn explain_wrong<W: Write>(
     writer: &mut W,
 ) -> io::Result<()> {
     match task {
-        Task::Interpret(steps, words) => {
+        Task::Interpret(steps, words) | Task::InterpretCounted(steps, words) => {
             let told = of_wrong(alloc, text, words.as_slice(), *steps, cause);
             write_told(told, text, writer)
         }
-        Task::Check | Task::Run(_, _) | Task::Asm | Task::Image => Ok(()),
+        Task::Check | Task::Run(_, _) | Task::RunCounted(_, _) | Task::Asm | Task::Image => Ok(()),
     }
 }

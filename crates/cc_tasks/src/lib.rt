@@ -1,6 +1,6 @@
 //! The work of the program: a task, done over any reader and writer.
 //!
-//! `source` reads the text, `answer` has the answer to a task for a text, `work` does a task, `stages` shows what the compiler makes of a
+//! `source` reads the text, `answer` has the answer to a task for a text, `counting` with a count, `work` does a task, `stages` shows what the compiler makes of a
 //! text, `part` takes a part of a unit out of a library, `fault` has every refusal with its line, `explain` and `unknown` what a person is
 //! told beside it. Which tasks there are is the matter of `cc_task`, what a text means that of the crates of the language.
 //! What is written and told of an answer and of a fault is that of `cc_answers`.
@@ -9,6 +9,7 @@
 #![tactic(auto)]
 
 mod answer;
+mod counting;
 mod explain;
 mod fault;
 mod part;

@@ -2,7 +2,7 @@
 
 ghost use Rattle.std.specs.Prelude.{◌≡◌, IfOk, IfErr, OnOk};
 ghost use Rattle.std.specs.Io.KnownBytes.{Appends};
-ghost use Rattle.cc_tasks.specs.Written.{answer_text, cause_name, outcome_text, stop_text, HasNoAnswer, IsPerformed, IsTextOf, Writes};
+ghost use Rattle.cc_tasks.specs.Written.{answer_text, cause_name, counted_outcome_text, outcome_text, stop_text, HasNoAnswer, IsPerformed, IsTextOf, Writes};
 ghost use Rattle.cc_tasks.specs.internal.Working.{Flushes, IsDoneFor, RefusesBy, TellsOf, status_of};
 
 use super::answer::{Answer, answer_for};
@@ -11,6 +11,8 @@ use super::fault::Fault;
 use super::source::read_source;
 use cc_answers::{write_run, write_words};
 use cc_meaning::{Cause, Outcome, Stop};
+use cc_runs::write_counted_run;
+use cc_steps::CountedOutcome;
 use cc_task::Task;
 use std::alloc::Global;
 use std::io::{self, Read, Write};
@@ -44,6 +46,15 @@ fn write_outcome<W: Write>(outcome: &Outcome, writer: &mut W) -> io::Result<()>
     write_stop(outcome.stop, writer)
 }
 
+// Writes an outcome, and the line of its steps.
+#[tactic(auto, using(cc_answers::proofs::Writing::written_on))]
+fn write_counted_outcome<W: Write>(done: &CountedOutcome, writer: &mut W) -> io::Result<()>
+    ensures { OnOk result (Appends (W.contents writer.old) (W.contents writer.new) (counted_outcome_text done.now)) }
+{
+    write_outcome(&done.outcome, writer)?;
+    writeln!(writer, "steps {}", done.steps)
+}
+
 // Writes an answer.
 fn write_answer<W: Write>(answer: &Answer, writer: &mut W) -> io::Result<()>
     ensures { OnOk result (Appends (W.contents writer.old) (W.contents writer.new) (answer_text answer.now)) }
@@ -52,6 +63,8 @@ fn write_answer<W: Write>(answer: &Answer, writer: &mut W) -> io::Result<()>
         Answer::Accepted => writeln!(writer, "ok"),
         Answer::Ran(outcome) => write_outcome(outcome, writer),
         Answer::Executed(run) => write_run(run, writer),
+        Answer::RanCounted(done) => write_counted_outcome(done, writer),
+        Answer::ExecutedCounted(run) => write_counted_run(run, writer),
         Answer::Listed(lines) => writer.write_all(lines.as_slice()),
         Answer::Image(lines) => writer.write_all(lines.as_slice()),
     }
@@ -72,12 +85,18 @@ pub(crate) fn flushed<W: Write>(write: io::Result<()>, writer: &mut W) -> Result
 
 // Why the run went wrong that an answer tells of, where it did.
 fn cause_of(answer: &Answer) -> Option<Cause> {
-    match answer {
-        Answer::Ran(outcome) => match outcome.stop {
-            Stop::Wrong(cause) => Some(cause),
-            Stop::Going | Stop::Ended(_) => None,
-        },
-        Answer::Accepted | Answer::Executed(_) | Answer::Listed(_) | Answer::Image(_) => None,
+    let outcome = match answer {
+        Answer::Ran(outcome) => outcome,
+        Answer::RanCounted(done) => &done.outcome,
+        Answer::Accepted
+        | Answer::Executed(_)
+        | Answer::ExecutedCounted(_)
+        | Answer::Listed(_)
+        | Answer::Image(_) => return None,
+    };
+    match outcome.stop {
+        Stop::Wrong(cause) => Some(cause),
+        Stop::Going | Stop::Ended(_) => None,
     }
 }
 
