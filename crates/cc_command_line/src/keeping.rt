@@ -128,7 +128,7 @@ pub(crate) fn count_flag<'a>(alloc: Global) -> Arg<'a> {
     flag(
         alloc,
         COUNT,
-        "Print the least number of instructions with that end",
+        "Print the least number of instructions, or of steps, with that end",
     )
 }
 
