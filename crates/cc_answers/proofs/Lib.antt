@@ -1,2 +1,0 @@
--- Writes that follow one another.
-pub mod Writing

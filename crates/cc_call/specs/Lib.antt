@@ -1,2 +1,0 @@
--- What a call of a unit answers.
-pub mod Call

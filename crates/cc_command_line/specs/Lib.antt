@@ -1,2 +1,0 @@
--- What the program may be asked to do.
-pub mod Work

@@ -1,7 +1,0 @@
--- The names so far are judged.
-use Rattle.std.proofs.Common.{take}
-use Rattle.cc_copy.specs.internal.Judged.{IsJudged}
-use Rattle.cc_copy.proofs.judging.judge.Given as goal
-
-abbrev pub invariant-loop-name : goal.invariant-loop-name
-invariant-loop-name l = IsJudged l.units (take l.name-index l.names) l.judged

@@ -1,4 +1,0 @@
--- which functions a body calls, and units whose calls have no cycle
-pub mod Cycles
--- what holds of them
-pub mod Laws

@@ -1,9 +1,0 @@
-// What holds of programs whose calls have no cycle.
-
-ghost use Rattle.cc_depth.specs.Laws.{AcyclicProgramsAreNeverDeep};
-
-/// A program whose calls have no cycle never has more than 1,024 open calls, on whatever input. So a checked image of it is right for every
-/// input, with nothing left open.
-pub fn acyclic_programs_are_never_deep()
-    ensures { AcyclicProgramsAreNeverDeep }
-{}

@@ -1,2 +1,0 @@
--- A map with one name more.
-pub mod Names

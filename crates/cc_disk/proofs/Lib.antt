@@ -1,5 +1,0 @@
-pub mod Images
-mod Zipped
-mod Moments
-mod Walk
-pub mod Crossing

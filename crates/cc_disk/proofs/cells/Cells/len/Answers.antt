@@ -1,7 +1,0 @@
-use Rattle.std.proofs.Common.{arith}
-use Rattle.std.proofs.lemmas.Grind.{common_steps}
-use Rattle.cc_disk.proofs.Zipped.{length-cells}
-use Rattle.cc_disk.proofs.cells.Cells.len.Goals as goal
-
-pub returns : goal.returns
-returns c = grind (arith, common_steps, length-cells c.self.inside.bytes.items c.self.inside.settled.items c.self.invariant)

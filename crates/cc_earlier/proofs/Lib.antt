@@ -1,3 +1,0 @@
-mod Texts
-mod Runs
-mod Images

@@ -1,9 +1,0 @@
--- What only private contracts and proofs speak of.
--- places counted from the end
-pub mod Behind
--- the addresses of objects as a table
-pub mod Bases
--- which steps are in loops
-pub mod Loops
--- what the instruction of a recipe has to hold
-pub mod Room

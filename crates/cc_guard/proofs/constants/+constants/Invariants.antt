@@ -1,9 +1,0 @@
-use Rattle.std.proofs.Common.{drop}
-use Rattle.cc_cminor.specs.Code.{in_sequence}
-use Rattle.cc_cminor.specs.internal.Statements.{statements_of}
-use Rattle.cc_guard.specs.Safe.{CodeConstantsFit}
-use Rattle.cc_guard.proofs.constants.+constants.Given as goal
-
--- with those that are left all fit
-abbrev pub invariant-all_fit-loop-s : goal.invariant-all_fit-loop-s
-invariant-all_fit-loop-s l = CodeConstantsFit (in_sequence (statements_of (drop l.s-index l.all))) → CodeConstantsFit (in_sequence (statements_of l.all))

@@ -1,8 +1,0 @@
-use Rattle.std.proofs.Common.{drop}
-use Rattle.cc_cminor.specs.Code.{expressions_of}
-use Rattle.cc_guard.specs.Safe.{AllConstantsFit}
-use Rattle.cc_guard.proofs.constants.expressions_fit.Given as goal
-
--- with those that are left all fit
-abbrev pub invariant-loop-e : goal.invariant-loop-e
-invariant-loop-e l = AllConstantsFit (expressions_of (drop l.e-index l.es)) → AllConstantsFit (expressions_of l.es)

@@ -1,7 +1,0 @@
-use Rattle.std.proofs.Common.{◌≡◌, ◌++◌, drop}
-use Rattle.cc_guard.specs.Guard.{widened}
-use Rattle.cc_guard.proofs.heads.widened.Given as goal
-
--- with those that are left it is all
-abbrev pub invariant-loop-limit : goal.invariant-loop-limit
-invariant-loop-limit l = l.limits.items ++ widened (drop l.limit-index l.known) ≡ widened l.known

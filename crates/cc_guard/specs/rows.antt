@@ -1,2 +1,0 @@
--- guards, evident cases, what waits
-pub mod Guard

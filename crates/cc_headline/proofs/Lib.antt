@@ -1,3 +1,0 @@
-mod Plans
-mod Runs
-mod Sorting

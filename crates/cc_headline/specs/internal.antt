@@ -1,4 +1,0 @@
--- the law that the trait asks of a build
-pub mod Law
--- the compiler's faults as the core's refusals
-pub mod Refusals

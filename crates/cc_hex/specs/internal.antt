@@ -1,4 +1,0 @@
--- What only private contracts speak of, and how a reader's steps follow one another.
-pub mod Reading
--- the number of a record's type
-pub mod Types

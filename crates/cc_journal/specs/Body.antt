@@ -1,7 +1,0 @@
--- A body by the bytes that are kept of it: these are the body, or all that stands behind the gate of its record.
-use Rattle.std.specs.Prelude.{ℕ, ◌-◌, Bool, true, false, List, length, take, drop}
-
--- the body in these bytes
-abbrev pub body_in : (is_framed : Bool) (bytes : List ℕ) → List ℕ
-body_in false bytes = bytes
-body_in true bytes = take (length bytes - 5) (drop 4 bytes)

@@ -1,3 +1,0 @@
-pub mod Commit
-pub mod Framed
-pub mod Reading

@@ -1,4 +1,0 @@
-pub mod Reading
-pub mod Halves
-pub mod Steps
-pub mod Prefix

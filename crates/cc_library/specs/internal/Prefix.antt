@@ -1,8 +1,0 @@
--- The prefix of a name as one number.
-use Rattle.std.specs.Prelude.{ℕ, zero, suc, ◌+◌, ◌*◌, List, [], ◌∷◌}
-
--- the number so far, with this many bytes more behind it, the first the highest; a zero stands for each that is missing
-unfoldable pub prefix_number : (so_far count : ℕ) (bytes : List ℕ) → ℕ
-prefix_number so_far zero bytes = so_far
-prefix_number so_far (suc n) [] = prefix_number (so_far * 256) n []
-prefix_number so_far (suc n) (byte ∷ bytes) = prefix_number (so_far * 256 + byte) n bytes

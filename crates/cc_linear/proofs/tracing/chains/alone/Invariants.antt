@@ -1,8 +1,0 @@
-use Rattle.std.proofs.Common.{◌≡◌, length}
-use Rattle.cc_linear.proofs.tracing.chains.alone.Given as goal
-
-abbrev pub invariant-loop-label : goal.invariant-loop-label
-invariant-loop-label l = record {
-  first : length l.first.items ≡ l.label;
-  last : length l.last.items ≡ l.label;
-}

@@ -1,5 +1,0 @@
-use Rattle.std.proofs.Common.{◌≡◌, length}
-use Rattle.cc_linear.proofs.tracing.chains.join_on.Given as goal
-
-abbrev pub invariant-loop-from : goal.invariant-loop-from
-invariant-loop-from l = record { long : length l.chains.behind.items ≡ length l.graph }

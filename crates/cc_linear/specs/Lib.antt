@@ -1,5 +1,0 @@
--- to which labels items lead
-pub mod Targets
--- why a function has no Linear
-pub mod Fault
-pub mod internal

@@ -1,2 +1,0 @@
--- the moves of Linear are those of a layer
-pub mod Layer

@@ -1,7 +1,0 @@
--- the language: the functions of Linear, and what one item does
-pub mod Linear
--- what a pair keeps
-pub mod Pair
--- Pages of crates below that clauses here cite, handed on.
-pub use Rattle.cc_c_laws.specs.Meaning
-pub use Rattle.cc_c_laws.specs.Numbered

@@ -1,6 +1,0 @@
--- when items can be filled in
-pub mod Filling
--- pieces that are lent
-pub mod Lent
--- the words of some objects
-pub mod Packing

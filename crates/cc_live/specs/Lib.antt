@@ -1,6 +1,0 @@
--- Sets of registers as rows of bits.
-pub mod Rows
--- The least live sets, strongly live sets, and a function without dead nodes.
-pub mod Liveness
--- What private contracts and proofs speak of.
-pub mod internal

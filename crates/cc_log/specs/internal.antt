@@ -1,2 +1,0 @@
--- Why commands are not read.
-pub mod Reading

@@ -1,9 +1,0 @@
-use Rattle.std.proofs.Common.{◌≡◌, ◌++◌, reverse, vec_len}
-use Rattle.cc_meaning.proofs.emitter.Emitter.finish.Given as goal
-
--- what is put, and then what is left, is what is to be put
-abbrev pub invariant-loop-instruction : goal.invariant-loop-instruction
-invariant-loop-instruction l = l.code.items ++ reverse l.self-inside.items.items ≡ l.initial.code.items ++ reverse l.initial.self-inside.items.items
-
-abbrev pub decreases-loop-instruction : goal.decreases-loop-instruction
-decreases-loop-instruction l = vec_len l.self-inside.items

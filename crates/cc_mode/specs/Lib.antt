@@ -1,2 +1,0 @@
--- which definitions are surely small enough
-pub mod Long

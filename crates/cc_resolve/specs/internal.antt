@@ -1,2 +1,0 @@
--- What only private contracts and proofs speak of.
-pub mod Laying

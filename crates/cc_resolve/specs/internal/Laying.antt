@@ -1,9 +1,0 @@
--- What the code that lays objects out keeps.
-use Rattle.std.specs.Prelude.{ℕ, ◌+◌, List, [], ◌∷◌}
-use Rattle.cc_ast.specs.Tree.{Object}
-use Rattle.cc_types.specs.Types.{object_elements}
-
--- the offset after some objects, of which the first begins at an offset
-abbrev pub offset_behind : ℕ → List Object → ℕ
-offset_behind at [] = at
-offset_behind at (o ∷ rest) = offset_behind (at + object_elements o) rest

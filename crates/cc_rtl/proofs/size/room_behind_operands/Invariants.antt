@@ -1,8 +1,0 @@
-use Rattle.std.proofs.Common.{◌≡◌, ◌+◌, drop}
-use Rattle.cc_cminor.specs.Code.{expressions_of}
-use Rattle.cc_rtl.specs.Size.{operands_nodes}
-use Rattle.cc_rtl.proofs.size.room_behind_operands.Given as goal
-
--- what is left has room for the rest where the whole room has it for all
-abbrev pub invariant-loop-e : goal.invariant-loop-e
-invariant-loop-e l = l.left + operands_nodes (expressions_of l.es) ≡ l.fn.room + operands_nodes (expressions_of (drop l.e-index l.es))

@@ -1,3 +1,0 @@
--- A run that has ended stays so, and one that goes went before (Counting); the words of a line, one after the other (Reading).
-pub mod Counting
-pub mod Reading

@@ -1,2 +1,0 @@
--- A line cut at its first space.
-pub mod Cutting

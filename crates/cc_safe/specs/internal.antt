@@ -1,2 +1,0 @@
--- The ranks of functions.
-pub mod Ranks

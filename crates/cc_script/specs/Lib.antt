@@ -1,8 +1,0 @@
--- What a line of a script says.
-pub mod Line
--- What comes next in a script.
-pub mod Reading
--- The numbers of the faults.
-pub mod Fault
--- What only private contracts speak of.
-pub mod internal

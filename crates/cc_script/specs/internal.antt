@@ -1,3 +1,0 @@
--- What only private contracts speak of.
-pub mod Cutting
-pub mod Bytes

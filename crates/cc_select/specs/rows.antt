@@ -1,4 +1,0 @@
--- constants, dead ones, comparisons and their tests
-pub mod Selected
--- tests before labels
-pub mod Threading

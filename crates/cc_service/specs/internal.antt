@@ -1,3 +1,0 @@
--- What serves private contracts.
--- what is answered under the lock
-pub mod Under

@@ -1,9 +1,0 @@
--- What only private contracts speak of.
--- what a command does and writes
-pub mod Calls
--- how far a script has been done
-pub mod Steps
--- how a script from a spool ended, and a service that was given up
-pub mod Ends
--- when a generation ends
-pub mod Enough

@@ -1,6 +1,0 @@
--- Each bound is its own.
-use Rattle.cc_simulation.proofs.Behaving.{follows_refl}
-use Rattle.cc_simulation.proofs.follows_itself.Goals as goal
-
-pub returns : goal.returns
-returns g c = λ a. follows_refl a

@@ -1,2 +1,0 @@
--- How the table of needs is made.
-pub mod Deepening

@@ -1,5 +1,0 @@
--- what the functions of a unit take, and its image
-pub mod Size
--- that so much is enough
-pub mod Sized
-pub mod internal

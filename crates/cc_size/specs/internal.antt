@@ -1,3 +1,0 @@
--- What only private contracts and proofs speak of.
--- the table of what functions take
-pub mod Deeper

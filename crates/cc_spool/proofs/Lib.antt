@@ -1,3 +1,0 @@
-pub mod Crossing
-pub mod Skipping
-pub mod Faults

@@ -1,2 +1,0 @@
--- What the program may be asked to do with a text.
-pub mod Task

@@ -1,7 +1,0 @@
--- The numbers so far stand at their own places.
-use Rattle.std.proofs.Common.{◌≡◌}
-use Rattle.std.specs.List.{range_with_len}
-use Rattle.cc_validate.proofs.origins.places.Given as goal
-
-abbrev pub invariant-loop-place : goal.invariant-loop-place
-invariant-loop-place l = l.places.items ≡ range_with_len 0 l.place

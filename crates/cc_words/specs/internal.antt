@@ -1,3 +1,0 @@
--- What only private contracts and proofs speak of.
--- what a word is
-pub mod Word

@@ -1,5 +1,0 @@
--- Each call below has a block less to take.
-use Rattle.cclib.proofs.stack.+touch.Given as goal
-
-abbrev pub decreases-touch : goal.decreases-touch
-decreases-touch l = l.blocks

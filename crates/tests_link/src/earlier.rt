@@ -1,9 +1,0 @@
-// What stays of texts from before there were arrays of `unsigned char`: the contracts are the laws, and the calls do nothing.
-
-use cc_earlier::{earlier_images_agree, earlier_texts_stay};
-
-#[test]
-fn laws() {
-    earlier_texts_stay();
-    earlier_images_agree();
-}

@@ -1,3 +1,0 @@
--- What the contracts of the tests speak of.
--- what the parameter of a service names
-pub mod Named
