@@ -8,7 +8,7 @@
 The gate is `rt ci`, as `.ci/run` has it; it should be the only thing that the machine does. While it runs, this script looks
 four times a second at the toolchain's processes and adds up the processor seconds of each. Then it prints a row for each
 crate, in seconds of processor, and where the run passed it writes the same to tools/costs.txt and under the head "The table" of
-docs/GATE.md (of the repository that the script stands in), whose text above stays:
+docs/GATE.md (of the repository that the script is in), whose text above stays:
 
     lines   of src/, proofs left out
     P       a whole proof from scratch
