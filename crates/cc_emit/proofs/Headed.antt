@@ -1,6 +1,6 @@
 -- What stands before a frame is code of a function without one, of steps as the function has them; the rest saves what the function saves.
-use Rattle.std.proofs.Common.{◌≡◌, ℕ, suc, ◌+◌, ◌<◌, ◌≤◌, ◌⊎◌, List, [], ◌∷◌, ◌++◌, Option, Some, None, true, false, Bool, refl, sym, ap, ap₂, ◌∙◌, subst, inl, inr, arith}
-use Rattle.std.specs.Prelude.{if◌then◌else◌, ◌==◌, ◌&&◌, ◌||◌, not, option_map, Contains, nat_le}
+use Rattle.std.proofs.Common.{◌≡◌, ℕ, suc, ◌+◌, ◌*◌, ◌<◌, ◌≤◌, ◌⊎◌, List, [], ◌∷◌, ◌++◌, Option, Some, None, true, false, Bool, refl, sym, ap, ap₂, ◌∙◌, subst, inl, inr, arith}
+use Rattle.std.specs.Prelude.{if◌then◌else◌, ◌==◌, ◌&&◌, ◌||◌, not, option_map, Contains, nat_le, nat_lt}
 use Rattle.std.specs.List.{AllByRecursion}
 use Rattle.std.proofs.lemmas.Bool.Decides.{nat_tests}
 use Rattle.cc_words.specs.Operators.{apply_binary}
@@ -16,9 +16,13 @@ use Rattle.cc_select.specs.Immediates.{apply_immediate}
 use Rattle.cc_select.specs.Selected.{at_steps, does, labels, led, place, IsStep}
 use Rattle.cc_select.proofs.Places.{there_labels, there_place}
 use Rattle.cc_emit.specs.Contract.{IsKept}
-use Rattle.cc_emit.specs.Frames.{kept_registers, writes, is_written, written, is_call, calls, saved_by}
+use Rattle.cc_emit.specs.Frames.{kept_registers, frame_of, frame_size, writes, is_written, written, is_call, calls, saved_by}
+use Rattle.cc_emit.specs.declared.addressed.Remembered.{Remembered}
+use Rattle.cc_emit.specs.declared.scratch.Scratch.{Scratch}
+use Rattle.cc_emit.specs.Emission.{label_of_step, pointer_size}
+use Rattle.cc_emit.specs.Scratch.{nothing, remembered, behind_step, step_access_size, weight, labels_past, accesses_size, gains}
 use Rattle.cc_emit.specs.declared.early.Fork.{Fork}
-use Rattle.cc_emit.specs.Early.{Early, is_lost, is_light, is_into_lost, is_return, written_by, fork_of, last_one, last_of, ending, early_at, early_by, early_from, with_first}
+use Rattle.cc_emit.specs.Early.{Early, early, is_lost, is_light, is_into_lost, is_return, written_by, fork_of, last_one, last_of, ending, early_at, early_by, early_from, with_first}
 use Rattle.cc_emit.proofs.Basics.{eqb_says, eqb_not}
 use Rattle.cc_emit.proofs.Choosing.{AreKept, all_kept}
 use Rattle.cc_emit.proofs.Bridging.{contained_below}
@@ -95,7 +99,7 @@ turned_quiet (Branch o nonzero a b n) f e = (let q : record { to = n; turned = B
 turned_quiet (BranchImmediate o nonzero a w n) f e = (let q : record { to = n; turned = BranchImmediate o (not nonzero) a w n } ≡ f = cc in subst (λ (z : Fork). Quiet z.turned) q (record { calls = refl; writes = λ r k. refl }))
 turned_quiet _ f e = absurd (cc)
 
-AreQuiet : List Step → Type 0
+abbrev AreQuiet : List Step → Type 0
 AreQuiet steps = AllByRecursion Quiet steps
 
 -- registers of which the same are written
@@ -291,3 +295,45 @@ head_labels count slots functions all code (s ∷ steps) e is below fits = by (i
     by : (b : Bool) → is_light s ≡ b → (if b then option_map (with_first s) (early_from code steps) else early_by code (fork_of s) steps) ≡ Some e → AllByRecursion (λ label. label < count) (labels e.head)
     by true p m = first_by (early_from code steps) refl p m
     by false p m = fork_by (fork_of s) refl m
+
+-- ---- a function has a head where it has a frame
+
+pub early_says : (slots : ℕ) (code : List Step) (e : Early) → early slots code ≡ Some e → early_from code code ≡ Some e
+early_says slots code e = by (frame_size (frame_of false slots code) == 0)
+  where
+    by : (b : Bool) → (if b then None else early_from code code) ≡ Some e → early_from code code ≡ Some e
+    by true m = none_says e m
+    by false m = m
+
+-- ---- a head reads and writes no object, so it gains nothing by x3
+
+abbrev HasNoAccess : Step → Type 0
+HasNoAccess s = (known : Remembered) → step_access_size known s ≡ 0
+
+light_no_access : (s : Step) → is_light s ≡ true → HasNoAccess s
+light_no_access (One (Copy (Between to b))) e = λ k. refl
+light_no_access (One (Const to w)) e = λ k. refl
+light_no_access (One (Unary o to b)) e = λ k. refl
+light_no_access (One (Binary o to b c)) e = λ k. refl
+light_no_access (Immediate o to b w) e = λ k. refl
+light_no_access _ e = absurd (let n : false ≡ true = e in cc)
+
+turned_no_access : (s : Step) (f : Fork) → fork_of s ≡ Some f → HasNoAccess f.turned
+turned_no_access (One (IfNonzero r n)) f e = (let q : record { to = n; turned = One (IfZero r n) } ≡ f = cc in subst (λ (z : Fork). HasNoAccess z.turned) q (λ k. refl))
+turned_no_access (One (IfZero r n)) f e = (let q : record { to = n; turned = One (IfNonzero r n) } ≡ f = cc in subst (λ (z : Fork). HasNoAccess z.turned) q (λ k. refl))
+turned_no_access (Branch o nonzero a b n) f e = (let q : record { to = n; turned = Branch o (not nonzero) a b n } ≡ f = cc in subst (λ (z : Fork). HasNoAccess z.turned) q (λ k. refl))
+turned_no_access (BranchImmediate o nonzero a w n) f e = (let q : record { to = n; turned = BranchImmediate o (not nonzero) a w n } ≡ f = cc in subst (λ (z : Fork). HasNoAccess z.turned) q (λ k. refl))
+turned_no_access _ f e = absurd (cc)
+
+none_taken : (n m k : ℕ) → m ≡ 0 → k ≡ 0 → n * m + k ≡ 0
+none_taken n m k e d = ap₂ (λ x y. n * x + y) e d ∙ (let z : n * 0 + 0 ≡ 0 = omega arith in z)
+
+accesses_none : (base : ℕ → ℕ) (b : Bool) (k : Scratch) (ls : List ℕ) (steps : List Step) → AllByRecursion HasNoAccess steps → accesses_size base b k ls steps ≡ 0
+accesses_none base b k ls [] q = refl
+accesses_none base b k ls (s ∷ steps) q =
+    none_taken (weight ls (s ∷ steps)) (step_access_size (remembered base b k s) s) (accesses_size base b (behind_step base b s k) (labels_past (label_of_step s) ls) steps) (q.0 (remembered base b k s)) (accesses_none base b (behind_step base b s k) (labels_past (label_of_step s) ls) steps q.1)
+
+pub head_gains : (base : ℕ → ℕ) (code : List Step) (e : Early) → early_from code code ≡ Some e → gains base e.head ≡ false
+head_gains base code e is =
+    let none : AllByRecursion HasNoAccess e.head = head_has HasNoAccess (λ (s : Step). Unit {0}) code (any code) (λ s p q. light_no_access s p) (λ s f t q. turned_no_access s f t) (λ k. refl) (λ n k. refl) code e (any code) is in
+    ap₂ (λ m n. nat_lt (pointer_size true + m) n) (accesses_none base true nothing [] e.head none) (accesses_none base false nothing [] e.head none)

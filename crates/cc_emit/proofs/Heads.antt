@@ -219,128 +219,27 @@ last_place (_ ∷ ss) last l e = none_says last e
 
 -- ---- the run of a whole function, of which the site has the head
 
-module _ (x : Site) (c : ℕ) (one : 1 ≤ c) (all : StandsWhole x) (sound : IsSound x.from) (back : x.from.registers 1 % 4 ≡ 0) (code : List Step) (k j : ℕ) where
-  abbrev effect : ℕ → Question → Effect
+module _ (x : Site) (c : ℕ) (code : List Step) (k j : ℕ) where
+  abbrev pub effect : ℕ → Question → Effect
   effect = call_effect x.meaning (suc x.opened)
 
-  abbrev moves : Configuration → Move Configuration
+  abbrev pub moves : Configuration → Move Configuration
   moves = selected_move x.meaning.arity code
 
-  abbrev runs : ℕ → ℕ → Configuration → Outcome Answer
+  abbrev pub runs : ℕ → ℕ → Configuration → Outcome Answer
   runs i n q = run moves selected_output effect i n q
 
-  abbrev works : ℕ → ℕ → Configuration → ℕ
+  abbrev pub works : ℕ → ℕ → Configuration → ℕ
   works i n q = work moves effect i n q
 
   abbrev pub Follows : Configuration → State → Type 0
   Follows q s = (i n : ℕ) → i ≤ k → n ≤ j → Does x.layout x.code (c + c) x.from s (runs i n q) (works i n q)
 
-  abbrev Owes : (i n : ℕ) → List ℕ → State → Move Configuration → Type 0
-  Owes i n o s mv = Does x.layout x.code (c + c) x.from s (act effect mv o n (runs i)) (work_act effect mv n (works i))
-
-  two : 1 ≤ c + c
-  two = omega arith
-
-  here : (s : State) (o : List ℕ) → s.output ≡ o → DoesBy x.layout x.code (c + c) x.from s Going o 0
-  here s o e = (0, s, refl, e, omega arith)
-
-  goes : (q r : Configuration) (s t : State) (m : ℕ) → s.output ≡ q.world.output → moves q ≡ Goes r → Path x.code (suc m) s t → Follows r t → Follows q s
-  goes q r s t m o e p f zero n le les = here s q.world.output o
-  goes q r s t m o e p f (suc i) n le les = subst (Owes i n q.world.output s) (sym e) (one_move x.layout x.code (c + c) x.from s t (runs i n r) (works i n r) m two p (f i n (omega arith) les))
-
-  fails : (q : Configuration) (s : State) → s.output ≡ q.world.output → moves q ≡ Fails → Follows q s
-  fails q s o e zero n le les = here s q.world.output o
-  fails q s o e (suc i) n le les = subst (Owes i n q.world.output s) (sym e) tt
-
-  returns : (ss : List Step) (l : Locations) (h : World) (words : List ℕ) (s : State) → s.output ≡ h.output → (n : ℕ) × (t : State) × Path x.code n s t × ComesBack x.layout x.from (record { value = l (Register 10); world = h }) t → Follows (at_steps (One Return ∷ ss) l h words) s
-  returns ss l h words s o p zero n le les = here s h.output o
-  returns ss l h words s o p (suc i) n le les = (p.0, p.1, p.2, p.3, omega arith)
-
-  -- a label is no move
-  labelled : (n : ℕ) (ss : List Step) (l : Locations) (h : World) (words : List ℕ) (s : State) → Follows (at_steps ss l h words) s → Follows (at_steps (One (Label n) ∷ ss) l h words) s
-  labelled n ss l h words s f zero m le les = f zero m le les
-  labelled n ss l h words s f (suc i) m le les = f (suc i) m le les
-
-  -- ---- a light step
-
-  -- it goes wrong, or the machine does it and the run too, whatever the slots hold
-  pub record Lit (s : Step) (ops ss : List Step) (l : Locations) (h : World) (u : State) : Type 0 where
-    pub locations : Locations
-    pub reaches : Reaches x ops locations h u
-    pub moves_on : (slots : ℕ → ℕ) (words : List ℕ) → moves (at_steps (s ∷ ss) (merge l slots) h words) ≡ Goes (at_steps ss (merge locations slots) h words)
-
-  light : {held : Scratch} (w a : ℕ) (s : Step) (to : ℕ) (ops ss : List Step) (l : Locations) (h : World) (u : State) → written_by s ≡ Some to → Given x held w a (s ∷ ops) l h u
-      → ((slots : ℕ → ℕ) (words : List ℕ) → moves (at_steps (s ∷ ss) (merge l slots) h words) ≡ Fails) ⊎ Lit s ops ss l h u
-  light {held} w a s to ops ss l h u e given = by (gives s l) refl
-    where
-      made : (z : Option ℕ) → gives s l ≡ z → (slots : ℕ → ℕ) (words : List ℕ) → moves (at_steps (s ∷ ss) (merge l slots) h words) ≡ tried z (λ v. Goes (at_steps ss (put (Register to) v (merge l slots)) h words))
-      made z is slots words = light_does x.meaning.arity code s to e ss (merge l slots) h words ∙ ap (λ y. tried y (λ v. Goes (at_steps ss (put (Register to) v (merge l slots)) h words))) (gives_merged s l slots ∙ is)
-
-      own : (v : ℕ) → gives s l ≡ Some v → (ws : List ℕ) → selected_move x.meaning.arity x.steps (at_steps (s ∷ ops) l h ws) ≡ Goes (at_steps ops (put (Register to) v l) h ws)
-      own v is ws = light_does x.meaning.arity x.steps s to e ops l h ws ∙ ap (λ y. tried y (λ v. Goes (at_steps ops (put (Register to) v l) h ws))) is
-
-      lit_by : (v : ℕ) → gives s l ≡ Some v → Case x (s ∷ ops) l h u → Lit s ops ss l h u
-      lit_by v is (inl z) = record {
-        locations = put (Register to) v l;
-        reaches = stepped_to x (s ∷ ops) ops l (put (Register to) v l) h u (own v is) z;
-        moves_on = λ slots words. made (Some v) is slots words ∙ ap (λ (m : Locations). Goes (at_steps ss m h words)) (put_merged to v l slots);
-      }
-      lit_by v is (inr f) = absurd (let n : Goes (at_steps ops (put (Register to) v l) h []) ≡ Fails = sym (own v is []) ∙ f [] in cc)
-
-      by : (z : Option ℕ) → gives s l ≡ z → ((slots : ℕ → ℕ) (words : List ℕ) → moves (at_steps (s ∷ ss) (merge l slots) h words) ≡ Fails) ⊎ Lit s ops ss l h u
-      by None is = inl (made None is)
-      by (Some v) is = inr (lit_by v is (light_case x w a s to ops l h u e given))
-
-  -- ---- behind the label of the test: the return, at most one step further on
-
-  abbrev Ended : (ss : List Step) (l : Locations) (h : World) (u : State) → Type 0
+  -- the machine does what the run does, whatever the slots hold
+  abbrev pub Ended : (ss : List Step) (l : Locations) (h : World) (u : State) → Type 0
   Ended ss l h u = (slots : ℕ → ℕ) (words : List ℕ) → Follows (at_steps ss (merge l slots) h words) u
 
-  at_return : {held : Scratch} (w a : ℕ) (tail ss : List Step) (l : Locations) (h : World) (u : State) → Given x held w a (One Return ∷ tail) l h u → Ended (One Return ∷ ss) l h u
-  at_return w a tail ss l h u (e, st, inside) slots words = returns ss (merge l slots) h words u inside.shares.output (return_path x w a tail l h u sound back e st inside)
-
-  return_by : {held : Scratch} (w a : ℕ) (s : Step) (last tail ss : List Step) (l : Locations) (h : World) (u : State) → is_return s ≡ true → Some [] ≡ Some last → Given x held w a (last ++ One Return ∷ tail) l h u → Ended (s ∷ ss) l h u
-  return_by {held} w a s last tail ss l h u is e given =
-      let none : [] ≡ last = cc in
-      let g : Given x held w a (One Return ∷ tail) l h u = subst (λ (xs : List Step). Given x held w a (xs ++ One Return ∷ tail) l h u) (sym none) given in
-      subst (λ (y : Step). Ended (y ∷ ss) l h u) (sym (returning s is)) (at_return w a tail ss l h u g)
-
-  one_by : {held : Scratch} (w a : ℕ) (s : Step) (last tail ss : List Step) (l : Locations) (h : World) (u : State) → last_one s ss ≡ Some last → Given x held w a (last ++ One Return ∷ tail) l h u → Ended (s ∷ ss) l h u
-  one_by w a s last tail [] l h u e given = none_says last e
-  one_by {held} w a s last tail (next ∷ ss) l h u e given = by (is_light s && is_return next) refl e
-    where
-      onward : is_return next ≡ true → u.output ≡ h.output → ((slots : ℕ → ℕ) (words : List ℕ) → moves (at_steps (s ∷ next ∷ ss) (merge l slots) h words) ≡ Fails) ⊎ Lit s (One Return ∷ tail) (next ∷ ss) l h u → Ended (s ∷ next ∷ ss) l h u
-      onward is out (inl f) = λ slots words. fails (at_steps (s ∷ next ∷ ss) (merge l slots) h words) u out (f slots words)
-      onward is out (inr z) =
-          let r = z.reaches in
-          let end : Ended (next ∷ ss) z.locations h r.to = return_by r.long r.offset next [] tail ss z.locations h r.to is refl (r.at, r.standing, r.within) in
-          (λ slots words. goes (at_steps (s ∷ next ∷ ss) (merge l slots) h words) (at_steps (next ∷ ss) (merge z.locations slots) h words) u r.to r.more out (z.moves_on slots words) r.path (end slots words))
-
-      by : (b : Bool) → (is_light s && is_return next) ≡ b → (if b then Some (s ∷ []) else None) ≡ Some last → Ended (s ∷ next ∷ ss) l h u
-      by false q p = none_says last p
-      by true q p =
-          let two = both (is_light s) (is_return next) q in
-          let to = lit s two.0 in
-          let alone : s ∷ [] ≡ last = cc in
-          let g : Given x held w a (s ∷ One Return ∷ tail) l h u = subst (λ (xs : List Step). Given x held w a (xs ++ One Return ∷ tail) l h u) (sym alone) given in
-          onward two.1 g.2.shares.output (light w a s to.0 (One Return ∷ tail) (next ∷ ss) l h u to.1 g)
-
-  ends : {held : Scratch} (w a : ℕ) (ss last tail : List Step) (l : Locations) (h : World) (u : State) → last_of ss ≡ Some last → Given x held w a (last ++ One Return ∷ tail) l h u → Ended ss l h u
-  ends w a [] last tail l h u e given = none_says last e
-  ends {held} w a (s ∷ ss) last tail l h u e given = by (is_return s) refl e
-    where
-      by : (b : Bool) → is_return s ≡ b → (if b then Some [] else last_one s ss) ≡ Some last → Ended (s ∷ ss) l h u
-      by true q p = return_by w a s last tail ss l h u q p given
-      by false q p = one_by w a s last tail ss l h u p given
-
-  place_ends : {held : Scratch} (w a : ℕ) (ss last tail : List Step) (l : Locations) (h : World) (u : State) → ending ss ≡ Some last → Given x held w a (last ++ One Return ∷ tail) l h u → Ended ss l h u
-  place_ends w a [] last tail l h u e given = none_says last e
-  place_ends w a (One (Label n) ∷ ss) last tail l h u e given = λ slots words. labelled n ss (merge l slots) h words u (ends w a ss last tail l h u e given slots words)
-  place_ends w a (_ ∷ ss) last tail l h u e given = none_says last e
-
-  -- ---- before it
-
-  -- the run returns, or goes wrong; or the machine comes to the end of the head, and the run to the rest
+  -- the machine comes to the end of the head, and the run to the rest
   pub record Passed (steps rest : List Step) (l : Locations) (h : World) (u : State) : Type 0 where
     pub more : ℕ
     pub to : State
@@ -354,14 +253,120 @@ module _ (x : Site) (c : ℕ) (one : 1 ≤ c) (all : StandsWhole x) (sound : IsS
   abbrev pub Goal : (steps rest : List Step) (l : Locations) (h : World) (u : State) → Type 0
   Goal steps rest l h u = Ended steps l h u ⊎ Passed steps rest l h u
 
+module _ (x : Site) (c : ℕ) (one : 1 ≤ c) (all : StandsWhole x) (sound : IsSound x.from) (back : x.from.registers 1 % 4 ≡ 0) (code : List Step) (k j : ℕ) where
+  abbrev steps_on : Configuration → Move Configuration
+  steps_on = selected_move x.meaning.arity code
+
+  abbrev Owes : (i n : ℕ) → List ℕ → State → Move Configuration → Type 0
+  Owes i n o s mv = Does x.layout x.code (c + c) x.from s (act (call_effect x.meaning (suc x.opened)) mv o n (runs x c code k j i)) (work_act (call_effect x.meaning (suc x.opened)) mv n (works x c code k j i))
+
+  two : 1 ≤ c + c
+  two = omega arith
+
+  here : (s : State) (o : List ℕ) → s.output ≡ o → DoesBy x.layout x.code (c + c) x.from s Going o 0
+  here s o e = (0, s, refl, e, omega arith)
+
+  goes : (q r : Configuration) (s t : State) (m : ℕ) → s.output ≡ q.world.output → steps_on q ≡ Goes r → Path x.code (suc m) s t → Follows x c code k j r t → Follows x c code k j q s
+  goes q r s t m o e p f zero n le les = here s q.world.output o
+  goes q r s t m o e p f (suc i) n le les = subst (Owes i n q.world.output s) (sym e) (one_move x.layout x.code (c + c) x.from s t (runs x c code k j i n r) (works x c code k j i n r) m two p (f i n (omega arith) les))
+
+  fails : (q : Configuration) (s : State) → s.output ≡ q.world.output → steps_on q ≡ Fails → Follows x c code k j q s
+  fails q s o e zero n le les = here s q.world.output o
+  fails q s o e (suc i) n le les = subst (Owes i n q.world.output s) (sym e) tt
+
+  returns : (ss : List Step) (l : Locations) (h : World) (words : List ℕ) (s : State) → s.output ≡ h.output → (n : ℕ) × (t : State) × Path x.code n s t × ComesBack x.layout x.from (record { value = l (Register 10); world = h }) t → Follows x c code k j (at_steps (One Return ∷ ss) l h words) s
+  returns ss l h words s o p zero n le les = here s h.output o
+  returns ss l h words s o p (suc i) n le les = (p.0, p.1, p.2, p.3, omega arith)
+
+  -- a label is no move
+  labelled : (n : ℕ) (ss : List Step) (l : Locations) (h : World) (words : List ℕ) (s : State) → Follows x c code k j (at_steps ss l h words) s → Follows x c code k j (at_steps (One (Label n) ∷ ss) l h words) s
+  labelled n ss l h words s f zero m le les = f zero m le les
+  labelled n ss l h words s f (suc i) m le les = f (suc i) m le les
+
+  -- ---- a light step
+
+  -- it goes wrong, or the machine does it and the run too, whatever the slots hold
+  pub record Lit (s : Step) (ops ss : List Step) (l : Locations) (h : World) (u : State) : Type 0 where
+    pub locations : Locations
+    pub reaches : Reaches x ops locations h u
+    pub moves_on : (slots : ℕ → ℕ) (words : List ℕ) → steps_on (at_steps (s ∷ ss) (merge l slots) h words) ≡ Goes (at_steps ss (merge locations slots) h words)
+
+  light : {held : Scratch} (w a : ℕ) (s : Step) (to : ℕ) (ops ss : List Step) (l : Locations) (h : World) (u : State) → written_by s ≡ Some to → Given x held w a (s ∷ ops) l h u
+      → ((slots : ℕ → ℕ) (words : List ℕ) → steps_on (at_steps (s ∷ ss) (merge l slots) h words) ≡ Fails) ⊎ Lit s ops ss l h u
+  light {held} w a s to ops ss l h u e given = by (gives s l) refl
+    where
+      made : (z : Option ℕ) → gives s l ≡ z → (slots : ℕ → ℕ) (words : List ℕ) → steps_on (at_steps (s ∷ ss) (merge l slots) h words) ≡ tried z (λ v. Goes (at_steps ss (put (Register to) v (merge l slots)) h words))
+      made z is slots words = light_does x.meaning.arity code s to e ss (merge l slots) h words ∙ ap (λ y. tried y (λ v. Goes (at_steps ss (put (Register to) v (merge l slots)) h words))) (gives_merged s l slots ∙ is)
+
+      own : (v : ℕ) → gives s l ≡ Some v → (ws : List ℕ) → selected_move x.meaning.arity x.steps (at_steps (s ∷ ops) l h ws) ≡ Goes (at_steps ops (put (Register to) v l) h ws)
+      own v is ws = light_does x.meaning.arity x.steps s to e ops l h ws ∙ ap (λ y. tried y (λ v. Goes (at_steps ops (put (Register to) v l) h ws))) is
+
+      lit_by : (v : ℕ) → gives s l ≡ Some v → Case x (s ∷ ops) l h u → Lit s ops ss l h u
+      lit_by v is (inl z) = record {
+        locations = put (Register to) v l;
+        reaches = stepped_to x (s ∷ ops) ops l (put (Register to) v l) h u (own v is) z;
+        moves_on = λ slots words. made (Some v) is slots words ∙ ap (λ (m : Locations). Goes (at_steps ss m h words)) (put_merged to v l slots);
+      }
+      lit_by v is (inr f) = absurd (let n : Goes (at_steps ops (put (Register to) v l) h []) ≡ Fails = sym (own v is []) ∙ f [] in cc)
+
+      by : (z : Option ℕ) → gives s l ≡ z → ((slots : ℕ → ℕ) (words : List ℕ) → steps_on (at_steps (s ∷ ss) (merge l slots) h words) ≡ Fails) ⊎ Lit s ops ss l h u
+      by None is = inl (made None is)
+      by (Some v) is = inr (lit_by v is (light_case x w a s to ops l h u e given))
+
+  -- ---- behind the label of the test: the return, at most one step further on
+
+  at_return : {held : Scratch} (w a : ℕ) (tail ss : List Step) (l : Locations) (h : World) (u : State) → Given x held w a (One Return ∷ tail) l h u → Ended x c code k j (One Return ∷ ss) l h u
+  at_return w a tail ss l h u (e, st, inside) slots words = returns ss (merge l slots) h words u inside.shares.output (return_path x w a tail l h u sound back e st inside)
+
+  return_by : {held : Scratch} (w a : ℕ) (s : Step) (last tail ss : List Step) (l : Locations) (h : World) (u : State) → is_return s ≡ true → Some [] ≡ Some last → Given x held w a (last ++ One Return ∷ tail) l h u → Ended x c code k j (s ∷ ss) l h u
+  return_by {held} w a s last tail ss l h u is e given =
+      let none : [] ≡ last = cc in
+      let g : Given x held w a (One Return ∷ tail) l h u = subst (λ (xs : List Step). Given x held w a (xs ++ One Return ∷ tail) l h u) (sym none) given in
+      subst (λ (y : Step). Ended x c code k j (y ∷ ss) l h u) (sym (returning s is)) (at_return w a tail ss l h u g)
+
+  one_by : {held : Scratch} (w a : ℕ) (s : Step) (last tail ss : List Step) (l : Locations) (h : World) (u : State) → last_one s ss ≡ Some last → Given x held w a (last ++ One Return ∷ tail) l h u → Ended x c code k j (s ∷ ss) l h u
+  one_by w a s last tail [] l h u e given = none_says last e
+  one_by {held} w a s last tail (next ∷ ss) l h u e given = by (is_light s && is_return next) refl e
+    where
+      onward : is_return next ≡ true → u.output ≡ h.output → ((slots : ℕ → ℕ) (words : List ℕ) → steps_on (at_steps (s ∷ next ∷ ss) (merge l slots) h words) ≡ Fails) ⊎ Lit s (One Return ∷ tail) (next ∷ ss) l h u → Ended x c code k j (s ∷ next ∷ ss) l h u
+      onward is out (inl f) = λ slots words. fails (at_steps (s ∷ next ∷ ss) (merge l slots) h words) u out (f slots words)
+      onward is out (inr z) =
+          let r = z.reaches in
+          let end : Ended x c code k j (next ∷ ss) z.locations h r.to = return_by r.long r.offset next [] tail ss z.locations h r.to is refl (r.at, r.standing, r.within) in
+          (λ slots words. goes (at_steps (s ∷ next ∷ ss) (merge l slots) h words) (at_steps (next ∷ ss) (merge z.locations slots) h words) u r.to r.more out (z.moves_on slots words) r.path (end slots words))
+
+      by : (b : Bool) → (is_light s && is_return next) ≡ b → (if b then Some (s ∷ []) else None) ≡ Some last → Ended x c code k j (s ∷ next ∷ ss) l h u
+      by false q p = none_says last p
+      by true q p =
+          let two = both (is_light s) (is_return next) q in
+          let to = lit s two.0 in
+          let alone : s ∷ [] ≡ last = cc in
+          let g : Given x held w a (s ∷ One Return ∷ tail) l h u = subst (λ (xs : List Step). Given x held w a (xs ++ One Return ∷ tail) l h u) (sym alone) given in
+          onward two.1 g.2.shares.output (light w a s to.0 (One Return ∷ tail) (next ∷ ss) l h u to.1 g)
+
+  ends : {held : Scratch} (w a : ℕ) (ss last tail : List Step) (l : Locations) (h : World) (u : State) → last_of ss ≡ Some last → Given x held w a (last ++ One Return ∷ tail) l h u → Ended x c code k j ss l h u
+  ends w a [] last tail l h u e given = none_says last e
+  ends {held} w a (s ∷ ss) last tail l h u e given = by (is_return s) refl e
+    where
+      by : (b : Bool) → is_return s ≡ b → (if b then Some [] else last_one s ss) ≡ Some last → Ended x c code k j (s ∷ ss) l h u
+      by true q p = return_by w a s last tail ss l h u q p given
+      by false q p = one_by w a s last tail ss l h u p given
+
+  place_ends : {held : Scratch} (w a : ℕ) (ss last tail : List Step) (l : Locations) (h : World) (u : State) → ending ss ≡ Some last → Given x held w a (last ++ One Return ∷ tail) l h u → Ended x c code k j ss l h u
+  place_ends w a [] last tail l h u e given = none_says last e
+  place_ends w a (One (Label n) ∷ ss) last tail l h u e given = λ slots words. labelled n ss (merge l slots) h words u (ends w a ss last tail l h u e given slots words)
+  place_ends w a (_ ∷ ss) last tail l h u e given = none_says last e
+
+  -- ---- before it
+
   at_test : {held : Scratch} (w a : ℕ) (s : Step) (f : Fork) (last rest : List Step) (l : Locations) (h : World) (u : State) → fork_of s ≡ Some f → ending (place code f.to) ≡ Some last → place x.steps f.to ≡ One (Label f.to) ∷ []
-      → Given x held w a (f.turned ∷ (last ++ One Return ∷ One (Label f.to) ∷ [])) l h u → Goal (s ∷ rest) rest l h u
+      → Given x held w a (f.turned ∷ (last ++ One Return ∷ One (Label f.to) ∷ [])) l h u → Goal x c code k j (s ∷ rest) rest l h u
   at_test {held} w a s f last rest l h u e ended alone given = by (asks s l) refl
     where
       ops : List Step
       ops = last ++ One Return ∷ One (Label f.to) ∷ []
 
-      asked : (z : Option ℕ) → asks s l ≡ z → (slots : ℕ → ℕ) (words : List ℕ) → moves (at_steps (s ∷ rest) (merge l slots) h words) ≡ tried z (λ v. Goes (at_steps (led (sense s) v rest (place code f.to)) (merge l slots) h words))
+      asked : (z : Option ℕ) → asks s l ≡ z → (slots : ℕ → ℕ) (words : List ℕ) → steps_on (at_steps (s ∷ rest) (merge l slots) h words) ≡ tried z (λ v. Goes (at_steps (led (sense s) v rest (place code f.to)) (merge l slots) h words))
       asked z is slots words = fork_does x.meaning.arity code s f e rest (merge l slots) h words ∙ ap (λ y. tried y (λ v. Goes (at_steps (led (sense s) v rest (place code f.to)) (merge l slots) h words))) (asks_merged s l slots ∙ is)
 
       own : (v : ℕ) → asks s l ≡ Some v → (ws : List ℕ) → selected_move x.meaning.arity x.steps (at_steps (f.turned ∷ ops) l h ws) ≡ Goes (at_steps (led (not (sense s)) v ops (place x.steps f.to)) l h ws)
@@ -371,11 +376,11 @@ module _ (x : Site) (c : ℕ) (one : 1 ≤ c) (all : StandsWhole x) (sound : IsS
       out = given.2.shares.output
 
       Next : List Step → Type 0
-      Next ss = ((slots : ℕ → ℕ) (words : List ℕ) → moves (at_steps (s ∷ rest) (merge l slots) h words) ≡ Goes (at_steps ss (merge l slots) h words)) → Goal (s ∷ rest) rest l h u
+      Next ss = ((slots : ℕ → ℕ) (words : List ℕ) → steps_on (at_steps (s ∷ rest) (merge l slots) h words) ≡ Goes (at_steps ss (merge l slots) h words)) → Goal x c code k j (s ∷ rest) rest l h u
 
       to_end : Reaches x ops l h u → Next (place code f.to)
       to_end r on =
-          let end : Ended (place code f.to) l h r.to = place_ends r.long r.offset (place code f.to) last (One (Label f.to) ∷ []) l h r.to ended (r.at, r.standing, r.within) in
+          let end : Ended x c code k j (place code f.to) l h r.to = place_ends r.long r.offset (place code f.to) last (One (Label f.to) ∷ []) l h r.to ended (r.at, r.standing, r.within) in
           inl (λ slots words. goes (at_steps (s ∷ rest) (merge l slots) h words) (at_steps (place code f.to) (merge l slots) h words) u r.to r.more out (on slots words) r.path (end slots words))
 
       to_rest : Reaches x (place x.steps f.to) l h u → Next rest
@@ -383,7 +388,7 @@ module _ (x : Site) (c : ℕ) (one : 1 ≤ c) (all : StandsWhole x) (sound : IsS
           let st : Standing x r.held r.long r.offset (One (Label f.to) ∷ []) = subst (Standing x r.held r.long r.offset) alone r.standing in
           let end : r.offset + 0 ≡ end_of x = st.last in
           let there : r.offset ≡ end_of x = omega arith in
-          let passed : Passed (s ∷ rest) rest l h u = record {
+          let passed : Passed x c code k j (s ∷ rest) rest l h u = record {
             more = suc r.more;
             to = r.to;
             held = r.held;
@@ -395,7 +400,7 @@ module _ (x : Site) (c : ℕ) (one : 1 ≤ c) (all : StandsWhole x) (sound : IsS
           } in
           inr passed
 
-      by : (z : Option ℕ) → asks s l ≡ z → Goal (s ∷ rest) rest l h u
+      by : (z : Option ℕ) → asks s l ≡ z → Goal x c code k j (s ∷ rest) rest l h u
       by None is = inl (λ slots words. fails (at_steps (s ∷ rest) (merge l slots) h words) u out (asked None is slots words))
       by (Some v) is =
           ways (λ (xs : List Step). Reaches x xs l h u) Next (sense s) v rest (place code f.to) ops (place x.steps f.to) to_end to_rest
@@ -403,15 +408,15 @@ module _ (x : Site) (c : ℕ) (one : 1 ≤ c) (all : StandsWhole x) (sound : IsS
           (asked (Some v) is)
 
   -- the head of these steps
-  pub heads : {held : Scratch} (w a : ℕ) (steps : List Step) (e : Early) (l : Locations) (h : World) (u : State) → early_from code steps ≡ Some e → ((n : ℕ) → place x.steps n ≡ place e.head n) → Given x held w a e.head l h u → Goal steps e.rest l h u
+  pub heads : {held : Scratch} (w a : ℕ) (steps : List Step) (e : Early) (l : Locations) (h : World) (u : State) → early_from code steps ≡ Some e → ((n : ℕ) → place x.steps n ≡ place e.head n) → Given x held w a e.head l h u → Goal x c code k j steps e.rest l h u
   heads w a [] e l h u is same given = none_says e is
   heads {held} w a (s ∷ steps) e l h u is same given = by (is_light s) refl is
     where
-      on_by : (d : Early) (z : Lit s d.head steps l h u) → u.output ≡ h.output → Goal steps d.rest z.locations h z.reaches.to → Goal (s ∷ steps) d.rest l h u
+      on_by : (d : Early) (z : Lit s d.head steps l h u) → u.output ≡ h.output → Goal x c code k j steps d.rest z.locations h z.reaches.to → Goal x c code k j (s ∷ steps) d.rest l h u
       on_by d z out (inl f) =
           inl (λ slots words. goes (at_steps (s ∷ steps) (merge l slots) h words) (at_steps steps (merge z.locations slots) h words) u z.reaches.to z.reaches.more out (z.moves_on slots words) z.reaches.path (f slots words))
       on_by d z out (inr p) =
-          let passed : Passed (s ∷ steps) d.rest l h u = record {
+          let passed : Passed x c code k j (s ∷ steps) d.rest l h u = record {
             more = suc z.reaches.more + p.more;
             to = p.to;
             held = p.held;
@@ -423,21 +428,21 @@ module _ (x : Site) (c : ℕ) (one : 1 ≤ c) (all : StandsWhole x) (sound : IsS
           } in
           inr passed
 
-      lit_by : (d : Early) → early_from code steps ≡ Some d → ((n : ℕ) → place x.steps n ≡ place d.head n) → u.output ≡ h.output → ((slots : ℕ → ℕ) (words : List ℕ) → moves (at_steps (s ∷ steps) (merge l slots) h words) ≡ Fails) ⊎ Lit s d.head steps l h u
-          → Goal (s ∷ steps) d.rest l h u
+      lit_by : (d : Early) → early_from code steps ≡ Some d → ((n : ℕ) → place x.steps n ≡ place d.head n) → u.output ≡ h.output → ((slots : ℕ → ℕ) (words : List ℕ) → steps_on (at_steps (s ∷ steps) (merge l slots) h words) ≡ Fails) ⊎ Lit s d.head steps l h u
+          → Goal x c code k j (s ∷ steps) d.rest l h u
       lit_by d q same_d out (inl f) = inl (λ slots words. fails (at_steps (s ∷ steps) (merge l slots) h words) u out (f slots words))
       lit_by d q same_d out (inr z) = on_by d z out (heads z.reaches.long z.reaches.offset steps d z.locations h z.reaches.to q same_d (z.reaches.at, z.reaches.standing, z.reaches.within))
 
-      first_by : (z : Option Early) → early_from code steps ≡ z → is_light s ≡ true → option_map (with_first s) z ≡ Some e → Goal (s ∷ steps) e.rest l h u
+      first_by : (z : Option Early) → early_from code steps ≡ z → is_light s ≡ true → option_map (with_first s) z ≡ Some e → Goal x c code k j (s ∷ steps) e.rest l h u
       first_by None q p m = none_says e m
       first_by (Some d) q p m =
           let to = lit s p in
           let is_e : with_first s d ≡ e = cc in
           let g : Given x held w a (s ∷ d.head) l h u = subst (λ (y : Early). Given x held w a y.head l h u) (sym is_e) given in
           let same_d : (n : ℕ) → place x.steps n ≡ place d.head n = λ n. same n ∙ ap (λ (y : Early). place y.head n) (sym is_e) ∙ there_place s d.head n (lit_there s to.0 to.1) in
-          subst (λ (y : Early). Goal (s ∷ steps) y.rest l h u) is_e (lit_by d q same_d g.2.shares.output (light w a s to.0 d.head steps l h u to.1 g))
+          subst (λ (y : Early). Goal x c code k j (s ∷ steps) y.rest l h u) is_e (lit_by d q same_d g.2.shares.output (light w a s to.0 d.head steps l h u to.1 g))
 
-      test_by : (f : Fork) → fork_of s ≡ Some f → (z : Option (List Step)) → ending (place code f.to) ≡ z → early_at z f steps ≡ Some e → Goal (s ∷ steps) e.rest l h u
+      test_by : (f : Fork) → fork_of s ≡ Some f → (z : Option (List Step)) → ending (place code f.to) ≡ z → early_at z f steps ≡ Some e → Goal x c code k j (s ∷ steps) e.rest l h u
       test_by f q None p m = none_says e m
       test_by f q (Some last) p m =
           let d : Early = record { head = f.turned ∷ (last ++ One Return ∷ One (Label f.to) ∷ []); rest = steps } in
@@ -445,12 +450,12 @@ module _ (x : Site) (c : ℕ) (one : 1 ≤ c) (all : StandsWhole x) (sound : IsS
           let g : Given x held w a d.head l h u = subst (λ (y : Early). Given x held w a y.head l h u) (sym is_e) given in
           let alone : place x.steps f.to ≡ One (Label f.to) ∷ [] =
           same f.to ∙ ap (λ (y : Early). place y.head f.to) (sym is_e) ∙ there_place f.turned (last ++ One Return ∷ One (Label f.to) ∷ []) f.to (turned_there s f q) ∙ last_place (place code f.to) last f.to p in
-          subst (λ (y : Early). Goal (s ∷ steps) y.rest l h u) is_e (at_test w a s f last steps l h u q p alone g)
+          subst (λ (y : Early). Goal x c code k j (s ∷ steps) y.rest l h u) is_e (at_test w a s f last steps l h u q p alone g)
 
-      fork_by : (z : Option Fork) → fork_of s ≡ z → early_by code z steps ≡ Some e → Goal (s ∷ steps) e.rest l h u
+      fork_by : (z : Option Fork) → fork_of s ≡ z → early_by code z steps ≡ Some e → Goal x c code k j (s ∷ steps) e.rest l h u
       fork_by None q m = none_says e m
       fork_by (Some f) q m = test_by f q (ending (place code f.to)) refl m
 
-      by : (b : Bool) → is_light s ≡ b → (if b then option_map (with_first s) (early_from code steps) else early_by code (fork_of s) steps) ≡ Some e → Goal (s ∷ steps) e.rest l h u
+      by : (b : Bool) → is_light s ≡ b → (if b then option_map (with_first s) (early_from code steps) else early_by code (fork_of s) steps) ≡ Some e → Goal x c code k j (s ∷ steps) e.rest l h u
       by true p m = first_by (early_from code steps) refl p m
       by false p m = fork_by (fork_of s) refl m

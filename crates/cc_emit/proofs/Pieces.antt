@@ -31,8 +31,7 @@ use Rattle.cc_emit.proofs.Choosing.{is_frame, are_fine}
 use Rattle.cc_emit.proofs.Encoding.{framed_fit}
 use Rattle.cc_emit.proofs.Emitted.{framed_meets}
 use Rattle.cc_emit.proofs.Fine.{AreFine}
-use Rattle.cc_emit.proofs.Heads.{none_says}
-use Rattle.cc_emit.proofs.Headed.{head_fits, head_saves, rest_fits, saved_rest}
+use Rattle.cc_emit.proofs.Headed.{early_says, head_fits, head_saves, rest_fits, saved_rest}
 use Rattle.cc_emit.proofs.Earlier.{bare, bare_frame, behind_fit, early_meets}
 
 -- ---- a function has at most eight parameters
@@ -108,13 +107,6 @@ early_does meaning layout f rate slots ls code e is keeps few fits le =
     let size : frame_size frame ≡ frame_size (frame_of false slots code) = ap (λ (rs : List ℕ). frame_size (record { sets_pointer = false; slots = slots; saved = rs })) (sym (saved_rest code code e is)) in
     subst (λ n. IsPiece meaning layout f n (early_items layout.base slots (Some e) code)) size
     (subst (λ (x : Frame). IsPiece meaning layout f (frame_size frame) (behind (framed_items layout.base x (addressed layout.base false nothing e.head)) rest)) (sym none) piece)
-
-early_says : (slots : ℕ) (code : List Step) (e : Early) → early slots code ≡ Some e → early_from code code ≡ Some e
-early_says slots code e = by (frame_size (frame_of false slots code) == 0)
-  where
-    by : (b : Bool) → (if b then None else early_from code code) ≡ Some e → early_from code code ≡ Some e
-    by true m = none_says e m
-    by false m = m
 
 function_does : (meaning : Meaning) (layout : ObjectLayout meaning.objects) (f rate slots : ℕ) (ls : List ℕ) (code : List Step) → TracksForAll meaning f rate (selected_move meaning.arity code) selected_output (selected_start slots code) → ((g : ℕ) → meaning.arity g ≤ 8) → AllByRecursion (IsStep slots meaning.functions ls) code
     → slots ≤ most_slots → IsPiece meaning layout f (frame_size (frame_of false slots code)) (function_items layout.base slots code)

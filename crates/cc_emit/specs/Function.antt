@@ -7,7 +7,7 @@ use Rattle.cc_select.specs.Selection.{selected}
 use Rattle.cc_emit.specs.declared.item.PieceItem.{PieceItem}
 use Rattle.cc_emit.specs.declared.item.PieceItem.TheVariants.{Plain, Call, Go}
 use Rattle.cc_emit.specs.Objects.{object_address}
-use Rattle.cc_emit.specs.Frames.{frame_of}
+use Rattle.cc_emit.specs.Frames.{frame_of, frame_size}
 use Rattle.cc_emit.specs.Early.{Early, early}
 use Rattle.cc_emit.specs.Emission.{framed_items}
 use Rattle.cc_emit.specs.Scratch.{nothing, addressed, gains}
@@ -40,3 +40,7 @@ function_items base slots steps = early_items base slots (early slots steps) ste
 -- the items that a pair's code becomes, with the objects of its unit in order
 unfoldable pub pair_items : above.Pair → List PieceItem
 pair_items p = function_items (object_address (objects_in (above.tree_of p))) p.ltl.slots (selected p.code)
+
+-- how many bytes the frame of a pair's code has
+unfoldable pub pair_frame : above.Pair → ℕ
+pair_frame p = frame_size (frame_of false p.ltl.slots (selected p.code))

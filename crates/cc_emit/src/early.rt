@@ -2,13 +2,15 @@
 // leads to a label behind which the function returns, at most one such operation further on, these stand before the frame is made, with the
 // test the other way round. The test goes on behind them.
 
-ghost use Rattle.std.specs.Prelude.{◌≡◌, ◌≤◌, ◌<◌, ◌∷◌, ◌++◌, [], List, None, Some, IfOk, IfSome, drop, take, length, option_map};
+ghost use Rattle.std.specs.Prelude.{◌≡◌, ◌≤◌, ◌+◌, ◌∷◌, ◌++◌, [], List, IfOk, IfSome, OnOk, drop, take, length, option_map};
 ghost use Rattle.cc_ltl.specs.Registers.{most_slots};
 ghost use Rattle.cc_select.specs.declared.step.Step.{Step as Shown};
 ghost use Rattle.cc_linear_language.specs.declared.item.LinearItem.TheVariants.{Label, Return};
 ghost use Rattle.cc_select.specs.declared.step.Step.TheVariants.{One};
 ghost use Rattle.cc_select.specs.Selected.{place};
 ghost use Rattle.cc_emit.specs.Early.{is_lost, written_by, is_light, fork_of, is_return, last_of, ending, early_from, early};
+ghost use Rattle.cc_emit.specs.Emission.{label_of_step};
+ghost use Rattle.cc_emit.specs.Scratch.{is_led};
 ghost use Rattle.cc_emit.specs.internal.Ahead.{listed, shown, with_before, early_test};
 
 use crate::frame::frame_bytes;
@@ -122,6 +124,16 @@ fn is_return(step: &Step) -> bool
     matches!(step, Step::One(LinearItem::Return))
 }
 
+// Whether a step is that label.
+fn is_label(step: &Step, label: u32) -> bool
+    ensures { result ≡ is_led (label_of_step step.now) label }
+{
+    match label_of_step(step) {
+        Some(here) => here == label,
+        None => false,
+    }
+}
+
 // Where a label stands: behind the last step, where it stands nowhere.
 fn place_of(code: &[Step], label: u32) -> usize
     ensures place { drop result code.now ≡ place code.now label }
@@ -129,7 +141,7 @@ fn place_of(code: &[Step], label: u32) -> usize
 {
     let mut at = 0;
     while at < code.len() {
-        if label_of_step(&code[at]) == Some(label) {
+        if is_label(&code[at], label) {
             return at;
         }
         at += 1;
@@ -139,16 +151,19 @@ fn place_of(code: &[Step], label: u32) -> usize
 
 // What stands between a place and the return behind it: at most one light step.
 fn last_of(code: &[Step], at: usize) -> Option<Option<Step>>
-    requires { at ≤ length code.now }
     ensures { option_map listed result ≡ last_of (drop at code.now) }
 {
-    let first = code.get(at)?;
-    if is_return(first) {
+    if at >= code.len() {
+        return None;
+    }
+    if is_return(&code[at]) {
         return Some(None);
     }
-    let next = code.get(at + 1)?;
-    if is_light(first) && is_return(next) {
-        Some(Some(*first))
+    if at + 1 >= code.len() {
+        return None;
+    }
+    if is_light(&code[at]) && is_return(&code[at + 1]) {
+        Some(Some(code[at]))
     } else {
         None
     }
@@ -181,7 +196,19 @@ fn light_count(code: &[Step]) -> usize
     count
 }
 
-// The steps that stand before the frame: so many, the test the other way round, at most one step behind the label, the return and the label.
+fn put_last(head: &mut Vec<Step>, last: Option<Step>) -> Result<(), AllocError>
+    ensures { OnOk result (head.new.items ≡ head.old.items ++ listed last) }
+{
+    match last {
+        Some(step) => {
+            head.push(step)?;
+            Ok(())
+        }
+        None => Ok(()),
+    }
+}
+
+// The steps that stand before the frame: these, the test the other way round, at most one step behind the label, the return and the label.
 fn head_of(
     alloc: Global,
     before: &[Step],
@@ -190,14 +217,9 @@ fn head_of(
 ) -> Result<Vec<Step>, AllocError>
     ensures { IfOk result (λ head. head.items ≡ before.now ++ (fork.turned ∷ (listed last ++ One Return ∷ One (Label fork.to) ∷ []))) }
 {
-    let mut head = Vec::with_capacity(alloc, before.len())?;
-    for step in before {
-        head.push_reserved(*step);
-    }
+    let mut head = Vec::from_slice(alloc, before)?;
     head.push(fork.turned)?;
-    if let Some(step) = last {
-        head.push(step)?;
-    }
+    put_last(&mut head, last)?;
     head.push(Step::One(LinearItem::Return))?;
     head.push(Step::One(LinearItem::Label { label: fork.to }))?;
     Ok(head)
@@ -209,24 +231,26 @@ fn found(alloc: Global, code: &[Step]) -> Result<Option<Ahead>, AllocError>
     ensures few { IfOk result (λ found. IfSome found (λ a. (a.taken ≤ length code.now) × (length a.head.items ≤ length code.now + 4))) }
 {
     let count = light_count(code);
-    let Some(test) = code.get(count) else {
+    if count >= code.len() {
         return Ok(None);
-    };
-    let Some(fork) = fork_of(test) else {
+    }
+    let Some(fork) = fork_of(&code[count]) else {
         return Ok(None);
     };
     let Some(last) = ending(code, fork.to) else {
         return Ok(None);
     };
     let head = head_of(alloc, &code[..count], fork, last)?;
-    Ok(Some(Ahead {
-        head,
-        taken: count + 1,
-    }))
+    let taken = count + 1;
+    Ok(Some(Ahead { head, taken }))
 }
 
 /// What stands before the frame of a function with this many slots, if it has a frame and there is such.
-pub(crate) fn ahead(alloc: Global, slots: u16, code: &[Step]) -> Result<Option<Ahead>, AllocError>
+pub(crate) fn before_frame(
+    alloc: Global,
+    slots: u16,
+    code: &[Step],
+) -> Result<Option<Ahead>, AllocError>
     requires { slots ≤ most_slots }
     ensures found { IfOk result (λ found. option_map (shown code.now) found ≡ early slots code.now) }
     ensures few { IfOk result (λ found. IfSome found (λ a. (a.taken ≤ length code.now) × (length a.head.items ≤ length code.now + 4))) }

@@ -19,7 +19,7 @@ use crate::bases::Bases;
 use crate::branches::{put_branch_to, put_word_branch_to};
 use crate::condition::Condition;
 use crate::constants::put_constant;
-use crate::early::ahead;
+use crate::early::before_frame;
 use crate::frame::Frame;
 use crate::instructions::{
     OTHER_SCRATCH, POINTER, SCRATCH, SERVICE, STACK, ZERO, add_immediate, four_times, from_pointer,
@@ -448,17 +448,15 @@ pub(crate) fn function_items(
 ) -> Result<Vec<PieceItem>, AllocError>
     requires slots { slots ≤ most_slots }
     requires fit { (functions : ℕ) × AllByRecursion (IsStep slots functions (labels code.now)) code.now }
-    requires few { length code.now ≤ 2 ^ 56 }
+    requires few { length code.now ≤ 2 ^ 55 }
     ensures { IfOk result (λ items. items.items ≡ function_items (base_in bases.now) slots code.now) }
 {
     let count = label_count(code);
-    match ahead(alloc, slots, code)? {
-        Some(ahead) => {
-            let mut items = whole_items(alloc, 0, ahead.head.as_slice(), bases, count)?;
-            let rest = whole_items(alloc, slots, &code[ahead.taken..], bases, count)?;
-            put_behind(&mut items, rest.as_slice())?;
-            Ok(items)
-        }
-        None => whole_items(alloc, slots, code, bases, count),
-    }
+    let Some(ahead) = before_frame(alloc, slots, code)? else {
+        return whole_items(alloc, slots, code, bases, count);
+    };
+    let mut items = whole_items(alloc, 0, ahead.head.as_slice(), bases, count)?;
+    let rest = whole_items(alloc, slots, &code[ahead.taken..], bases, count)?;
+    put_behind(&mut items, rest.as_slice())?;
+    Ok(items)
 }

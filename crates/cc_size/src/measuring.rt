@@ -10,6 +10,7 @@ ghost use Rattle.cc_size.specs.Size.{IsSize};
 ghost use Rattle.cc_size.specs.Sized.{IsSizedIn};
 
 use crate::needs::needs;
+use crate::recursion::recursions;
 use crate::size::{Sized, UnitSize};
 use crate::tables::{entry, frames, ones, sizes};
 use cc_emit::Piece;
@@ -51,6 +52,7 @@ fn measured(
     let ones = ones(alloc, ordered.as_slice())?;
     let stacks = needs(alloc, frames.as_slice(), ordered.as_slice(), MOST_OPEN)?;
     let calls = needs(alloc, ones.as_slice(), ordered.as_slice(), MOST_OPEN)?;
+    let recursions = recursions(alloc, ordered.as_slice())?;
     let main = main_of(alloc, unit)?;
     let functions = sizes(
         alloc,
@@ -62,6 +64,7 @@ fn measured(
         functions,
         code: image.code.words().len(),
         globals: 4 * image.globals.words().len(),
+        recursions,
         calls: entry(calls.as_slice(), main),
         stack: entry(stacks.as_slice(), main),
     })
