@@ -1,8 +1,8 @@
 -- The code: what stands before a frame.
-use Rattle.std.proofs.Common.{◌≡◌, ℕ, zero, suc, ◌+◌, ◌<◌, ◌≤◌, ◌⊎◌, ◌×◌, List, [], ◌∷◌, ◌++◌, Bool, Option, Some, None, true, false, length, get_or, drop, take, map, refl, sym, ap, ap₂, ◌∙◌, subst, inl, inr, append_assoc, length-append, arith}
+use Rattle.std.proofs.Common.{◌≡◌, ℕ, zero, suc, ◌+◌, ◌<◌, ◌≤◌, ◌⊎◌, List, [], ◌∷◌, ◌++◌, Bool, Option, Some, None, true, false, length, get_or, drop, take, map, refl, sym, ap, ap₂, ◌∙◌, subst, inl, inr, append_assoc, length-append, arith}
 use Rattle.std.specs.Prelude.{if◌then◌else◌, ◌&&◌, ◌==◌, option_map}
 use Rattle.std.specs.List.{AllByRecursion}
-use Rattle.std.proofs.lemmas.List.{drop_more, drop_all}
+use Rattle.std.proofs.lemmas.List.{drop_more, drop_all, take_more}
 use Rattle.cc_linear_language.specs.declared.item.LinearItem.TheVariants.{Label, Return}
 use Rattle.cc_select.specs.declared.step.Step.{Step}
 use Rattle.cc_select.specs.declared.step.Step.TheVariants.{One}
@@ -64,13 +64,16 @@ pub last_dark : (code : List Step) (i : ℕ) (s n : Step) → i < length code �
 last_dark code i s n lt is r lt_n is_n a = sym (last_next code i s n lt is r lt_n is_n ∙ ap (λ p. if p then Some (s ∷ []) else None) a)
 
 -- a label's place is none, or begins with a label
-place_begins : (code : List Step) (l : ℕ) → (place code l ≡ []) ⊎ ((n : ℕ) × (rest : List Step) × (place code l ≡ One (Label n) ∷ rest))
+abbrev Begins : List Step → Type 0
+Begins steps = (steps ≡ []) ⊎ ((n : ℕ) × (rest : List Step) × (steps ≡ One (Label n) ∷ rest))
+
+begins_either : (b : Bool) (xs ys : List Step) → Begins xs → Begins ys → Begins (if b then xs else ys)
+begins_either true xs ys p q = p
+begins_either false xs ys p q = q
+
+place_begins : (code : List Step) (l : ℕ) → Begins (place code l)
 place_begins [] l = inl refl
-place_begins (One (Label n) ∷ code) l = by (n == l)
-  where
-    by : (b : Bool) → ((if b then One (Label n) ∷ code else place code l) ≡ []) ⊎ ((m : ℕ) × (rest : List Step) × ((if b then One (Label n) ∷ code else place code l) ≡ One (Label m) ∷ rest))
-    by true = inr (n, code, refl)
-    by false = place_begins code l
+place_begins (One (Label n) ∷ code) l = begins_either (n == l) (One (Label n) ∷ code) (place code l) (inr (n, code, refl)) (place_begins code l)
 place_begins (_ ∷ code) l = place_begins code l
 
 ending_rest : (code : List Step) (i l : ℕ) (s : Step) → i < length code → s ≡ get_or code i s → drop i code ≡ place code l → ending (place code l) ≡ last_of (drop (i + 1) code)
@@ -79,7 +82,7 @@ ending_rest code i l s lt is at = by (place_begins code l)
     split : s ∷ drop (i + 1) code ≡ place code l
     split = sym (step_then code i s lt is) ∙ at
 
-    by : (place code l ≡ []) ⊎ ((n : ℕ) × (rest : List Step) × (place code l ≡ One (Label n) ∷ rest)) → ending (place code l) ≡ last_of (drop (i + 1) code)
+    by : Begins (place code l) → ending (place code l) ≡ last_of (drop (i + 1) code)
     by (inl e) = absurd (let q : s ∷ drop (i + 1) code ≡ [] = split ∙ e in cc)
     by (inr (n, rest, e)) =
         let q : s ∷ drop (i + 1) code ≡ One (Label n) ∷ rest = split ∙ e in
@@ -107,10 +110,8 @@ before_more : (xs : List Step) (s : Step) (z : Option Early) → option_map (wit
 before_more xs s None = refl
 before_more xs s (Some e) = ap (λ (ys : List Step). Some (record { head = ys; rest = e.rest })) (sym (append_assoc xs (s ∷ []) e.head))
 
-take_more : (code : List Step) (i : ℕ) (s : Step) → i < length code → s ≡ get_or code i s → take (i + 1) code ≡ take i code ++ s ∷ []
-take_more [] i s lt is = absurd (omega arith)
-take_more (x ∷ code) zero s lt is = ap (λ y. y ∷ []) (sym is)
-take_more (x ∷ code) (suc i) s lt is = ap (λ xs. x ∷ xs) (take_more code i s (omega arith) is)
+take_next : (code : List Step) (i : ℕ) (s : Step) → i < length code → s ≡ get_or code i s → take (i + 1) code ≡ take i code ++ s ∷ []
+take_next code i s lt is = take_more code i s lt ∙ ap (λ y. take i code ++ y ∷ []) (sym is)
 
 abbrev pub Light : List Step → ℕ → Type 0
 Light code n = (all : List Step) → early_from all code ≡ option_map (with_before (take n code)) (early_from all (drop n code))
@@ -123,7 +124,7 @@ light_more code n s lt is lit o all =
     let rest = drop (n + 1) code in
     o all ∙ ap (λ xs. option_map (with_before (take n code)) (early_from all xs)) (step_then code n s lt is)
     ∙ ap (λ (b : Bool). option_map (with_before (take n code)) (if b then option_map (with_first s) (early_from all rest) else early_by all (fork_of s) rest)) lit
-    ∙ before_more (take n code) s (early_from all rest) ∙ ap (λ xs. option_map (with_before xs) (early_from all rest)) (sym (take_more code n s lt is))
+    ∙ before_more (take n code) s (early_from all rest) ∙ ap (λ xs. option_map (with_before xs) (early_from all rest)) (sym (take_next code n s lt is))
 
 pub light_ends : (code : List Step) (n : ℕ) (s : Step) → n < length code → s ≡ get_or code n s → is_light s ≡ false → Light code n → (all : List Step) → early_from all code ≡ option_map (with_before (take n code)) (early_test all (drop n code))
 light_ends code n s lt is dark o all =
@@ -180,7 +181,7 @@ take_few (suc n) (x ∷ xs) = (let h = take_few n xs in omega arith)
 
 pub head_few : (code : List Step) (n : ℕ) (head : List Step) (turned final : Step) (last : Option Step) → head ≡ take n code ++ (turned ∷ (listed last ++ One Return ∷ final ∷ [])) → length head ≤ length code + 4
 head_few code n head turned final last e =
-    let whole : length head ≡ length (take n code) + suc (length (listed last ++ One Return ∷ final ∷ [])) = ap (λ (xs : List Step). length xs) e ∙ length-append (take n code) (turned ∷ (listed last ++ One Return ∷ final ∷ [])) in
+    let whole : length head ≡ length (take n code) + length (turned ∷ (listed last ++ One Return ∷ final ∷ [])) = ap (λ (xs : List Step). length xs) e ∙ length-append (take n code) (turned ∷ (listed last ++ One Return ∷ final ∷ [])) in
     let ends : length (listed last ++ One Return ∷ final ∷ []) ≡ length (listed last) + 2 = length-append (listed last) (One Return ∷ final ∷ []) in
     let one = listed_few last in
     let few = take_few n code in

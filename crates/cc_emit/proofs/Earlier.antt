@@ -14,7 +14,7 @@ use Rattle.cc_ltl.specs.declared.location.Location.TheVariants.{Register, Slot}
 use Rattle.cc_ltl.specs.Registers.{IsAllocatable}
 use Rattle.cc_ltl.specs.Ltl.{Locations, at_entry}
 use Rattle.cc_select.specs.declared.step.Step.{Step}
-use Rattle.cc_select.specs.Selected.{Configuration, at_steps, place, selected_move, selected_output, selected_start}
+use Rattle.cc_select.specs.Selected.{Configuration, at_steps, selected_move, selected_output, selected_start}
 use Rattle.cc_emit.specs.declared.item.PieceItem.{PieceItem}
 use Rattle.cc_emit.specs.declared.item.PieceItem.TheVariants.{Plain, Call, Go}
 use Rattle.cc_emit.specs.Contract.{AreFit, CallsMeet, Code, ComesBack, EachCalled, Enters, IsFit, IsPlace, IsSound, Meets, ObjectLayout, Path, PieceMeets, Placed, Shares, filled}
@@ -196,7 +196,7 @@ early_meets meaning layout f rate code e frame is keeps is_frame fine fine_head 
     room = enters.room
 
     room_0 : cd.floor + 0 ≤ s.registers 2
-    room_0 = omega arith
+    room_0 = (let r = room in omega arith)
 
     y : Site
     y = bare_site meaning layout e.head cd places place d s enters.aligned room_0 enters.top
@@ -208,7 +208,7 @@ early_meets meaning layout f rate code e frame is keeps is_frame fine fine_head 
     long = length_behind head rest
 
     end : IsPlace (place + 4 * length head + 4 * length rest)
-    end = subst IsPlace (let q : place + 4 * length (behind head rest) ≡ place + 4 * length head + 4 * length rest = omega arith in q) to
+    end = subst IsPlace (let q : place + 4 * length (behind head rest) ≡ place + 4 * length head + 4 * length rest = omega (arith, long) in q) to
 
     mid : IsPlace (place + 4 * length head)
     mid = (let z = from.aligned in between place (place + 4 * length head) (place + 4 * length head + 4 * length rest) from end (omega arith) (omega arith) (omega arith))
@@ -217,7 +217,7 @@ early_meets meaning layout f rate code e frame is keeps is_frame fine fine_head 
     each = each_append (λ g. frame_size frame + cd.need g (suc d) ≤ cd.need f d) head (map (shifted (length head)) rest) (enough.calls d below)
 
     stand : Stands y place (prologue bare) × StandsWhole y
-    stand = standing_all y from mid split.0 (each_map (λ g. frame_size frame + cd.need g (suc d) ≤ cd.need f d) (HasRoom y) (λ g (le : frame_size frame + cd.need g (suc d) ≤ cd.need f d). omega arith) head each.0) fine_head
+    stand = standing_all y from mid split.0 (each_map (λ g. frame_size frame + cd.need g (suc d) ≤ cd.need f d) (HasRoom y) (λ g (le : frame_size frame + cd.need g (suc d) ≤ cd.need f d). omega (arith, room)) head each.0) fine_head
 
     t : State
     t = framed bare s
@@ -235,7 +235,7 @@ early_meets meaning layout f rate code e frame is keeps is_frame fine fine_head 
     l = found bare t ws
 
     goal : Goal y c code most most_steps code e.rest l h t
-    goal = heads y c one stand.1 enters.sound enters.back code most most_steps 0 (prologue_size bare) code e l h t is (λ n. refl) (framed_pc bare s place enters.at, stand.1, framed_within y f d ws h enters)
+    goal = heads y c one stand.1 enters.sound enters.back code most most_steps nothing 0 (prologue_size bare) code e l h t is (λ n. refl) (framed_pc bare s place enters.at, stand.1, framed_within y f d ws h enters)
 
     finish : (g : ℕ → ℕ) (more : List ℕ) → ((i : ℕ) → g i < 2 ^ 32) → AreWords more → Follows y c code most most_steps (at_steps code (merge l (λ i. get_or (listed frame.slots 0 g) i 0)) h more) t
         → Meets layout cd ((rate + rate) * c) ((rate + rate) * c) n s (meaning.body n d f ws h)
@@ -263,8 +263,8 @@ early_meets meaning layout f rate code e frame is keeps is_frame fine fine_head 
         let up = enters.top in
         let back = enters.back in
         let one_is = unsaved 1 (v.registers 1) (s.registers 1) (w.kept 1 (inl refl)) in
-        let called = each_map (λ g. frame_size frame + cd.need g (suc d) ≤ cd.need f d) (λ g. cd.floor + frame_size frame + cd.need g (suc d) ≤ v.registers 2) (λ g (le : frame_size frame + cd.need g (suc d) ≤ cd.need f d). omega arith) rest (each_unshifted (λ g. frame_size frame + cd.need g (suc d) ≤ cd.need f d) (length head) rest each.1) in
-        let r = resting meaning layout cd places (place + 4 * length head) d c one all_places calls frame is_frame e.rest fine most most_steps p.locations h v at mid end (unshifted cd places place (length head) (place + 4 * length head) rest split.1) (omega arith) (omega arith) (omega arith) (omega arith) called w.sound w.shares w.same in
+        let called = each_map (λ g. frame_size frame + cd.need g (suc d) ≤ cd.need f d) (λ g. cd.floor + frame_size frame + cd.need g (suc d) ≤ v.registers 2) (λ g (le : frame_size frame + cd.need g (suc d) ≤ cd.need f d). omega (arith, room)) rest (each_unshifted (λ g. frame_size frame + cd.need g (suc d) ≤ cd.need f d) (length head) rest each.1) in
+        let r = resting meaning layout cd places (place + 4 * length head) d c one all_places calls frame is_frame e.rest fine most most_steps p.locations h v at mid end (unshifted cd places place (length head) (place + 4 * length head) rest split.1) (omega arith) (omega arith) (omega (arith, own, room)) (omega arith) called w.sound w.shares w.same in
         let sigma : ℕ → ℕ = λ i. get_or (listed frame.slots 0 r.slots) i 0 in
         let q = at_steps e.rest (merge p.locations sigma) h r.words in
         let onward : Follows y c code most most_steps q v = λ i m le les.

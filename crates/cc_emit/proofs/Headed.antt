@@ -44,13 +44,12 @@ does_same arity c d same (_ ∷ ops) l h ws = refl
 
 -- a property of steps that light steps and tests have no part in
 module _ {A : Type 0} (part : List Step → A) (light : (s : Step) (steps : List Step) → is_light s ≡ true → part (s ∷ steps) ≡ part steps) (test : (s : Step) (f : Fork) (steps : List Step) → fork_of s ≡ Some f → part (s ∷ steps) ≡ part steps) (code : List Step) where
-  pub rest_has : (steps : List Step) (e : Early) → early_from code steps ≡ Some e → part steps ≡ part e.rest
-  rest_has [] e is = none_says e is
-  rest_has (s ∷ steps) e is = by (is_light s) refl is
+  rest_first : (s : Step) (steps : List Step) (e : Early) → ((d : Early) → early_from code steps ≡ Some d → part steps ≡ part d.rest) → early_from code (s ∷ steps) ≡ Some e → part (s ∷ steps) ≡ part e.rest
+  rest_first s steps e again is = by (is_light s) refl is
     where
       first_by : (z : Option Early) → early_from code steps ≡ z → is_light s ≡ true → option_map (with_first s) z ≡ Some e → part (s ∷ steps) ≡ part e.rest
       first_by None q p m = none_says e m
-      first_by (Some d) q p m = (let is_e : with_first s d ≡ e = cc in light s steps p ∙ rest_has steps d q ∙ ap (λ (y : Early). part y.rest) is_e)
+      first_by (Some d) q p m = (let is_e : with_first s d ≡ e = cc in light s steps p ∙ again d q ∙ ap (λ (y : Early). part y.rest) is_e)
 
       test_by : (f : Fork) → fork_of s ≡ Some f → (z : Option (List Step)) → early_at z f steps ≡ Some e → part (s ∷ steps) ≡ part e.rest
       test_by f q None m = none_says e m
@@ -63,6 +62,10 @@ module _ {A : Type 0} (part : List Step → A) (light : (s : Step) (steps : List
       by : (b : Bool) → is_light s ≡ b → (if b then option_map (with_first s) (early_from code steps) else early_by code (fork_of s) steps) ≡ Some e → part (s ∷ steps) ≡ part e.rest
       by true p m = first_by (early_from code steps) refl p m
       by false p m = fork_by (fork_of s) refl m
+
+  pub rest_has : (steps : List Step) (e : Early) → early_from code steps ≡ Some e → part steps ≡ part e.rest
+  rest_has [] e is = none_says e is
+  rest_has (s ∷ steps) e is = rest_first s steps e (λ d q. rest_has steps d q) is
 
 pub rest_places : (code steps : List Step) (e : Early) → early_from code steps ≡ Some e → (n : ℕ) → place steps n ≡ place e.rest n
 rest_places code steps e is n =
@@ -134,14 +137,14 @@ module _ (P Q : Step → Type 0) (code : List Step) (all : AllByRecursion Q code
     where
       if_so : (b : Bool) (next : Step) → (is_light s && is_return next) ≡ b → (if b then Some (s ∷ []) else None) ≡ Some last → AllByRecursion P (last ++ One Return ∷ One (Label n) ∷ [])
       if_so false next t p = none_says last p
-      if_so true next t p = (let alone : s ∷ [] ≡ last = cc in subst (λ (xs : List Step). AllByRecursion P (xs ++ One Return ∷ One (Label n) ∷ [])) alone (light s (both (is_light s) (is_return next) t).0 q.0, ends, label n, tt))
+      if_so true next t p = (let alone : s ∷ [] ≡ last = cc in subst (λ (xs : List Step). AllByRecursion P (xs ++ One Return ∷ One (Label n) ∷ [])) alone (light s (both (is_light s) (is_return next) t).0 q.0, (ends, (label n, tt))))
 
       one_more : (ss : List Step) → last_one s ss ≡ Some last → AllByRecursion P (last ++ One Return ∷ One (Label n) ∷ [])
       one_more [] e = none_says last e
       one_more (next ∷ ss) e = if_so (is_light s && is_return next) next refl e
 
       by : (b : Bool) → (if b then Some [] else last_one s ss) ≡ Some last → AllByRecursion P (last ++ One Return ∷ One (Label n) ∷ [])
-      by true p = (let none : [] ≡ last = cc in subst (λ (xs : List Step). AllByRecursion P (xs ++ One Return ∷ One (Label n) ∷ [])) none (ends, label n, tt))
+      by true p = (let none : [] ≡ last = cc in subst (λ (xs : List Step). AllByRecursion P (xs ++ One Return ∷ One (Label n) ∷ [])) none (ends, (label n, tt)))
       by false p = one_more ss p
 
   ending_has : (ss last : List Step) (n : ℕ) → AllByRecursion Q ss → ending ss ≡ Some last → AllByRecursion P (last ++ One Return ∷ One (Label n) ∷ [])
@@ -149,28 +152,27 @@ module _ (P Q : Step → Type 0) (code : List Step) (all : AllByRecursion Q code
   ending_has (One (Label m) ∷ ss) last n q e = last_has ss last n q.1 e
   ending_has (_ ∷ ss) last n q e = none_says last e
 
+  either : (b : Bool) (xs ys : List Step) → AllByRecursion Q xs → AllByRecursion Q ys → AllByRecursion Q (if b then xs else ys)
+  either true xs ys q r = q
+  either false xs ys q r = r
+
   place_has : (ss : List Step) (n : ℕ) → AllByRecursion Q ss → AllByRecursion Q (place ss n)
   place_has [] n q = tt
-  place_has (One (Label m) ∷ ss) n q = by (m == n)
-    where
-      by : (b : Bool) → AllByRecursion Q (if b then One (Label m) ∷ ss else place ss n)
-      by true = q
-      by false = place_has ss n q.1
+  place_has (One (Label m) ∷ ss) n q = either (m == n) (One (Label m) ∷ ss) (place ss n) q (place_has ss n q.1)
   place_has (_ ∷ ss) n q = place_has ss n q.1
 
-  pub head_has : (steps : List Step) (e : Early) → AllByRecursion Q steps → early_from code steps ≡ Some e → AllByRecursion P e.head
-  head_has [] e q is = none_says e is
-  head_has (s ∷ steps) e q is = by (is_light s) refl is
+  head_first : (s : Step) (steps : List Step) (e : Early) → ((d : Early) → early_from code steps ≡ Some d → AllByRecursion P d.head) → Q s → early_from code (s ∷ steps) ≡ Some e → AllByRecursion P e.head
+  head_first s steps e again qs is = by (is_light s) refl is
     where
       first_by : (z : Option Early) → early_from code steps ≡ z → is_light s ≡ true → option_map (with_first s) z ≡ Some e → AllByRecursion P e.head
       first_by None t p m = none_says e m
-      first_by (Some d) t p m = (let is_e : with_first s d ≡ e = cc in subst (λ (y : Early). AllByRecursion P y.head) is_e (light s p q.0, head_has steps d q.1 t))
+      first_by (Some d) t p m = (let is_e : with_first s d ≡ e = cc in subst (λ (y : Early). AllByRecursion P y.head) is_e (light s p qs, again d t))
 
       test_by : (f : Fork) → fork_of s ≡ Some f → (z : Option (List Step)) → ending (place code f.to) ≡ z → early_at z f steps ≡ Some e → AllByRecursion P e.head
       test_by f t None p m = none_says e m
       test_by f t (Some last) p m =
           let is_e : record { head = f.turned ∷ (last ++ One Return ∷ One (Label f.to) ∷ []); rest = steps } ≡ e = cc in
-          subst (λ (y : Early). AllByRecursion P y.head) is_e (turned s f t q.0, ending_has (place code f.to) last f.to (place_has code f.to all) p)
+          subst (λ (y : Early). AllByRecursion P y.head) is_e (turned s f t qs, ending_has (place code f.to) last f.to (place_has code f.to all) p)
 
       fork_by : (z : Option Fork) → fork_of s ≡ z → early_by code z steps ≡ Some e → AllByRecursion P e.head
       fork_by None t m = none_says e m
@@ -179,6 +181,10 @@ module _ (P Q : Step → Type 0) (code : List Step) (all : AllByRecursion Q code
       by : (b : Bool) → is_light s ≡ b → (if b then option_map (with_first s) (early_from code steps) else early_by code (fork_of s) steps) ≡ Some e → AllByRecursion P e.head
       by true p m = first_by (early_from code steps) refl p m
       by false p m = fork_by (fork_of s) refl m
+
+  pub head_has : (steps : List Step) (e : Early) → AllByRecursion Q steps → early_from code steps ≡ Some e → AllByRecursion P e.head
+  head_has [] e q is = none_says e is
+  head_has (s ∷ steps) e q is = head_first s steps e (λ d t. head_has steps d q.1 t) q.0 is
 
 any : (steps : List Step) → AllByRecursion (λ (s : Step). Unit {0}) steps
 any [] = tt
@@ -213,17 +219,16 @@ module _ (slots functions : ℕ) (all : List ℕ) where
   pub head_fits : (code : List Step) (e : Early) → early_from code code ≡ Some e → AllByRecursion (IsStep slots functions all) code → AllByRecursion (IsStep 0 functions all) e.head
   head_fits code e is fits = head_has (IsStep 0 functions all) Fits code fits light_fits turned_fits tt (λ n. tt) code e fits is
 
-  pub rest_fits : (code steps : List Step) (e : Early) → early_from code steps ≡ Some e → AllByRecursion (IsStep slots functions all) steps → AllByRecursion (IsStep slots functions all) e.rest
-  rest_fits code [] e is fits = none_says e is
-  rest_fits code (s ∷ steps) e is fits = by (is_light s) is
+  fits_first : (code : List Step) (s : Step) (steps : List Step) (e : Early) → ((d : Early) → early_from code steps ≡ Some d → AllByRecursion (IsStep slots functions all) d.rest) → AllByRecursion (IsStep slots functions all) steps → early_from code (s ∷ steps) ≡ Some e → AllByRecursion (IsStep slots functions all) e.rest
+  fits_first code s steps e again fits is = by (is_light s) is
     where
       first_by : (z : Option Early) → early_from code steps ≡ z → option_map (with_first s) z ≡ Some e → AllByRecursion (IsStep slots functions all) e.rest
       first_by None q m = none_says e m
-      first_by (Some d) q m = (let is_e : with_first s d ≡ e = cc in subst (λ (y : Early). AllByRecursion (IsStep slots functions all) y.rest) is_e (rest_fits code steps d q fits.1))
+      first_by (Some d) q m = (let is_e : with_first s d ≡ e = cc in subst (λ (y : Early). AllByRecursion (IsStep slots functions all) y.rest) is_e (again d q))
 
       test_by : (f : Fork) (z : Option (List Step)) → early_at z f steps ≡ Some e → AllByRecursion (IsStep slots functions all) e.rest
       test_by f None m = none_says e m
-      test_by f (Some last) m = (let is_e : record { head = f.turned ∷ (last ++ One Return ∷ One (Label f.to) ∷ []); rest = steps } ≡ e = cc in subst (λ (y : Early). AllByRecursion (IsStep slots functions all) y.rest) is_e fits.1)
+      test_by f (Some last) m = (let is_e : record { head = f.turned ∷ (last ++ One Return ∷ One (Label f.to) ∷ []); rest = steps } ≡ e = cc in subst (λ (y : Early). AllByRecursion (IsStep slots functions all) y.rest) is_e fits)
 
       fork_by : (z : Option Fork) → early_by code z steps ≡ Some e → AllByRecursion (IsStep slots functions all) e.rest
       fork_by None m = none_says e m
@@ -232,6 +237,10 @@ module _ (slots functions : ℕ) (all : List ℕ) where
       by : (b : Bool) → (if b then option_map (with_first s) (early_from code steps) else early_by code (fork_of s) steps) ≡ Some e → AllByRecursion (IsStep slots functions all) e.rest
       by true m = first_by (early_from code steps) refl m
       by false m = fork_by (fork_of s) m
+
+  pub rest_fits : (code steps : List Step) (e : Early) → early_from code steps ≡ Some e → AllByRecursion (IsStep slots functions all) steps → AllByRecursion (IsStep slots functions all) e.rest
+  rest_fits code [] e is fits = none_says e is
+  rest_fits code (s ∷ steps) e is fits = fits_first code s steps e (λ d q. rest_fits code steps d q fits.1) fits.1 is
 
 pub rest_labels : (code steps : List Step) (e : Early) → early_from code steps ≡ Some e → labels steps ≡ labels e.rest
 rest_labels code steps e is = rest_has labels (λ s xs p. (let to = lit s p in there_labels s xs (lit_there s to.0 to.1))) (λ s f xs q. there_labels s xs (fork_there s f q)) code steps e is
@@ -268,9 +277,9 @@ fork_below count slots functions all (Branch o nonzero a b n) f e below u = (let
 fork_below count slots functions all (BranchImmediate o nonzero a w n) f e below u = (let q : record { to = n; turned = BranchImmediate o (not nonzero) a w n } ≡ f = cc in subst (λ (z : Fork). z.to < count) q (contained_below count all n u.4 below))
 fork_below count slots functions all _ f e below u = absurd (cc)
 
-pub head_labels : (count slots functions : ℕ) (all : List ℕ) (code steps : List Step) (e : Early) → early_from code steps ≡ Some e → AllByRecursion (λ label. label < count) all → AllByRecursion (IsStep slots functions all) steps → AllByRecursion (λ label. label < count) (labels e.head)
-head_labels count slots functions all code [] e is below fits = none_says e is
-head_labels count slots functions all code (s ∷ steps) e is below fits = by (is_light s) refl is
+labels_first : (count slots functions : ℕ) (all : List ℕ) (code : List Step) (s : Step) (steps : List Step) (e : Early) → ((d : Early) → early_from code steps ≡ Some d → AllByRecursion (λ label. label < count) (labels d.head)) → AllByRecursion (λ label. label < count) all → IsStep slots functions all s → early_from code (s ∷ steps) ≡ Some e
+    → AllByRecursion (λ label. label < count) (labels e.head)
+labels_first count slots functions all code s steps e again below fits is = by (is_light s) refl is
   where
     first_by : (z : Option Early) → early_from code steps ≡ z → is_light s ≡ true → option_map (with_first s) z ≡ Some e → AllByRecursion (λ label. label < count) (labels e.head)
     first_by None q p m = none_says e m
@@ -278,7 +287,7 @@ head_labels count slots functions all code (s ∷ steps) e is below fits = by (i
         let is_e : with_first s d ≡ e = cc in
         let to = lit s p in
         subst (λ (y : Early). AllByRecursion (λ label. label < count) (labels y.head)) is_e
-        (subst (λ (ls : List ℕ). AllByRecursion (λ label. label < count) ls) (sym (there_labels s d.head (lit_there s to.0 to.1))) (head_labels count slots functions all code steps d q below fits.1))
+        (subst (λ (ls : List ℕ). AllByRecursion (λ label. label < count) ls) (sym (there_labels s d.head (lit_there s to.0 to.1))) (again d q))
 
     test_by : (f : Fork) → fork_of s ≡ Some f → (z : Option (List Step)) → ending (place code f.to) ≡ z → early_at z f steps ≡ Some e → AllByRecursion (λ label. label < count) (labels e.head)
     test_by f q None p m = none_says e m
@@ -286,7 +295,7 @@ head_labels count slots functions all code (s ∷ steps) e is below fits = by (i
         let is_e : record { head = f.turned ∷ (last ++ One Return ∷ One (Label f.to) ∷ []); rest = steps } ≡ e = cc in
         let ls : labels (f.turned ∷ (last ++ One Return ∷ One (Label f.to) ∷ [])) ≡ f.to ∷ [] = there_labels f.turned (last ++ One Return ∷ One (Label f.to) ∷ []) (turned_there s f q) ∙ last_labels (place code f.to) last f.to p in
         subst (λ (y : Early). AllByRecursion (λ label. label < count) (labels y.head)) is_e
-        (subst (λ (ls : List ℕ). AllByRecursion (λ label. label < count) ls) (sym ls) (fork_below count slots functions all s f q below fits.0, tt))
+        (subst (λ (ls : List ℕ). AllByRecursion (λ label. label < count) ls) (sym ls) (fork_below count slots functions all s f q below fits, tt))
 
     fork_by : (z : Option Fork) → fork_of s ≡ z → early_by code z steps ≡ Some e → AllByRecursion (λ label. label < count) (labels e.head)
     fork_by None q m = none_says e m
@@ -295,6 +304,10 @@ head_labels count slots functions all code (s ∷ steps) e is below fits = by (i
     by : (b : Bool) → is_light s ≡ b → (if b then option_map (with_first s) (early_from code steps) else early_by code (fork_of s) steps) ≡ Some e → AllByRecursion (λ label. label < count) (labels e.head)
     by true p m = first_by (early_from code steps) refl p m
     by false p m = fork_by (fork_of s) refl m
+
+pub head_labels : (count slots functions : ℕ) (all : List ℕ) (code steps : List Step) (e : Early) → early_from code steps ≡ Some e → AllByRecursion (λ label. label < count) all → AllByRecursion (IsStep slots functions all) steps → AllByRecursion (λ label. label < count) (labels e.head)
+head_labels count slots functions all code [] e is below fits = none_says e is
+head_labels count slots functions all code (s ∷ steps) e is below fits = labels_first count slots functions all code s steps e (λ d q. head_labels count slots functions all code steps d q below fits.1) below fits.0 is
 
 -- ---- a function has a head where it has a frame
 

@@ -408,9 +408,11 @@ module _ (x : Site) (c : ℕ) (one : 1 ≤ c) (all : StandsWhole x) (sound : IsS
           (asked (Some v) is)
 
   -- the head of these steps
-  pub heads : {held : Scratch} (w a : ℕ) (steps : List Step) (e : Early) (l : Locations) (h : World) (u : State) → early_from code steps ≡ Some e → ((n : ℕ) → place x.steps n ≡ place e.head n) → Given x held w a e.head l h u → Goal x c code k j steps e.rest l h u
-  heads w a [] e l h u is same given = none_says e is
-  heads {held} w a (s ∷ steps) e l h u is same given = by (is_light s) refl is
+  abbrev Onward : List Step → Type 0
+  Onward steps = (held : Scratch) (w a : ℕ) (e : Early) (l : Locations) (h : World) (u : State) → early_from code steps ≡ Some e → ((n : ℕ) → place x.steps n ≡ place e.head n) → Given x held w a e.head l h u → Goal x c code k j steps e.rest l h u
+
+  heads_first : (held : Scratch) (w a : ℕ) (s : Step) (steps : List Step) (e : Early) (l : Locations) (h : World) (u : State) → Onward steps → early_from code (s ∷ steps) ≡ Some e → ((n : ℕ) → place x.steps n ≡ place e.head n) → Given x held w a e.head l h u → Goal x c code k j (s ∷ steps) e.rest l h u
+  heads_first held w a s steps e l h u onward is same given = by (is_light s) refl is
     where
       on_by : (d : Early) (z : Lit s d.head steps l h u) → u.output ≡ h.output → Goal x c code k j steps d.rest z.locations h z.reaches.to → Goal x c code k j (s ∷ steps) d.rest l h u
       on_by d z out (inl f) =
@@ -431,7 +433,7 @@ module _ (x : Site) (c : ℕ) (one : 1 ≤ c) (all : StandsWhole x) (sound : IsS
       lit_by : (d : Early) → early_from code steps ≡ Some d → ((n : ℕ) → place x.steps n ≡ place d.head n) → u.output ≡ h.output → ((slots : ℕ → ℕ) (words : List ℕ) → steps_on (at_steps (s ∷ steps) (merge l slots) h words) ≡ Fails) ⊎ Lit s d.head steps l h u
           → Goal x c code k j (s ∷ steps) d.rest l h u
       lit_by d q same_d out (inl f) = inl (λ slots words. fails (at_steps (s ∷ steps) (merge l slots) h words) u out (f slots words))
-      lit_by d q same_d out (inr z) = on_by d z out (heads z.reaches.long z.reaches.offset steps d z.locations h z.reaches.to q same_d (z.reaches.at, z.reaches.standing, z.reaches.within))
+      lit_by d q same_d out (inr z) = on_by d z out (onward z.reaches.held z.reaches.long z.reaches.offset d z.locations h z.reaches.to q same_d (z.reaches.at, z.reaches.standing, z.reaches.within))
 
       first_by : (z : Option Early) → early_from code steps ≡ z → is_light s ≡ true → option_map (with_first s) z ≡ Some e → Goal x c code k j (s ∷ steps) e.rest l h u
       first_by None q p m = none_says e m
@@ -459,3 +461,7 @@ module _ (x : Site) (c : ℕ) (one : 1 ≤ c) (all : StandsWhole x) (sound : IsS
       by : (b : Bool) → is_light s ≡ b → (if b then option_map (with_first s) (early_from code steps) else early_by code (fork_of s) steps) ≡ Some e → Goal x c code k j (s ∷ steps) e.rest l h u
       by true p m = first_by (early_from code steps) refl p m
       by false p m = fork_by (fork_of s) refl m
+
+  pub heads : (held : Scratch) (w a : ℕ) (steps : List Step) (e : Early) (l : Locations) (h : World) (u : State) → early_from code steps ≡ Some e → ((n : ℕ) → place x.steps n ≡ place e.head n) → Given x held w a e.head l h u → Goal x c code k j steps e.rest l h u
+  heads held w a [] e l h u is same given = none_says e is
+  heads held w a (s ∷ steps) e l h u is same given = heads_first held w a s steps e l h u (λ held w a d l h u. heads held w a steps d l h u) is same given

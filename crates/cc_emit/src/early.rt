@@ -2,7 +2,7 @@
 // leads to a label behind which the function returns, at most one such operation further on, these stand before the frame is made, with the
 // test the other way round. The test goes on behind them.
 
-ghost use Rattle.std.specs.Prelude.{◌≡◌, ◌≤◌, ◌+◌, ◌∷◌, ◌++◌, [], List, IfOk, IfSome, OnOk, drop, take, length, option_map};
+ghost use Rattle.std.specs.Prelude.{◌≡◌, ◌≤◌, ◌+◌, ◌∷◌, ◌++◌, [], List, IfOk, IfSome, drop, take, length, option_map};
 ghost use Rattle.cc_ltl.specs.Registers.{most_slots};
 ghost use Rattle.cc_select.specs.declared.step.Step.{Step as Shown};
 ghost use Rattle.cc_linear_language.specs.declared.item.LinearItem.TheVariants.{Label, Return};
@@ -196,30 +196,29 @@ fn light_count(code: &[Step]) -> usize
     count
 }
 
-fn put_last(head: &mut Vec<Step>, last: Option<Step>) -> Result<(), AllocError>
-    ensures { OnOk result (head.new.items ≡ head.old.items ++ listed last) }
-{
-    match last {
-        Some(step) => {
-            head.push(step)?;
-            Ok(())
-        }
-        None => Ok(()),
-    }
-}
-
-// The steps that stand before the frame: these, the test the other way round, at most one step behind the label, the return and the label.
-fn head_of(
-    alloc: Global,
-    before: &[Step],
-    fork: Fork,
-    last: Option<Step>,
-) -> Result<Vec<Step>, AllocError>
-    ensures { IfOk result (λ head. head.items ≡ before.now ++ (fork.turned ∷ (listed last ++ One Return ∷ One (Label fork.to) ∷ []))) }
+// The steps that stand before the frame: these, the test the other way round, the return and the label.
+fn head_of(alloc: Global, before: &[Step], fork: Fork) -> Result<Vec<Step>, AllocError>
+    ensures { IfOk result (λ head. head.items ≡ before.now ++ (fork.turned ∷ One Return ∷ One (Label fork.to) ∷ [])) }
 {
     let mut head = Vec::from_slice(alloc, before)?;
     head.push(fork.turned)?;
-    put_last(&mut head, last)?;
+    head.push(Step::One(LinearItem::Return))?;
+    head.push(Step::One(LinearItem::Label { label: fork.to }))?;
+    Ok(head)
+}
+
+// The same with a step before the return.
+fn head_with(
+    alloc: Global,
+    before: &[Step],
+    fork: Fork,
+    last: Step,
+) -> Result<Vec<Step>, AllocError>
+    ensures { IfOk result (λ head. head.items ≡ before.now ++ (fork.turned ∷ last ∷ One Return ∷ One (Label fork.to) ∷ [])) }
+{
+    let mut head = Vec::from_slice(alloc, before)?;
+    head.push(fork.turned)?;
+    head.push(last)?;
     head.push(Step::One(LinearItem::Return))?;
     head.push(Step::One(LinearItem::Label { label: fork.to }))?;
     Ok(head)
@@ -240,9 +239,18 @@ fn found(alloc: Global, code: &[Step]) -> Result<Option<Ahead>, AllocError>
     let Some(last) = ending(code, fork.to) else {
         return Ok(None);
     };
-    let head = head_of(alloc, &code[..count], fork, last)?;
+    let before = &code[..count];
     let taken = count + 1;
-    Ok(Some(Ahead { head, taken }))
+    match last {
+        Some(step) => {
+            let head = head_with(alloc, before, fork, step)?;
+            Ok(Some(Ahead { head, taken }))
+        }
+        None => {
+            let head = head_of(alloc, before, fork)?;
+            Ok(Some(Ahead { head, taken }))
+        }
+    }
 }
 
 /// What stands before the frame of a function with this many slots, if it has a frame and there is such.
