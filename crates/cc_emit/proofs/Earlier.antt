@@ -1,10 +1,10 @@
 -- What may return before there is a frame, and the rest in its frame behind it, meet a piece's contract.
-use Rattle.std.proofs.Common.{◌≡◌, ℕ, zero, suc, ◌+◌, ◌-◌, ◌*◌, ◌%◌, ◌^◌, ◌<◌, ◌≤◌, ◌⊎◌, List, [], ◌∷◌, ◌++◌, Option, Some, None, true, false, Bool, length, get_or, take, drop, map, refl, sym, ap, ap₂, ◌∙◌, subst, inl, inr, arith}
+use Rattle.std.proofs.Common.{◌≡◌, ℕ, suc, ◌+◌, ◌-◌, ◌*◌, ◌%◌, ◌^◌, ◌<◌, ◌≤◌, ◌⊎◌, List, [], ◌∷◌, ◌++◌, Some, false, length, get_or, take, drop, map, refl, sym, ap, ap₂, ◌∙◌, subst, inl, inr, arith}
 use Rattle.std.specs.Prelude.{if◌then◌else◌, nat_le}
 use Rattle.std.proofs.lemmas.List.{length-append, length-map}
 use Rattle.cc_rv32.specs.declared.instr.Instr.TheVariants.{Jal}
 use Rattle.cc_rv32.specs.Machine.{State, stack_to}
-use Rattle.cc_simulation.specs.Behavior.{AreWords, Ended, Going, Outcome, Stop, Wrong}
+use Rattle.cc_simulation.specs.Behavior.{AreWords, Ended, Going, Stop, Wrong}
 use Rattle.cc_simulation.specs.World.{Answer, Size, World}
 use Rattle.cc_simulation.specs.Run.{run, work}
 use Rattle.cc_simulation.specs.Meaning.{Meaning, call_effect}
@@ -14,10 +14,10 @@ use Rattle.cc_ltl.specs.declared.location.Location.TheVariants.{Register, Slot}
 use Rattle.cc_ltl.specs.Registers.{IsAllocatable}
 use Rattle.cc_ltl.specs.Ltl.{Locations, at_entry}
 use Rattle.cc_select.specs.declared.step.Step.{Step}
-use Rattle.cc_select.specs.Selected.{Configuration, at_steps, selected_move, selected_output, selected_start}
+use Rattle.cc_select.specs.Selected.{at_steps, selected_move, selected_output, selected_start}
 use Rattle.cc_emit.specs.declared.item.PieceItem.{PieceItem}
 use Rattle.cc_emit.specs.declared.item.PieceItem.TheVariants.{Plain, Call, Go}
-use Rattle.cc_emit.specs.Contract.{AreFit, CallsMeet, Code, ComesBack, EachCalled, Enters, IsFit, IsPlace, IsSound, Meets, ObjectLayout, Path, PieceMeets, Placed, Shares, filled}
+use Rattle.cc_emit.specs.Contract.{AreFit, CallsMeet, Code, ComesBack, EachCalled, IsPlace, IsSound, Meets, ObjectLayout, Path, PieceMeets, Placed, Shares}
 use Rattle.cc_emit.specs.Early.{Early, early_from}
 use Rattle.cc_emit.specs.Emission.{framed_items, prologue, prologue_size}
 use Rattle.cc_emit.specs.Frames.{Frame, frame_size}
@@ -27,10 +27,10 @@ use Rattle.cc_emit.proofs.Basics.{drop_listed, listed, listed_at, listed_words, 
 use Rattle.cc_emit.proofs.Emitted.{Does, DoesBy, does_then, meets_of, simulate, standing_all}
 use Rattle.cc_emit.proofs.Fine.{AreFine, IsFrame, Member}
 use Rattle.cc_emit.proofs.Headed.{does_same, rest_places}
-use Rattle.cc_emit.proofs.Heads.{Follows, Goal, Passed, heads, merge}
+use Rattle.cc_emit.proofs.Heads.{Follows, Goal, heads, merge}
 use Rattle.cc_emit.proofs.Holding.{pointer_behind}
 use Rattle.cc_emit.proofs.Returning.{found, framed, framed_inside, framed_other, framed_pc, framed_within, prologue_path}
-use Rattle.cc_emit.proofs.Standing.{HasRoom, Site, Stands, between, each_append, each_map, end_of, path_then, placed_append}
+use Rattle.cc_emit.proofs.Standing.{HasRoom, Site, Stands, between, each_append, each_map, end_of, placed_append}
 use Rattle.cc_emit.proofs.Cases.{StandsWhole}
 use Rattle.cc_emit.specs.declared.scratch.Scratch.{Scratch}
 use Rattle.cc_emit.proofs.Within.{Within}

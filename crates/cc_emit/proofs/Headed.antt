@@ -1,17 +1,17 @@
 -- What stands before a frame is code of a function without one, of steps as the function has them; the rest saves what the function saves.
-use Rattle.std.proofs.Common.{◌≡◌, ℕ, suc, ◌+◌, ◌*◌, ◌<◌, ◌≤◌, ◌⊎◌, List, [], ◌∷◌, ◌++◌, Option, Some, None, true, false, Bool, refl, sym, ap, ap₂, ◌∙◌, subst, inl, inr, arith}
-use Rattle.std.specs.Prelude.{if◌then◌else◌, ◌==◌, ◌&&◌, ◌||◌, not, option_map, Contains, nat_le, nat_lt}
+use Rattle.std.proofs.Common.{◌≡◌, ℕ, ◌+◌, ◌*◌, ◌<◌, List, [], ◌∷◌, ◌++◌, Option, Some, None, true, false, Bool, refl, sym, ap, ap₂, ◌∙◌, subst, arith}
+use Rattle.std.specs.Prelude.{if◌then◌else◌, ◌==◌, ◌&&◌, ◌||◌, not, option_map, nat_lt}
 use Rattle.std.specs.List.{AllByRecursion}
 use Rattle.std.proofs.lemmas.Bool.Decides.{nat_tests}
 use Rattle.cc_words.specs.Operators.{apply_binary}
 use Rattle.cc_simulation.specs.World.{World}
 use Rattle.cc_simulation.specs.Run.{Goes, tried}
 use Rattle.cc_ltl.specs.declared.location.Location.TheVariants.{Register}
-use Rattle.cc_ltl.specs.declared.operation.Move.TheVariants.{Between, Reload, Spill}
+use Rattle.cc_ltl.specs.declared.operation.Move.TheVariants.{Between}
 use Rattle.cc_ltl.specs.Ltl.{Locations}
-use Rattle.cc_linear_language.specs.declared.item.LinearItem.TheVariants.{Label, Jump, IfNonzero, IfZero, Copy, Const, Unary, Binary, Load, Store, Call, Read, Write, Return}
+use Rattle.cc_linear_language.specs.declared.item.LinearItem.TheVariants.{Label, Jump, IfNonzero, IfZero, Copy, Const, Unary, Binary, Return}
 use Rattle.cc_select.specs.declared.step.Step.{Step}
-use Rattle.cc_select.specs.declared.step.Step.TheVariants.{One, Immediate, LoadAt, StoreAt, LoadNear, StoreNear, Branch, BranchImmediate}
+use Rattle.cc_select.specs.declared.step.Step.TheVariants.{One, Immediate, Branch, BranchImmediate}
 use Rattle.cc_select.specs.Immediates.{apply_immediate}
 use Rattle.cc_select.specs.Selected.{at_steps, does, labels, led, place, IsStep}
 use Rattle.cc_select.proofs.Places.{there_labels, there_place}
@@ -22,8 +22,8 @@ use Rattle.cc_emit.specs.declared.scratch.Scratch.{Scratch}
 use Rattle.cc_emit.specs.Emission.{label_of_step, pointer_size}
 use Rattle.cc_emit.specs.Scratch.{nothing, remembered, behind_step, step_access_size, weight, labels_past, accesses_size, gains}
 use Rattle.cc_emit.specs.declared.early.Fork.{Fork}
-use Rattle.cc_emit.specs.Early.{Early, early, is_lost, is_light, is_into_lost, is_return, written_by, fork_of, last_one, last_of, ending, early_at, early_by, early_from, with_first}
-use Rattle.cc_emit.proofs.Basics.{eqb_says, eqb_not}
+use Rattle.cc_emit.specs.Early.{Early, early, is_lost, is_light, is_return, fork_of, last_one, last_of, ending, early_at, early_by, early_from, with_first}
+use Rattle.cc_emit.proofs.Basics.{eqb_not}
 use Rattle.cc_emit.proofs.Choosing.{AreKept, all_kept}
 use Rattle.cc_emit.proofs.Bridging.{contained_below}
 use Rattle.cc_emit.proofs.Heads.{both, fork_there, lit, lit_there, none_says, turned_there}

@@ -1,6 +1,6 @@
 -- What stands before a function's frame: from the function's entry it returns as the function does, or the machine comes to its end where the run
 -- comes to the rest of the function's steps. It is code of its own, of a function that has no frame; the run is that of the whole function.
-use Rattle.std.proofs.Common.{◌≡◌, ℕ, zero, suc, ◌+◌, ◌-◌, ◌*◌, ◌%◌, ◌^◌, ◌<◌, ◌≤◌, ◌⊎◌, List, [], ◌∷◌, ◌++◌, Option, Some, None, true, false, Bool, length, get_or, refl, sym, ap, ap₂, ◌∙◌, subst, inl, inr, arith}
+use Rattle.std.proofs.Common.{◌≡◌, ℕ, zero, suc, ◌+◌, ◌*◌, ◌%◌, ◌≤◌, ◌⊎◌, List, [], ◌∷◌, ◌++◌, Option, Some, None, true, false, Bool, refl, sym, ap, ◌∙◌, subst, inl, inr, arith}
 use Rattle.std.specs.Prelude.{if◌then◌else◌, ◌==◌, ◌&&◌, not, option_map}
 use Rattle.cc_words.specs.Operators.{apply_unary, apply_binary}
 use Rattle.cc_simulation.specs.Behavior.{Going, Outcome}

@@ -1,5 +1,5 @@
 -- The code of a whole function: the steps that are selected for its items, each with how much of its address is known, in their frame.
-use Rattle.std.specs.Prelude.{ℕ, ◌+◌, Bool, false, Option, Some, None, List, [], ◌∷◌, ◌++◌, length, map}
+use Rattle.std.specs.Prelude.{ℕ, ◌+◌, Bool, false, Option, Some, None, List, ◌++◌, length, map}
 use Rattle.cc_c_laws.specs.Numbered.{objects_in}
 use Rattle.cc_linear_language.specs.Pair as above
 use Rattle.cc_select.specs.declared.step.Step.{Step}

@@ -1,5 +1,5 @@
 -- What stands before a frame, as the code has it.
-use Rattle.std.specs.Prelude.{ℕ, Bool, Option, Some, None, List, [], ◌∷◌, ◌++◌, drop}
+use Rattle.std.specs.Prelude.{Option, Some, None, List, [], ◌∷◌, ◌++◌, drop}
 use Rattle.cc_select.specs.declared.step.Step.{Step}
 use Rattle.cc_emit.specs.declared.early.Ahead as found
 use Rattle.cc_emit.specs.Early.{Early, fork_of, early_by}

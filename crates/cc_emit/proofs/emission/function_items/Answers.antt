@@ -1,11 +1,11 @@
-use Rattle.std.proofs.Common.{◌≡◌, ◌<◌, ℕ, List, sym, ◌∙◌, ap, subst}
+use Rattle.std.proofs.Common.{◌<◌, ℕ, List, sym, ◌∙◌, ap, subst}
 use Rattle.std.specs.List.{AllByRecursion}
 use Rattle.cc_select.specs.declared.step.Step.{Step}
 use Rattle.cc_select.specs.Selected.{labels, IsStep}
 use Rattle.cc_emit.specs.Function.{whole_items}
 use Rattle.cc_emit.specs.internal.Ahead.{shown}
 use Rattle.cc_emit.specs.internal.Bases.{base_in}
-use Rattle.cc_emit.proofs.Ahead.{Handed, ahead_says, early_whole, head_handed, rest_handed, rest_from}
+use Rattle.cc_emit.proofs.Ahead.{ahead_says, early_whole, head_handed, rest_handed, rest_from}
 use Rattle.cc_emit.proofs.emission.function_items.Goals as goal
 
 pub whole_items-requires-2-clause-labels : goal.whole_items-requires-2-clause-labels

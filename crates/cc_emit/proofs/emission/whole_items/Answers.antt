@@ -1,6 +1,5 @@
 use Rattle.std.proofs.Common.{◌≡◌, ◌<◌, length, sym, ap, ◌∙◌, subst}
 use Rattle.std.specs.List.{AllByRecursion}
-use Rattle.cc_select.specs.Selected.{labels}
 use Rattle.cc_emit.specs.Emission.{framed_items}
 use Rattle.cc_emit.specs.Function.{items_with}
 use Rattle.cc_emit.specs.Scratch.{nothing, addressed}
