@@ -47,24 +47,24 @@ item_found is (Plain w) items e = absurd (let n : false ≡ true = e in cc)
 item_found is (Call g) items e = (g, (0, omega arith, refl), e)
 item_found is (Go n) items e = absurd (let n : false ≡ true = e in cc)
 
+found_in : (is : ℕ → Bool) (i : PieceItem) (items : List PieceItem) (b : Bool) → item_calls is i ≡ b → (items_call is items ≡ true → (g : ℕ) × Contains items (Call g) × (is g ≡ true)) → (b || items_call is items) ≡ true → (g : ℕ) × Contains (i ∷ items) (Call g) × (is g ≡ true)
+found_in is i items true q again p = item_found is i items q
+found_in is i items false q again p = (let r = again p in let c = r.1 in (r.0, (suc c.0, (let lt = c.1 in omega arith), c.2), r.2))
+
 items_found : (is : ℕ → Bool) (items : List PieceItem) → items_call is items ≡ true → (g : ℕ) × Contains items (Call g) × (is g ≡ true)
 items_found is [] e = absurd (let n : false ≡ true = e in cc)
-items_found is (i ∷ items) e = by (item_calls is i) refl e
-  where
-    by : (b : Bool) → item_calls is i ≡ b → (b || items_call is items) ≡ true → (g : ℕ) × Contains (i ∷ items) (Call g) × (is g ≡ true)
-    by true q p = item_found is i items q
-    by false q p = (let r = items_found is items p in let c = r.1 in (r.0, (suc c.0, omega arith, c.2), r.2))
+items_found is (i ∷ items) e = found_in is i items (item_calls is i) refl (λ p. items_found is items p) e
 
 -- ---- from where calls lead to a function
+
+reach_by : (bodies : List (List PieceItem)) (t f : ℕ) (is : ℕ → Bool) (b : Bool) → is f ≡ b → ((g : ℕ) → is g ≡ true → (way : List ℕ) × LeadsBy bodies way g t) → (b || items_call is (get_or bodies f [])) ≡ true → (way : List ℕ) × LeadsBy bodies way f t
+reach_by bodies t f is true q again p = again f q
+reach_by bodies t f is false q again p = (let r = items_found is (get_or bodies f []) p in let w = again r.0 r.2 in (r.0 ∷ w.0, (r.1, w.1)))
 
 pub reach_sound : (bodies : List (List PieceItem)) (t k f : ℕ) → reaches bodies t k f ≡ true → (way : List ℕ) × LeadsBy bodies way f t
 unfolding reaches
 reach_sound bodies t zero f e = ([], eqb_says f t e)
-reach_sound bodies t (suc k) f e = by (reaches bodies t k f) refl e
-  where
-    by : (b : Bool) → reaches bodies t k f ≡ b → (b || items_call (reaches bodies t k) (get_or bodies f [])) ≡ true → (way : List ℕ) × LeadsBy bodies way f t
-    by true q p = reach_sound bodies t k f q
-    by false q p = (let r = items_found (reaches bodies t k) (get_or bodies f []) p in let w = reach_sound bodies t k r.0 r.2 in (r.0 ∷ w.0, (r.1, w.1)))
+reach_sound bodies t (suc k) f e = reach_by bodies t f (reaches bodies t k) (reaches bodies t k f) refl (λ g p. reach_sound bodies t k g p) e
 
 pub reach_whole : (bodies : List (List PieceItem)) (t k f : ℕ) (way : List ℕ) → LeadsBy bodies way f t → length way ≤ k → reaches bodies t k f ≡ true
 unfolding reaches
@@ -151,12 +151,23 @@ found_first bodies found e = record {
     nowhere it (inr p) = (let lt = p.1 in omega arith)
 
 -- one more call that is part of a cycle
-pub found_more : (bodies : List (List PieceItem)) (f m : ℕ) (old new : List Recursion) (it : Recursion) → it.caller ≡ f → it.called ≡ m → new ≡ old ++ it ∷ [] → items_call (λ g. g == m) (get_or bodies f []) ≡ true → reaches bodies f (length bodies) m ≡ true → FoundUpTo bodies f m old → FoundUpTo bodies f (m + 1) new
-found_more bodies f m old new it ef em pushed calls back o = record {
+pub found_more : (bodies : List (List PieceItem)) (f m : ℕ) (old new : List Recursion) (it : Recursion) → it.caller ≡ f → it.called ≡ m → new ≡ old ++ it ∷ [] → (items_call (λ g. g == m) (get_or bodies f []) && reaches bodies f (length bodies) m) ≡ true → FoundUpTo bodies f m old → FoundUpTo bodies f (m + 1) new
+found_more bodies f m old new it ef em pushed yes o = record {
   each = λ other c. by_case other (Contains-push_cases old it other (subst (λ (xs : List Recursion). Contains xs other) pushed c));
   all = λ other cycle few before. subst (λ (xs : List Recursion). Contains xs other) (sym pushed) (found_by other cycle few before);
 }
   where
+    two : (a b : Bool) → (a && b) ≡ true → (a ≡ true) × (b ≡ true)
+    two true true p = (refl, refl)
+    two true false p = absurd (let z : false ≡ true = p in cc)
+    two false b p = absurd (let z : false ≡ true = p in cc)
+
+    calls : items_call (λ g. g == m) (get_or bodies f []) ≡ true
+    calls = (two (items_call (λ g. g == m) (get_or bodies f [])) (reaches bodies f (length bodies) m) yes).0
+
+    back : reaches bodies f (length bodies) m ≡ true
+    back = (two (items_call (λ g. g == m) (get_or bodies f [])) (reaches bodies f (length bodies) m) yes).1
+
     does_call : DoesCall bodies f m
     does_call = (let r = items_found (λ g. g == m) (get_or bodies f []) calls in subst (DoesCall bodies f) (eqb_says r.0 m r.2) r.1)
 
@@ -221,3 +232,14 @@ found_all bodies f found le o = record {
   each = o.each;
   all = λ it cycle lt few. o.all it cycle few (inl (omega arith));
 }
+
+-- what the code asks of a function is what is asked of its items
+pub body_at : (ps : List (Bor Piece)) (at : ℕ) (d : Bor Piece) → at < length ps → d ≡ get_or ps at d → get_or (all_items (lent_pieces ps)) at [] ≡ d.now.items
+body_at [] at d lt is = absurd (omega arith)
+body_at (p ∷ ps) zero d lt is = ap (λ (b : Bor Piece). b.now.items) (sym is)
+body_at (p ∷ ps) (suc at) d lt is = body_at ps at d (omega arith) is
+
+pub asked : (ps : List (Bor Piece)) (f m : ℕ) (d : Bor Piece) (items : List PieceItem) (table : List Bool) (yes calls : Bool) → f < length ps → d ≡ get_or ps f d → items ≡ d.now.items → calls ≡ items_call (λ g. g == m) items → ((g : ℕ) → get_or table g false ≡ reaches (all_items (lent_pieces ps)) f (length ps) g) → yes ≡ (calls && get_or table m false)
+    → yes ≡ (items_call (λ g. g == m) (get_or (all_items (lent_pieces ps)) f []) && reaches (all_items (lent_pieces ps)) f (length (all_items (lent_pieces ps))) m)
+asked ps f m d items table yes calls lt is ei ec each e =
+    e ∙ ap₂ (λ (a b : Bool). a && b) (ec ∙ ap (items_call (λ g. g == m)) (ei ∙ sym (body_at ps f d lt is))) (each m ∙ ap (λ k. reaches (all_items (lent_pieces ps)) f k m) (sym (bodies_long ps)))

@@ -52,7 +52,6 @@ fn measured(
     let ones = ones(alloc, ordered.as_slice())?;
     let stacks = needs(alloc, frames.as_slice(), ordered.as_slice(), MOST_OPEN)?;
     let calls = needs(alloc, ones.as_slice(), ordered.as_slice(), MOST_OPEN)?;
-    let recursions = recursions(alloc, ordered.as_slice())?;
     let main = main_of(alloc, unit)?;
     let functions = sizes(
         alloc,
@@ -60,6 +59,7 @@ fn measured(
         stacks.as_slice(),
         calls.as_slice(),
     )?;
+    let recursions = recursions(alloc, ordered.as_slice())?;
     Ok(UnitSize {
         functions,
         code: image.code.words().len(),

@@ -1,6 +1,6 @@
 // Which calls are part of a cycle of calls: of each function it is found from which functions calls lead to it.
 
-ghost use Rattle.std.specs.Prelude.{◌≡◌, ◌<◌, ◌+◌, ◌==◌, ℕ, false, length, get_or, IfOk, OnOk};
+ghost use Rattle.std.specs.Prelude.{◌≡◌, ◌<◌, ◌+◌, ◌==◌, ◌&&◌, ◌||◌, ℕ, false, length, get_or, IfOk, OnOk};
 ghost use Rattle.cc_link.specs.Linked.{all_items, lent_pieces};
 ghost use Rattle.cc_size.specs.Cycles.{AreCyclic};
 ghost use Rattle.cc_size.specs.internal.Reached.{item_calls, items_call, nearer, reaches, FoundUpTo};
@@ -13,6 +13,18 @@ use std::alloc::{AllocError, Global};
 pub struct Recursion {
     pub caller: usize,
     pub called: usize,
+}
+
+fn either(a: bool, b: bool) -> bool
+    ensures { result ≡ (a || b) }
+{
+    a || b
+}
+
+fn both(a: bool, b: bool) -> bool
+    ensures { result ≡ (a && b) }
+{
+    a && b
 }
 
 // Whether an item calls a function of the table.
@@ -63,7 +75,8 @@ fn nearer(alloc: Global, pieces: &[&Piece], table: &[bool]) -> Result<Vec<bool>,
 {
     let mut more = Vec::with_capacity(alloc, table.len())?;
     for at in 0..table.len() {
-        more.push(table[at] || items_call(table, pieces[at].items()))?;
+        let calls = items_call(table, pieces[at].items());
+        more.push(either(table[at], calls))?;
     }
     Ok(more)
 }
@@ -96,7 +109,8 @@ fn add_of(
 {
     let back = leading(alloc, pieces, caller)?;
     for called in 0..back.len() {
-        if call(called, pieces[caller].items()) && back[called] {
+        let calls = call(called, pieces[caller].items());
+        if both(calls, back[called]) {
             found.push(Recursion { caller, called })?;
         }
     }
