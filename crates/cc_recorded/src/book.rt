@@ -279,6 +279,13 @@ impl<N: Based, D: Disk> Book<N, D> {
         result
     }
 
+    /// Whether the device has failed before: then every change and `compact` answer 36. It takes no memory.
+    pub fn is_closed(&self) -> bool
+        ensures { result ≡ self.now.book.library.closed }
+    {
+        self.recorded.library.is_closed()
+    }
+
     /// The disk, which no call reaches any more.
     pub fn into_disk(self) -> D
         ensures { result ≡ self.book.library.disk }
