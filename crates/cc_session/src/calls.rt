@@ -183,7 +183,7 @@ impl<'a, N: Named + Send + Sync + 'static, H: Wait, D: Disk, P: Patience> Player
         answers: &mut W,
         explanations: &mut E,
     ) -> Result<(), ScriptFault>
-        ensures done { IsDone (λ before after old new. IsSentTo (λ source o n. UpdatesIf self.now.mode name.now (option_map (λ e. e.now) expected) source o n) length before after old new)
+        ensures done { IsDone (λ before after old new. IsSentTo (λ source o n. UpdatesIf self.now.mode name.now (option_map (λ e. e.now) expected.entry) source o n) length before after old new)
             (IsShortOf length) (IsUnended length)
             script.old script.new (talk client.old.member (W.contents answers.old)) (talk client.new.member (W.contents answers.new)) result }
         ensures grows { Grows client.old.member client.new.member }

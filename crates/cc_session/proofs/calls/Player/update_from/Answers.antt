@@ -1,5 +1,6 @@
 -- A source that was handed to the service with the expected one, one for which there was no room, and one after which another byte stands.
 use Rattle.std.proofs.Common.{List, ℕ, Option, Some, None, inl, refl, rules}
+use Rattle.std.specs.Option.{option_map}
 use Rattle.cc_service.specs.Updating.{UpdateAnswers}
 use Rattle.cc_session.specs.Playing.{CallsAndWrites, IsSentTo, IsUnended, Talk, talk}
 use Rattle.cc_session.specs.Telling.{SaysChange}
@@ -40,7 +41,7 @@ returns-in-Source-None-clause-grows g c = grows_same c.args.client.now.member c.
 pub returns-in-NoRoom-clause-done : goal.returns-in-NoRoom-clause-done
 returns-in-NoRoom-clause-done g c =
     let read = rw c.in-NoRoom.is at c.in_ok-source.ensures.bytes in
-    unsent_step c.tell_no_memory-in-NoRoom.result (λ source o n. UpdatesIf c.args.self.now.mode c.args.name.now ? source o n) c.args.length c.args.script.now c.source.new.self
+    unsent_step c.tell_no_memory-in-NoRoom.result (λ source o n. UpdatesIf c.args.self.now.mode c.args.name.now (option_map (λ e. e.now) c.args.expected.entry) source o n) c.args.length c.args.script.now c.source.new.self
     (talk c.args.client.now.member (g.W.Write.contents c.args.answers.now)) (talk c.args.client.now.member (g.W.Write.contents c.tell_no_memory-in-NoRoom.new.answers)) refl read c.tell_no_memory-in-NoRoom.ensures
 
 pub returns-in-NoRoom-clause-grows : goal.returns-in-NoRoom-clause-grows
@@ -49,7 +50,7 @@ returns-in-NoRoom-clause-grows g c = grows_same c.args.client.now.member c.args.
 pub returns-in-Unended-clause-done : goal.returns-in-Unended-clause-done
 returns-in-Unended-clause-done g c =
     let read = rw c.in-Unended.is at c.in_ok-source.ensures.bytes in
-    skip_step c.refuse_and_skip.result (λ source o n. UpdatesIf c.args.self.now.mode c.args.name.now ? source o n) c.args.length c.args.script.now c.source.new.self c.refuse_and_skip.new.self c.refuse_and_skip.new.self.left
+    skip_step c.refuse_and_skip.result (λ source o n. UpdatesIf c.args.self.now.mode c.args.name.now (option_map (λ e. e.now) c.args.expected.entry) source o n) c.args.length c.args.script.now c.source.new.self c.refuse_and_skip.new.self c.refuse_and_skip.new.self.left
     (talk c.args.client.now.member (g.W.Write.contents c.args.answers.now)) (talk c.args.client.now.member (g.W.Write.contents c.refuse_and_skip.new.answers)) refl read c.refuse_and_skip.ensures.bytes c.refuse_and_skip.ensures.written
     c.refuse_and_skip.ensures.refused
 
@@ -59,7 +60,7 @@ returns-in-Unended-clause-grows g c = grows_same c.args.client.now.member c.args
 pub returns-in_err-source-clause-done : goal.returns-in_err-source-clause-done
 returns-in_err-source-clause-done g c =
     let here = talk c.args.client.now.member (g.W.Write.contents c.args.answers.now) in
-    let Does = (λ (b a : List ℕ) (o n : Talk). IsSentTo (λ source p q. UpdatesIf c.args.self.now.mode c.args.name.now ? source p q) c.args.length b a o n) in
+    let Does = (λ (b a : List ℕ) (o n : Talk). IsSentTo (λ source p q. UpdatesIf c.args.self.now.mode c.args.name.now (option_map (λ e. e.now) c.args.expected.entry) source p q) c.args.length b a o n) in
     let why : IsNotDone Does (IsShortOf c.args.length) (IsUnended c.args.length) c.args.script.now here here c.in_err-source.field-0.0 =
     not_sent Does (IsUnended c.args.length) c.args.script.now c.args.length c.source.new.self.left here _ c.in_err-source.ensures.refused in
     search (rules, why)
