@@ -11,7 +11,7 @@ ghost use Rattle.cc_c_laws.specs.declared.mode.Mode.TheVariants.{Plain};
 ghost use Rattle.cc_service.specs.Client.{members};
 ghost use Rattle.cc_service.specs.Compiling.{HasHandedIn, HasSentFor, IsNotPrepared, IsPastText};
 ghost use Rattle.cc_recorded.specs.Opened.{IsOpened};
-ghost use Rattle.cc_recorded.specs.Promise.{IsGivenUp, IsSound};
+ghost use Rattle.cc_recorded.specs.Promise.{FailedByDevice, IsGivenUp, IsSound};
 ghost use Rattle.cc_recorded.specs.Since.{IsPast};
 ghost use Rattle.cc_service.specs.Serving.{Adds, GetAnswers, IsNotCompacted, IsNotEnded, IsNotOpened, IsNotStarted, IsOf, IsTurnedAway, ListAnswers, PutAnswers, Puts, Replaces, WithdrawAnswers};
 ghost use Rattle.cc_service.specs.Stored.{IsStored};
@@ -105,8 +105,10 @@ impl<N: Named + Send + Sync + 'static, D: Disk> Service<N, D> {
         requires parts { N.parts ≡ 1025 }
         requires queue { fresh.queue ≡ N.queue }
         requires named { IsTrue D.honest → (units : Units) → Recovers (D.seen disk) units → units ≡ N.base }
-        // It names a moment up to now, too, and what a crash has left since then: `finish` tells what one leaves later.
+        // It names a moment up to now, too, and what a crash has left since then: `finish` tells what one leaves later. And how many calls of
+        // the device had failed, or fewer.
         requires past { IsTrue D.honest → IsPast D.Disk N.from N.left disk }
+        requires failures { N.failures ≤ D.failures disk }
         requires some { 1 ≤ workers }
         requires few { workers ≤ 8 }
         ensures recovered { IfOk result (λ _. IsTrue D.honest → Recovers (D.seen disk) N.base) }
@@ -150,13 +152,15 @@ impl<N: Named + Send + Sync + 'static, D: Disk> Service<N, D> {
     where
         R: Threads + Wait + Copy + Send + 'static,
         G: Gate + Drop + Send + Sync + 'static,
-        // The parameter names this ledger and this queue, and, of an honest disk, the library's map and a moment up to now.
+        // The parameter names this ledger and this queue, and, of an honest disk, the library's map and a moment up to now; of any disk, how
+        // many calls of the device had failed, or fewer.
         requires ledger { fresh.ledger ≡ N.name }
         requires parts { N.parts ≡ 1025 }
         requires queue { fresh.queue ≡ N.queue }
         requires opened { IsOpened D.Disk library }
         requires named { IsTrue D.honest → library.units ≡ N.base }
         requires past { IsTrue D.honest → IsPast D.Disk N.from N.left library.disk }
+        requires failures { N.failures ≤ D.failures library.disk }
         requires some { 1 ≤ workers }
         requires few { workers ≤ 8 }
         ensures refused { IfErr result (λ e. IsNotStarted e.0) }
@@ -620,6 +624,9 @@ impl<N: Named + Send + Sync + 'static, D: Disk> Service<N, D> {
         // One legal history from the base leads to the library. What a crash then leaves of the disk holds each acknowledged command; what one
         // has left at any moment since the opening holds a prefix of them.
         ensures sound { IfOk result (λ r. IsSound D.Disk N.base N.from N.left (record { base = r.base; library = r.library; history = r.history.items; failed = r.failed.items })) }
+        // Each change that failed did so in a call of the device that failed since the opening: if none did, whatever a crash leaves has just the
+        // map.
+        ensures blamed { IfOk result (λ r. FailedByDevice D.Disk N.failures (record { base = r.base; library = r.library; history = r.history.items; failed = r.failed.items })) }
         // Every receipt of every client stands in that history, once and in its client's order.
         ensures closed { IfOk result (λ r. IsClosed r.history.items (members clients.items)) }
         ensures receipts { IfOk result (λ r. map (λ v. v.items) r.receipts.items ≡ map (λ c. c.receipts) (members clients.items)) }
@@ -659,7 +666,7 @@ impl<N: Named + Send + Sync + 'static, D: Disk> Service<N, D> {
     /// stands, no two have one number, and every entry of the history has a receipt. It takes no memory, so it ends a service that `finish`
     /// refuses to end, or one of whose clients is lost.
     pub fn give_up<R: Wait>(self, rt: &R, alloc: Global, clients: Vec<Client<N>>) -> (D, bool)
-        ensures { IsGivenUp D.Disk N.base N.from N.left (members clients.items) result.1 result.0 }
+        ensures { IsGivenUp D.Disk N.failures N.base N.from N.left (members clients.items) result.1 result.0 }
     {
         let Service {
             book,

@@ -114,7 +114,7 @@ fn two_threads<N, R>(rt: &R, alloc: Global, begun: Begun) -> Result<(u32, u32), 
 where
     N: Named + Send + Sync + 'static,
     R: Threads + Wait + Copy + Send + Sync + 'static,
-    requires { IsNamed begun.fresh begun.base N.name N.parts N.queue N.base N.from N.left }
+    requires { IsNamed begun.fresh begun.base N.name N.parts N.queue N.failures N.base N.from N.left }
 {
     let service = opened(begin::<N, R, NoGate>(rt, alloc, begun, 2, NoGate))?;
     let one = service.client(rt, alloc)?;
