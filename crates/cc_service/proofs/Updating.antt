@@ -40,7 +40,7 @@ use Rattle.cc_service.proofs.Storing.{newest, stored}
 -- ---- the reply of a look
 
 -- the unit that a reply has
-unit_in : Reply → Option StoredUnit
+abbrev unit_in : Reply → Option StoredUnit
 unit_in (reply.Unit unit) = Some unit
 unit_in answer = None
 
@@ -73,7 +73,7 @@ there_not true made is e = cc
 there_not false made is e = cc
 
 -- what the book may answer to the change
-May : BookFault → Type 0
+abbrev May : BookFault → Type 0
 May (book.Exists receipt) = ⊥
 May (book.Absent receipt) = ⊥
 May (book.Estranged number found) = ⊥
@@ -197,16 +197,16 @@ module _ {Disk : Type 0} (D : Ghosts Disk) where
     changed_so : (unit : StoredUnit) → seen.entry.reply ≡ reply.Unit unit → unit.source ≡ expected → (answer : Result Receipt BookFault)
         → IsBookChanged D between heard (Replace name made) after_it new answer ⊎ IsCompactedFor D between heard (Replace name made) after_it new answer
         → UpdatesBook D before old name expected (Replace name made) after_it new (answer_of answer)
-    changed_so unit has same answer changed = by answer changed
+    changed_so unit has same answer changed = cases answer changed
       where
         found : get before.library.units name ≡ Some unit
         found = some_in (get before.library.units name) seen.entry.reply unit replied has
 
-        by : (answer : Result Receipt BookFault)
+        cases : (answer : Result Receipt BookFault)
             → IsBookChanged D between heard (Replace name made) after_it new answer ⊎ IsCompactedFor D between heard (Replace name made) after_it new answer
             → UpdatesBook D before old name expected (Replace name made) after_it new (answer_of answer)
-        by (Ok receipt) changed = (idle, record { seen = seen; between = between; heard = heard; looked = looked; unit = unit; found = found; same = same; changed = changed })
-        by (Err fault) changed =
+        cases (Ok receipt) changed = (idle, record { seen = seen; between = between; heard = heard; looked = looked; unit = unit; found = found; same = same; changed = changed })
+        cases (Err fault) changed =
             update_refused before after_it old new name expected (Replace name made) fault idle
             (change_refused between after_it name heard new made fault (ready_after before between old heard name seen unit idle looked found) changed)
             (record { seen = seen; between = between; heard = heard; looked = looked; unit = unit; found = found; same = same; changed = changed })
@@ -241,8 +241,8 @@ module _ {Disk : Type 0} (D : Ghosts Disk) where
       → IsUpdate D before old name expected command after_it new (Ok receipt) → IsUpdated (λ c. c ≡ command) name expected old new receipt
   updated before after_it old new name expected command receipt it =
       let entered = change_entered it.between after_it it.heard new command receipt it.changed in
-      let more = length-append before.history (it.seen.entry ∷ []) in
-      let longer = ap (λ (h : List Entry). length h) it.looked.0.history in
+      let more : length (before.history ++ it.seen.entry ∷ []) ≡ length before.history + 1 = length-append before.history (it.seen.entry ∷ []) in
+      let longer : length it.between.history ≡ length (before.history ++ it.seen.entry ∷ []) = ap (λ (h : List Entry). length h) it.looked.0.history in
       let first : it.seen.number ≡ length before.history + 1 = it.looked.0.number in
       let then_is : receipt.number ≡ length it.between.history + 1 = entered.1 in
       record {

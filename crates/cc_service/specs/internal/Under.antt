@@ -62,7 +62,7 @@ module _ {Disk : Type 0} (D : Ghosts Disk) where
       (HasCompared seen.entry.reply expected compared.NoUnit × (result ≡ Err (Book (book.Absent seen))) × (after ≡ between) × (new ≡ heard))
       ⊎ ((HasCompared seen.entry.reply expected compared.Other × (result ≡ Err (Changed seen)) × (after ≡ between) × (new ≡ heard))
       ⊎ (HasCompared seen.entry.reply expected compared.Same
-      × ((answer : Result Receipt BookFault) × (result ≡ answer_of answer) × (IsBookChanged D between heard command after new answer ⊎ IsCompactedFor D between heard command after new answer))))
+      × (answer : Result Receipt BookFault) × (result ≡ answer_of answer) × (IsBookChanged D between heard command after new answer ⊎ IsCompactedFor D between heard command after new answer)))
 
 -- the answer to an update by a change that is this one
 abbrev pub UpdatesBy : Command → (name expected : List ℕ) (old new : MemberView) → Result Receipt ServiceFault → Type 0
