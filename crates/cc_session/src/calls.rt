@@ -1,6 +1,6 @@
 // The commands of a script, done by one client.
 
-ghost use Rattle.std.specs.Prelude.{◌≡◌, [], List, ℕ, Some, Ok};
+ghost use Rattle.std.specs.Prelude.{◌≡◌, [], List, ℕ, Ok};
 ghost use Rattle.std.specs.Option.{option_map};
 ghost use Rattle.cc_answers.specs.Telling.{Tells};
 ghost use Rattle.cc_script.specs.Line.{asked_of};
