@@ -204,7 +204,7 @@ pub too_long_step : (mode : Mode) → (dialect : Dialect) (before between after 
 too_long_step mode dialect before between after line old new next skipped wrote =
     let long : 128 < length (next.0 ++ skipped.0) = let n = length-append next.0 skipped.0 in omega (arith, n, next.2) in
     record {
-      some = line_left before between line TooLong next (λ over. cc);
+      some = line_left before between line TooLong next (λ over. cc over);
       line = next.0 ++ skipped.0;
       rest = after;
       is_line = line_behind before next.0 between skipped.0 after next.1 next.3 skipped.1;
