@@ -33,7 +33,7 @@ pub(crate) enum Compared {
 }
 
 // Whether the reply of a look has a unit, and whether its source is the one that is expected.
-fn compared(seen: &Receipt, expected: &[u8]) -> Compared
+fn comparison_of(seen: &Receipt, expected: &[u8]) -> Compared
     ensures { HasCompared seen.now.entry.reply expected.now result }
 {
     match &seen.entry.entry().reply {
@@ -131,7 +131,7 @@ impl<N: Named> Client<N> {
         ensures answers { UpdatesSeen D.Disk book.old.book self.old.member expected.now (Replace name unit) seen book.new.book self.new.member result }
         ensures sent { self.new.sent ≡ self.old.sent }
     {
-        match compared(&seen, expected) {
+        match comparison_of(&seen, expected) {
             Compared::NoUnit => Err(ServiceFault::Book(BookFault::Absent(seen))),
             Compared::Other => Err(ServiceFault::Changed(seen)),
             Compared::Same => {
