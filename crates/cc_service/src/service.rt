@@ -16,7 +16,9 @@ ghost use Rattle.cc_recorded.specs.Since.{IsPast};
 ghost use Rattle.cc_service.specs.Serving.{Adds, GetAnswers, IsNotCompacted, IsNotEnded, IsNotOpened, IsNotStarted, IsOf, IsTurnedAway, ListAnswers, PutAnswers, Puts, Replaces, WithdrawAnswers};
 ghost use Rattle.cc_service.specs.Stored.{IsStored};
 ghost use Rattle.cc_recorded.specs.Answers.{IsLook};
-ghost use Rattle.cc_service.specs.internal.Under.{IsSeen, MakesAnswers};
+ghost use Rattle.cc_service.specs.Updating.{UpdateAnswers};
+ghost use Rattle.cc_service.specs.internal.Under.{IsSeen, MakesAnswers, UpdatesBy};
+ghost use Rattle.cc_history.specs.declared.command.Command.TheVariants as commands;
 ghost use Rattle.cc_recorded.specs.declared.fault.BookFault.{BookFault};
 ghost use Rattle.cc_service.specs.declared.fault.ServiceFault.TheVariants as service;
 
@@ -359,6 +361,99 @@ impl<N: Named + Send + Sync + 'static, D: Disk> Service<N, D> {
             Ok(unit) => self.change(rt, alloc, client, change_of(put, name, unit)),
             Err(fault) => Err(fault),
         }
+    }
+
+    /// Compiles a text in a mode and puts its unit in the place of that of a name, if that one's source is the one that is expected. It is
+    /// compared under the lock under which the change is made: in the history no call is between the look and the change.
+    ///
+    /// Refusals, in this order: those of `put_in` up to 25; then under the lock 36, 39, 32, 60 where the name's unit has another source, 34,
+    /// 35. 40 where memory ran out. Of these 32 and 60 have a receipt, which is that of the look; after 34, 35 and a 40 of the change the
+    /// client has that receipt too; the others leave number and receipts of the client as they were. The pass may have sent some of the
+    /// functions.
+    pub fn update_in<R: Wait>(
+        &self,
+        rt: &R,
+        alloc: Global,
+        client: &mut Client<N>,
+        mode: Mode,
+        name: &[u8],
+        expected: &[u8],
+        source: &[u8],
+    ) -> Result<Receipt, ServiceFault>
+        ensures answers { UpdateAnswers mode name.now expected.now source.now client.old.member client.new.member result }
+        ensures stored { IfOk result (λ receipt. IsStored D.Disk N.base N.from N.left receipt) }
+        ensures sent { HasSentFor source.now client.old.sent client.new.sent }
+    {
+        let Ok(name) = Name::new(name) else {
+            return Err(ServiceFault::BadName);
+        };
+        match begun(rt, alloc, &self.pool, &mut client.pass, mode, source) {
+            Ok(prepared) => self.update_counted(rt, alloc, client, name, expected, prepared),
+            Err(fault) => Err(fault),
+        }
+    }
+
+    // Does so with the unit of a text that was prepared, and counts as one that waits for it.
+    fn update_counted<R: Wait>(
+        &self,
+        rt: &R,
+        alloc: Global,
+        client: &mut Client<N>,
+        name: Name,
+        expected: &[u8],
+        prepared: Prepared<N>,
+    ) -> Result<Receipt, ServiceFault>
+        requires named { IsTrue (is_name name) }
+        ensures answers { UpdateAnswers prepared.mode name expected.now prepared.text client.old.member client.new.member result }
+        ensures stored { IfOk result (λ receipt. IsStored D.Disk N.base N.from N.left receipt) }
+        ensures sent { client.new.sent ≡ client.old.sent }
+    {
+        self.putting.fetch_add(1, Ordering::SeqCst);
+        let answer = self.update_unit(rt, alloc, client, name, expected, prepared);
+        self.putting.fetch_sub(1, Ordering::SeqCst);
+        answer
+    }
+
+    // Does so with the unit of a text that was prepared.
+    fn update_unit<R: Wait>(
+        &self,
+        rt: &R,
+        alloc: Global,
+        client: &mut Client<N>,
+        name: Name,
+        expected: &[u8],
+        prepared: Prepared<N>,
+    ) -> Result<Receipt, ServiceFault>
+        requires named { IsTrue (is_name name) }
+        ensures answers { UpdateAnswers prepared.mode name expected.now prepared.text client.old.member client.new.member result }
+        ensures stored { IfOk result (λ receipt. IsStored D.Disk N.base N.from N.left receipt) }
+        ensures sent { client.new.sent ≡ client.old.sent }
+    {
+        match prepared.unit(rt, alloc, &self.pool) {
+            Ok(unit) => self.exchange(rt, alloc, client, name, expected, unit),
+            Err(fault) => Err(fault),
+        }
+    }
+
+    // Compares and changes under the book's lock.
+    fn exchange<R: Wait>(
+        &self,
+        rt: &R,
+        alloc: Global,
+        client: &mut Client<N>,
+        name: Name,
+        expected: &[u8],
+        unit: CompiledUnit,
+    ) -> Result<Receipt, ServiceFault>
+        ensures answers { UpdatesBy (commands.Replace name unit) name expected.now client.old.member client.new.member result }
+        ensures stored { IfOk result (λ receipt. IsStored D.Disk N.base N.from N.left receipt) }
+        ensures sent { client.new.sent ≡ client.old.sent }
+    {
+        let mut book = self.book.lock(rt);
+        let answer = client.update(alloc, &mut book, name, expected, unit);
+        book.survives();
+        drop(book);
+        answer
     }
 
     /// Whether some client waits for a unit that it puts. No clause says so. A client that is in no call itself, and hands texts in before

@@ -52,6 +52,7 @@ not_opened_on honest seen later base before after (service.Text f) same it = it
 not_opened_on honest seen later base before after (service.Piece function f) same it = it
 not_opened_on honest seen later base before after service.ImageTooLarge same it = it
 not_opened_on honest seen later base before after (service.Book f) same it = it
+not_opened_on honest seen later base before after (service.Changed receipt) same it = it
 
 -- its workers were not started
 pub not_started : (honest : Bool) (seen : List ℕ) (base : Units) (before after : ℕ) (fault : ServiceFault) → IsNotStarted fault → after ≡ before → (IsTrue honest → Recovers seen base)
@@ -65,6 +66,7 @@ not_started honest seen base before after (service.Text f) not same recovers = n
 not_started honest seen base before after (service.Piece function f) not same recovers = not
 not_started honest seen base before after service.ImageTooLarge not same recovers = not
 not_started honest seen base before after (service.Book f) not same recovers = not
+not_started honest seen base before after (service.Changed receipt) not same recovers = not
 
 -- so a session that was not opened
 pub unopened_on : (honest : Bool) (seen later : List ℕ) (before after : ℕ) (end : SessionEnd) → (IsTrue honest → later ≡ seen)

@@ -48,6 +48,12 @@ pub tells_call : {T : Type 0} (result : Result T ScriptFault) (Answers : MemberV
 tells_call (Ok done) Answers Says old new it = (it.0, it.1, it.2, it.3, it.4.1)
 tells_call (Err fault) Answers Says old new it = (it.4.0, append_known old.written it.2, (it.0, it.1, it.2, it.3, appended old.written it.2))
 
+-- what is done is more than this
+pub tells_more : {T : Type 0} (result : Result T ScriptFault) (First Second : Talk → Talk → Type 0) (old new : Talk) → ((n : Talk) → First old n → Second old n) → DoesAndTells First old new result
+    → DoesAndTells Second old new result
+tells_more (Ok done) First Second old new on it = on new it
+tells_more (Err fault) First Second old new on it = (it.0, it.1, on (talk new.client it.1) it.2)
+
 -- no call
 pub tells_only : {T : Type 0} (result : Result T ScriptFault) (client : MemberView) (old new : Option (List ℕ)) (text : List ℕ) → Tells old new text result
     → DoesAndTells (Writes text) (talk client old) (talk client new) result

@@ -77,6 +77,8 @@ fn is_whole(line: &str) -> bool
     match command_of(Dialect::Served, line.as_bytes()) {
         Some(ScriptCommand::Add { name: _, length: _ })
         | Some(ScriptCommand::Replace { name: _, length: _ })
+        | Some(ScriptCommand::Update { .. })
+        | Some(ScriptCommand::Call { .. })
         | None => false,
         Some(_) => true,
     }
