@@ -94,6 +94,7 @@ def plants():
         ("documents", changed("docs/THREADS.md", more="`src/planted.rt`\n"), "docs/THREADS.md: src/planted.rt is not there"),
         ("documents", changed("docs/THREADS.md", more="`cc_words`: `Planted`\n"), "docs/THREADS.md: cc_words: Planted is not there"),
         ("documents", changed("crates/cc_journal/README.md", more="`append` (`planted`)\n"), "README.md: append (planted) is not there"),
+        ("documents", changed("crates/cc_journal/README.md", more="`typed_unit` (`program`)\n"), "README.md: typed_unit (program) is not there"),
         ("drawn_map", changed("docs/ARCHITECTURE.md", ("| 1 | `cc_words` |", "| 2 | `cc_words` |")), "cc_words: layer and arrows"),
         ("drawn_map", changed("docs/ARCHITECTURE.md", ("| 1 | `cc_words` |", "| 1 | `cc_planted` |")), "cc_planted is no crate"),
         ("drawn_map", changed("crates/cc_link/src/lib.rt", more=arrows), "cc_link: more than 7 arrows"),
