@@ -342,7 +342,8 @@ def unknown_in(path, words, pages):
     for calls, cited in CITED.findall(text):
         names = [it.rpartition(":")[2] for it in QUOTED.findall(calls)]
         have = set().union(*(clauses.get(it, set()) for it in names))
-        if any(it in clauses for it in names) or is_readme and all(it.islower() for it in names):
+        is_call = is_readme and all(it.islower() and not os.path.isdir(f"{TOP}/crates/{it}") for it in names)
+        if is_call or any(it in clauses for it in names):
             unknown += [f"{', '.join(names)} ({it})" for it in QUOTED.findall(cited) if it not in have]
     return unknown
 
