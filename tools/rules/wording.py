@@ -30,7 +30,7 @@ WORD = re.compile("|".join(LISTED.values()), re.I)
 # A sentence that begins with what it says something of. "That is", "that means" begin with their subject.
 SENTENCE = re.compile(r"(?:^|[.:;|] |- )((?:Of|That) (?!is\b|means\b|was\b|does\b|has\b|can\b|leaves\b))", re.M)
 STRING = re.compile(r'"((?:[^"\\]|\\.)*)"', re.S)
-NEW = ("CHANGELOG.md", "CONTRIBUTING.md", "SECURITY.md", "docs/FIT.md", "docs/STYLE.md", "docs/TRACE.md")
+NEW = ("CHANGELOG.md", "CONTRIBUTING.md", "SECURITY.md", "docs/FIT.md", "docs/JSON.md", "docs/STYLE.md", "docs/TRACE.md")
 
 
 def found_in(text):
