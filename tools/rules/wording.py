@@ -2,12 +2,12 @@
 """How often pages, comments and messages use the words that docs/STYLE.md advises against, and how long the pages are.
 
     tools/rules/wording.py FILE..    each place in these files
-    tools/rules/wording.py --lower   puts today's figures into tools/words.txt where they are lower; files that are new or gone too
+    tools/rules/wording.py --lower   puts today's figures into tools/words.txt if they are lower; files that are new or gone too
     tools/rules/wording.py --merged  puts today's figures there, also higher ones: for who merges two branches
 
-As rules: no page, and no crate in its comments and messages, uses such words more often than tools/words.txt allows; and no group of pages has
-more words than it allows. A page or a crate that the file does not name is allowed none. In pages, code between backquotes does not count; of sources only comments and the texts
-that the program writes do."""
+As rules: no page, and no crate in its comments and messages, uses such words more often than tools/words.txt allows, and no group of pages has
+more words than it allows. A page or a crate that the file does not name may use none. In pages code between backquotes does not count. In
+sources only comments and the texts that the program writes do."""
 import io
 import pathlib
 import re
@@ -45,7 +45,7 @@ def blank(match):
 
 def of_page(text):
     """Returns a page with its code blanked."""
-    return re.sub(r"`[^`]*`", "`", re.sub(r"^```.*?^```$", blank, text, flags=re.M | re.S))
+    return re.sub(r"`[^`]*`", lambda it: "`" + "\n" * it[0].count("\n"), re.sub(r"^```.*?^```$", blank, text, flags=re.M | re.S))
 
 
 def of_code(text):
