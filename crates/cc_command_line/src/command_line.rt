@@ -45,6 +45,7 @@ Examples:
   cclib asm < examples/quotient.c
   cclib stages main < examples/quotient.c
   cclib size < examples/quotient.c
+  cclib safe < examples/quotient.c
   cclib image < examples/quotient.c > quotient.hex
   cclib library units.disk --format 65536 < examples/units.script
   cclib image units.disk sum > sum.hex
@@ -214,6 +215,13 @@ fn size_command<'a>(alloc: Global) -> Result<Command<'a>, AllocError> {
     plain_command(alloc, "size", about, help)?.arg(checked_word(alloc))
 }
 
+fn safe_command<'a>(alloc: Global) -> Result<Command<'a>, AllocError> {
+    let about =
+        "Say `safe` if the program can't go wrong, whatever it reads; else where it may";
+    let help = "The program comes on standard input, or in files: cclib safe -f main.c -f table.c";
+    plain_command(alloc, "safe", about, help)
+}
+
 // The command with one more part.
 fn with_part<'a>(
     whole: Command<'a>,
@@ -248,6 +256,7 @@ fn command<'a>(alloc: Global) -> Result<Command<'a>, AllocError> {
     let whole = with_part(whole, asm_command(alloc))?;
     let whole = with_part(whole, stages_command(alloc))?;
     let whole = with_part(whole, size_command(alloc))?;
+    let whole = with_part(whole, safe_command(alloc))?;
     let whole = with_part(whole, image_command(alloc))?;
     let whole = with_part(whole, source_command(alloc))?;
     let whole = with_part(whole, call_command(alloc))?;
@@ -332,6 +341,7 @@ fn task_of(alloc: Global, matches: &ArgMatches<'_>) -> Result<Task, Error>
         }
         Some(("asm", given)) => Ok(Task::Asm(kind_of(given))),
         Some(("size", given)) => Ok(Task::Size(kind_of(given))),
+        Some(("safe", _)) => Ok(Task::Safe),
         _ => Ok(Task::Check),
     }
 }

@@ -27,4 +27,6 @@ pub enum Task {
     Image(Kind),
     /// Compile the program and say what its image takes.
     Size(Kind),
+    /// Say whether the program can't go wrong.
+    Safe,
 }

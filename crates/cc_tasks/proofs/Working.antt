@@ -7,9 +7,10 @@ use Rattle.cc_sources.specs.Reading.{IsTextOf}
 use Rattle.cc_task.specs.declared.task.Task.{Task}
 use Rattle.cc_c_laws.specs.declared.mode.Mode.{Mode}
 use Rattle.cc_tasks.specs.Answer.{Answers, IsRefused, mode_for}
-use Rattle.cc_tasks.specs.Written.{IsAnswered, IsTurnedDown, HasNoAnswer, IsPerformed, Writes, answer_text, fault_text}
-use Rattle.cc_tasks.specs.internal.Working.{Flushes, RefusesBy, IsAnsweredFor, IsRefusedFor, TellsOf, IsDoneFor, status_of}
+use Rattle.cc_tasks.specs.Written.{IsAnswered, IsTurnedDown, HasNoAnswer, IsPerformed, Writes, answer_status, answer_text, fault_text}
+use Rattle.cc_tasks.specs.internal.Working.{Flushes, RefusesBy, IsAnsweredFor, IsRefusedFor, TellsOf, IsDoneFor, matter_status, status_of}
 use Rattle.cc_tasks.specs.declared.answer.Answer.{Answer}
+use Rattle.cc_tasks.specs.declared.explain.Matter.{Matter}
 use Rattle.cc_tasks.specs.declared.fault.Fault.{Fault}
 use Rattle.cc_tasks.specs.declared.fault.Fault.TheVariants.{OutOfMemory, Read, Write}
 
@@ -27,9 +28,10 @@ refused_by (Ok d) done a b c fault text one two = inr (refl, Appends-kept a b c 
 refused_by (Err e) done a b c fault text one two = absurd two
 
 -- an answer that was written
-pub told_answer : {T : Type 0} (answer : Result T Fault) (task : Task) (text : List ℕ) (a b : Option (List ℕ)) (it : Answer) → Answers task text it → Writes a b (answer_text it) answer → TellsOf task text a b answer
-told_answer (Ok done) task text a b it is written = record { answer = it; answers = is; written = written }
-told_answer (Err fault) task text a b it is written = inl written
+pub told_answer : (answer : Result Matter Fault) (task : Task) (text : List ℕ) (a b : Option (List ℕ)) (it : Answer) → Answers task text it → Writes a b (answer_text it) answer → IfOk answer (λ m. matter_status m ≡ answer_status it)
+    → TellsOf task text a b answer
+told_answer (Ok matter) task text a b it is written same = (record { answer = it; answers = is; written = written }, same)
+told_answer (Err fault) task text a b it is written same = inl written
 
 -- a fault whose line was written
 pub told_fault : (task : Task) (text : List ℕ) (a b : Option (List ℕ)) (fault told : Fault) → IsRefused (mode_for task) text fault → RefusesBy fault text a b told → IsRefusedFor (mode_for task) text a b told
@@ -63,14 +65,14 @@ undone (Ok did) task input a b by = absurd by
 undone (Err told) task input a b by = unread input a b OutOfMemory told (inr refl) by (mode_for task)
 
 -- a task that was done for the text that was read
-pub done : {T : Type 0} (answer : Result T Fault) (task : Task) (input a b c : Option (List ℕ)) (text : List ℕ) → IsTextOf input text → b ≡ a → TellsOf task text b c answer → IsDoneFor task input a c answer
-done (Ok did) task input a b c text read same told =
-    record { text = text; read = read; answer = told.answer; answers = told.answers; written = subst (λ (o : Option (List ℕ)). Appends o c (answer_text told.answer)) same told.written }
+pub done : (answer : Result Matter Fault) (task : Task) (input a b c : Option (List ℕ)) (text : List ℕ) → IsTextOf input text → b ≡ a → TellsOf task text b c answer → IsDoneFor task input a c answer
+done (Ok matter) task input a b c text read same told =
+    (record { text = text; read = read; answer = told.0.answer; answers = told.0.answers; written = subst (λ (o : Option (List ℕ)). Appends o c (answer_text told.0.answer)) same told.0.written }, told.1)
 done (Err fault) task input a b c text read same (inl unwritten) = inl unwritten
 done (Err fault) task input a b c text read same (inr by) =
     inr (inr (record { text = text; read = read; refused = by.0; written = subst (λ (o : Option (List ℕ)). Appends o c (fault_text text fault)) same by.1 }))
 
 -- its status
-pub performed : {T : Type 0} (answer : Result T Fault) (task : Task) (input a b : Option (List ℕ)) (status : ℕ) → IsDoneFor task input a b answer → status ≡ status_of answer → IsPerformed task input a b status
-performed (Ok did) task input a b status it is = inl (is, it)
+pub performed : (answer : Result Matter Fault) (task : Task) (input a b : Option (List ℕ)) (status : ℕ) → IsDoneFor task input a b answer → status ≡ status_of answer → IsPerformed task input a b status
+performed (Ok matter) task input a b status it is = inl (is.0, it ∙ is.1)
 performed (Err fault) task input a b status it is = inr (is, (fault, it))

@@ -1,5 +1,5 @@
 -- What the program answers of a text.
-use Rattle.std.specs.Prelude.{ℕ, ◌≡◌, ◌+◌, ◌*◌, List, length, take, slice_get, Some, sum_by}
+use Rattle.std.specs.Prelude.{ℕ, ◌≡◌, ◌+◌, ◌*◌, List, [], length, take, slice_get, Some, sum_by}
 use Rattle.std.specs.Arc.{arc_value}
 use Rattle.cc_ast.specs.Source.{source}
 use Rattle.cc_ast.specs.Tree.{Source}
@@ -17,14 +17,15 @@ use Rattle.cc_link.specs.Agree.{Agree, AgreeIn}
 use Rattle.cc_link.specs.Compile.{IsBuildRefusalIn}
 use Rattle.cc_link.specs.Text.{IsProgramText, IsTextRefusal}
 use Rattle.cc_link.specs.declared.build_fault.BuildFault.TheVariants as build
+use Rattle.cc_safe.specs.Safe.{IsSafe}
 use Rattle.cc_size.specs.Sized.{IsSizedIn}
 use Rattle.cc_size.specs.declared.size.FunctionSize.{FunctionSize}
 use Rattle.cc_task.specs.declared.task.Kind.{Kind}
 use Rattle.cc_task.specs.declared.task.Kind.TheVariants.{Plain, Checked}
 use Rattle.cc_task.specs.declared.task.Task.{Task}
-use Rattle.cc_task.specs.declared.task.Task.TheVariants.{Check, Interpret, Run, Asm, Image as ImageTask, Size}
+use Rattle.cc_task.specs.declared.task.Task.TheVariants.{Check, Interpret, Run, Asm, Image as ImageTask, Size, Safe}
 use Rattle.cc_tasks.specs.declared.answer.Answer.{Answer}
-use Rattle.cc_tasks.specs.declared.answer.Answer.TheVariants.{Accepted, Ran, Executed, Listed, Image as InHex, Sized as Measured}
+use Rattle.cc_tasks.specs.declared.answer.Answer.TheVariants.{Accepted, Ran, Executed, Listed, Image as InHex, Sized as Measured, Judged}
 use Rattle.cc_tasks.specs.declared.sizing.Measure.{Measure}
 use Rattle.cc_tasks.specs.declared.sizing.SizedFunction.{SizedFunction}
 use Rattle.cc_tasks.specs.declared.fault.Fault.{Fault}
@@ -58,6 +59,7 @@ mode_for (Run kind steps words) = mode_of kind
 mode_for (Asm kind) = mode_of kind
 mode_for (ImageTask kind) = mode_of kind
 mode_for (Size kind) = mode_of kind
+mode_for Safe = mode.Plain
 
 -- what `run` answers: what an image does that agrees with the text, and follows what its program shows in the mode
 abbrev pub IsExecuted : Mode → (steps : ℕ) → (words text : List ℕ) → Answer → Type 0
@@ -104,6 +106,11 @@ abbrev pub IsMeasured : Mode → (text : List ℕ) → Answer → Type 0
 IsMeasured m text (Measured it) = Measures m text it
 IsMeasured m text answer = ⊥
 
+-- what `safe` answers: if nothing may go wrong, that the program goes wrong for no cause, on no input and at no bound
+abbrev pub IsJudged : (text : List ℕ) → Answer → Type 0
+IsJudged text (Judged lines) = (p : ProgramOf text) × (lines.items ≡ [] → IsSafe p.program)
+IsJudged text answer = ⊥
+
 -- the answer to a task for a text
 abbrev pub Answers : Task → (text : List ℕ) → Answer → Type 0
 Answers Check text answer = IsAccepted text answer
@@ -112,6 +119,7 @@ Answers (Run kind steps words) text answer = IsExecuted (mode_of kind) steps wor
 Answers (Asm kind) text answer = IsListed (mode_of kind) text answer
 Answers (ImageTask kind) text answer = IsImage (mode_of kind) text answer
 Answers (Size kind) text answer = IsMeasured (mode_of kind) text answer
+Answers Safe text answer = IsJudged text answer
 
 -- why a text gets no answer: it is no program's, it has no image in the mode, or memory was refused
 abbrev pub IsRefused : Mode → List ℕ → Fault → Type 0

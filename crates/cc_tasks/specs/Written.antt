@@ -1,5 +1,5 @@
 -- What the program writes of a text, byte for byte, and what it has then done.
-use Rattle.std.specs.Prelude.{◌≡◌, ◌⊎◌, ℕ, List, [], ◌++◌, Option, Result, Ok, Err, Vec, codes}
+use Rattle.std.specs.Prelude.{◌≡◌, ◌⊎◌, ℕ, List, [], ◌∷◌, ◌++◌, Option, Some, None, Result, Ok, Err, Vec, codes}
 use Rattle.std.specs.declared.alloc.Global.{Global}
 use Rattle.std.specs.Fmt.{decimal}
 use Rattle.std.specs.List.{flat_map}
@@ -11,6 +11,7 @@ use Rattle.cc_meaning.specs.declared.outcome.Stop.{Stop}
 use Rattle.cc_meaning.specs.declared.outcome.Stop.TheVariants.{Going, Ended, Wrong}
 use Rattle.cc_meaning.specs.declared.outcome.Outcome.{Outcome}
 use Rattle.cc_rv32.specs.Listing.{hexadecimal, signed_text}
+use Rattle.cc_tokens.specs.declared.place.Place.{Place}
 use Rattle.cc_link.specs.Text.{text_fault_place}
 use Rattle.cc_sources.specs.Reading.{IsTextOf}
 use Rattle.cc_answers.specs.Text.{line, words_text, run_text, fault_line, place_text, function_text}
@@ -20,7 +21,8 @@ use Rattle.cc_tasks.specs.Answer.{Answers, IsRefused, mode_for}
 use Rattle.cc_tasks.specs.Fault.{fault_number}
 use Rattle.cc_tasks.specs.Part.{part_fault_number}
 use Rattle.cc_tasks.specs.declared.answer.Answer.{Answer}
-use Rattle.cc_tasks.specs.declared.answer.Answer.TheVariants.{Accepted, Ran, Executed, Listed, Image, Sized}
+use Rattle.cc_tasks.specs.declared.answer.Answer.TheVariants.{Accepted, Ran, Executed, Listed, Image, Sized, Judged}
+use Rattle.cc_tasks.specs.declared.judging.Unsure.{Unsure}
 use Rattle.cc_tasks.specs.declared.sizing.CyclicCall.{CyclicCall}
 use Rattle.cc_tasks.specs.declared.sizing.Measure.{Measure}
 use Rattle.cc_tasks.specs.declared.sizing.SizedFunction.{SizedFunction}
@@ -75,6 +77,24 @@ cycle_text it = codes "recursion " ++ name_text it.caller.items ++ line it.calle
 abbrev pub measure_text : Measure → List ℕ
 measure_text it = flat_map function_size_text it.functions.items ++ whole_size_text it.sized.size ++ flat_map cycle_text it.cycles.items
 
+-- what may go wrong: why, and where in the text, or in which function
+abbrev pub in_function_text : (name : List ℕ) → List ℕ
+in_function_text name = codes " in " ++ name ++ codes "\n"
+
+abbrev pub place_or_function : Option Place → (name : List ℕ) → List ℕ
+place_or_function (Some p) name = line (codes " at " ++ decimal p.line ++ codes ":" ++ decimal p.column)
+place_or_function None name = in_function_text name
+
+abbrev pub where_unsure_text : Unsure → List ℕ
+where_unsure_text it = place_or_function it.place it.function.items
+
+abbrev pub unsure_text : Unsure → List ℕ
+unsure_text it = codes "unsure " ++ cause_name it.cause ++ where_unsure_text it
+
+abbrev pub judged_text : List Unsure → List ℕ
+judged_text [] = codes "safe\n"
+judged_text (it ∷ rest) = flat_map unsure_text (it ∷ rest)
+
 abbrev pub answer_text : Answer → List ℕ
 answer_text Accepted = line (codes "ok")
 answer_text (Ran outcome) = outcome_text outcome
@@ -82,6 +102,16 @@ answer_text (Executed run) = run_text run
 answer_text (Listed lines) = lines.items
 answer_text (Image lines) = lines.items
 answer_text (Sized it) = measure_text it
+answer_text (Judged lines) = judged_text lines.items
+
+-- the status of an answer: 1 if something may go wrong
+abbrev pub judged_status : List Unsure → ℕ
+judged_status [] = 0
+judged_status (it ∷ rest) = 1
+
+abbrev pub answer_status : Answer → ℕ
+answer_status (Judged lines) = judged_status lines.items
+answer_status answer = 0
 
 -- ---- the line of a fault
 
@@ -128,7 +158,7 @@ pub record IsTurnedDown (mode : Mode) (input old new : Option (List ℕ)) (fault
 abbrev pub HasNoAnswer : Mode → (input old new : Option (List ℕ)) → Fault → Type 0
 HasNoAnswer mode input old new fault = (fault ≡ Write) ⊎ (((fault ≡ Read) × Appends old new (fault_text [] Read)) ⊎ IsTurnedDown mode input old new fault)
 
--- a task was done with this status: 0 for an answer, 1 for a fault
+-- a task was done with this status: that of its answer, and 1 for a fault
 abbrev pub IsPerformed : Task → (input old new : Option (List ℕ)) → (status : ℕ) → Type 0
 IsPerformed task input old new status =
-    ((status ≡ 0) × IsAnswered task input old new) ⊎ ((status ≡ 1) × ((fault : Fault) × HasNoAnswer (mode_for task) input old new fault))
+    ((it : IsAnswered task input old new) × (status ≡ answer_status it.answer)) ⊎ ((status ≡ 1) × ((fault : Fault) × HasNoAnswer (mode_for task) input old new fault))

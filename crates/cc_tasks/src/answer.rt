@@ -5,9 +5,10 @@ ghost use Rattle.cc_c_laws.specs.declared.mode.Mode.{Mode};
 ghost use Rattle.cc_c_laws.specs.declared.mode.Mode.TheVariants.{Plain};
 ghost use Rattle.cc_link.specs.Agree.{Agree, AgreeIn};
 ghost use Rattle.cc_link.specs.Compile.{IsBuildRefusalIn};
-ghost use Rattle.cc_tasks.specs.Answer.{IsAccepted, IsRan, IsExecuted, IsListed, IsImage, IsMeasured, Answers, IsRefused, mode_of, mode_for};
+ghost use Rattle.cc_tasks.specs.Answer.{IsAccepted, IsRan, IsExecuted, IsListed, IsImage, IsJudged, IsMeasured, Answers, IsRefused, mode_of, mode_for};
 
 use super::fault::Fault;
+use super::judging::{Unsure, judge};
 use super::sizing::{Measure, measured};
 use cc_answers::{ImageRun, run_image};
 use cc_hex::image::write;
@@ -33,6 +34,8 @@ pub enum Answer {
     Image(Vec<u8>),
     /// What the program's image takes.
     Sized(Measure),
+    /// What may go wrong in the program, where it is not said that nothing may.
+    Judged(Vec<Unsure>),
 }
 
 // That the text is a program.
@@ -158,6 +161,21 @@ fn sized(alloc: Global, mode: Mode, text: &[u8]) -> Result<Answer, Fault>
     }
 }
 
+// What may go wrong in the program.
+fn judged(alloc: Global, text: &[u8]) -> Result<Answer, Fault>
+    ensures answer { IfOk result (λ answer. IsJudged text.now answer) }
+    ensures refused { IfErr result (λ fault. IsRefused Plain text.now fault) }
+{
+    let program = match typed_unit(alloc, text) {
+        Ok(program) => program,
+        Err(fault) => return Err(Fault::Text(fault)),
+    };
+    match judge(alloc, text, &program) {
+        Ok(lines) => Ok(Answer::Judged(lines)),
+        Err(_) => Err(Fault::OutOfMemory),
+    }
+}
+
 /// The answer to a task for a text: `check` and `interpret` by its tree, `run`, `asm`, `image` and `size` by its image, which agrees with it and follows
 /// what the program shows in its mode.
 ///
@@ -176,5 +194,6 @@ pub fn answer_for(alloc: Global, task: &Task, text: &[u8]) -> Result<Answer, Fau
         Task::Asm(kind) => listed(alloc, mode_of(*kind), text),
         Task::Image(kind) => in_hex(alloc, mode_of(*kind), text),
         Task::Size(kind) => sized(alloc, mode_of(*kind), text),
+        Task::Safe => judged(alloc, text),
     }
 }

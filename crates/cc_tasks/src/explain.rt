@@ -20,6 +20,8 @@ pub(crate) enum Matter {
     Wrong(Cause),
     /// Whether an image that goes on has stopped in place.
     Going,
+    /// Nothing; the program may go wrong.
+    Unsure,
 }
 
 /// What is told beside the answer to a text.
@@ -96,9 +98,12 @@ pub fn explanation_of_wrong(alloc: Global, task: &Task, text: &[u8], cause: Caus
             let told = of_wrong(alloc, text, words.as_slice(), *steps, cause);
             Explanation::first(alloc, told)
         }
-        Task::Check | Task::Run(_, _, _) | Task::Asm(_) | Task::Image(_) | Task::Size(_) => {
-            Explanation::words(alloc, None)
-        }
+        Task::Check
+        | Task::Run(_, _, _)
+        | Task::Asm(_)
+        | Task::Image(_)
+        | Task::Size(_)
+        | Task::Safe => Explanation::words(alloc, None),
     }
 }
 

@@ -11,6 +11,7 @@
 mod answer;
 mod explain;
 mod fault;
+mod judging;
 mod part;
 mod recursion;
 mod sizing;
@@ -26,6 +27,7 @@ pub use explain::{
     write_explanation,
 };
 pub use fault::Fault;
+pub use judging::Unsure;
 pub use part::{PartFault, explain_absent, part_in, part_of, take_out, write_part};
 pub use sizing::{CyclicCall, Measure, SizedFunction};
 pub use stages::{perform_and_explain_stages, perform_stages};

@@ -12,7 +12,7 @@ pub(crate) struct Recursion {
     pub(crate) called: usize,
 }
 
-fn bit(function: usize) -> u64 {
+pub(crate) fn bit(function: usize) -> u64 {
     if function < 64 { 1 << function } else { 0 }
 }
 
@@ -57,14 +57,19 @@ fn all_reached(alloc: Global, calls: &[u64]) -> Result<Vec<u64>, AllocError> {
     Ok(reached)
 }
 
-/// The calls that are part of a cycle, by who calls and then by who is called.
+/// The calls of functions of pieces that are part of a cycle.
 pub(crate) fn recursions(alloc: Global, pieces: &[Piece]) -> Result<Vec<Recursion>, AllocError> {
     let calls = all_called(alloc, pieces)?;
-    let reached = all_reached(alloc, calls.as_slice())?;
+    cyclic(alloc, calls.as_slice())
+}
+
+/// The calls that are part of a cycle, by who calls and then by who is called, where each function calls so many.
+pub(crate) fn cyclic(alloc: Global, calls: &[u64]) -> Result<Vec<Recursion>, AllocError> {
+    let reached = all_reached(alloc, calls)?;
     let mut found = Vec::new(alloc);
-    for caller in 0..pieces.len() {
-        let own = row(calls.as_slice(), caller);
-        for called in 0..pieces.len() {
+    for caller in 0..calls.len() {
+        let own = row(calls, caller);
+        for called in 0..calls.len() {
             let back = row(reached.as_slice(), called);
             if own & bit(called) != 0 && (called == caller || back & bit(caller) != 0) {
                 found.push(Recursion { caller, called })?;

@@ -1,11 +1,11 @@
 // Doing a task over any reader and writer.
 
-ghost use Rattle.std.specs.Prelude.{◌≡◌, IfOk, IfErr, OnOk};
+ghost use Rattle.std.specs.Prelude.{◌≡◌, ◌≤◌, IfOk, IfErr, OnOk};
 ghost use Rattle.std.specs.Io.KnownBytes.{Appends};
 ghost use Rattle.cc_c_laws.specs.declared.mode.Mode.{Mode};
 ghost use Rattle.cc_sources.specs.Reading.{IsTextOf};
-ghost use Rattle.cc_tasks.specs.Written.{answer_text, cause_name, outcome_text, stop_text, HasNoAnswer, IsPerformed, Writes};
-ghost use Rattle.cc_tasks.specs.internal.Working.{Flushes, IsDoneFor, RefusesBy, TellsOf, status_of};
+ghost use Rattle.cc_tasks.specs.Written.{answer_status, answer_text, cause_name, outcome_text, stop_text, HasNoAnswer, IsPerformed, Writes};
+ghost use Rattle.cc_tasks.specs.internal.Working.{Flushes, IsDoneFor, RefusesBy, TellsOf, matter_status, status_of};
 
 use super::answer::{Answer, answer_for};
 use super::explain::{
@@ -13,6 +13,7 @@ use super::explain::{
     explanation_of_wrong, write_explanation,
 };
 use super::fault::Fault;
+use super::judging::write_judged;
 use super::sizing::write_measure;
 use super::source::read_source;
 use cc_answers::{write_run, write_words};
@@ -23,7 +24,7 @@ use cc_task::Task;
 use std::alloc::Global;
 use std::io::{self, Read, Write};
 
-fn cause_name(cause: Cause) -> &'static str
+pub(crate) fn cause_name(cause: Cause) -> &'static str
     ensures { result.now ≡ cause_name cause }
 {
     match cause {
@@ -64,6 +65,7 @@ fn write_answer<W: Write>(answer: &Answer, writer: &mut W) -> io::Result<()>
         Answer::Listed(lines) => writer.write_all(lines.as_slice()),
         Answer::Image(lines) => writer.write_all(lines.as_slice()),
         Answer::Sized(it) => write_measure(it, writer),
+        Answer::Judged(lines) => write_judged(lines.as_slice(), writer),
     }
 }
 
@@ -81,7 +83,9 @@ pub(crate) fn flushed<W: Write>(write: io::Result<()>, writer: &mut W) -> Result
 }
 
 // What an answer leaves to be explained.
-fn matter_of(answer: &Answer) -> Matter {
+fn matter_of(answer: &Answer) -> Matter
+    ensures { matter_status result ≡ answer_status answer.now }
+{
     match answer {
         Answer::Ran(outcome) => match outcome.stop {
             Stop::Wrong(cause) => Matter::Wrong(cause),
@@ -91,7 +95,12 @@ fn matter_of(answer: &Answer) -> Matter {
             MachineOutcome::Going => Matter::Going,
             MachineOutcome::Exited(_) | MachineOutcome::Trapped => Matter::Text,
         },
-        Answer::Accepted | Answer::Listed(_) | Answer::Image(_) | Answer::Sized(_) => Matter::Text,
+        Answer::Judged(lines) if !lines.is_empty() => Matter::Unsure,
+        Answer::Accepted
+        | Answer::Listed(_)
+        | Answer::Image(_)
+        | Answer::Sized(_)
+        | Answer::Judged(_) => Matter::Text,
     }
 }
 
@@ -113,7 +122,8 @@ pub(crate) fn refused<W: Write>(fault: Fault, text: &[u8], writer: &mut W) -> Fa
 // Writes an answer. The result is what it leaves to be explained.
 #[tactic(auto, using(crate::proofs::Working::written))]
 fn tell_answer<W: Write>(answer: &Answer, writer: &mut W) -> Result<Matter, Fault>
-    ensures { Writes (W.contents writer.old) (W.contents writer.new) (answer_text answer.now) result }
+    ensures written { Writes (W.contents writer.old) (W.contents writer.new) (answer_text answer.now) result }
+    ensures matter { IfOk result (λ matter. matter_status matter ≡ answer_status answer.now) }
 {
     let write = write_answer(answer, writer);
     match flushed(write, writer) {
@@ -191,6 +201,7 @@ pub(crate) fn explain<W: Write>(
         Ok(Matter::Text) => explanation_of_program(alloc, text),
         Ok(Matter::Wrong(cause)) => explanation_of_wrong(alloc, task, text, *cause),
         Ok(Matter::Going) => explanation_of_going(alloc, task, text),
+        Ok(Matter::Unsure) => explanation_of_program(alloc, text),
         Err(fault) => explanation_of_fault(alloc, text, fault),
     };
     let _ = write_explanation(alloc, text, origin, &explanation, writer);
@@ -199,17 +210,19 @@ pub(crate) fn explain<W: Write>(
 
 /// The status of a task that was done.
 pub(crate) fn status(performed: Performed) -> u8
-    ensures { result ≡ status_of performed.told }
+    ensures answer { result ≡ status_of performed.told }
+    ensures bound { result ≤ 1 }
 {
     match &performed.told {
-        Ok(_) => 0,
+        Ok(Matter::Text) | Ok(Matter::Wrong(_)) | Ok(Matter::Going) => 0,
+        Ok(Matter::Unsure) => 1,
         Err(_) => 1,
     }
 }
 
 /// Does a task: reads the text from `reader`, and writes the answer or the fault's line to `writer`.
 ///
-/// The status is 0 for an answer and 1 for a fault. A read that fails is fault 53; a write that fails is fault 54, of
+/// The status is 0 for an answer, but 1 for one of `safe` that the program may go wrong, and 1 for a fault. A read that fails is fault 53; a write that fails is fault 54, of
 /// which no line is written.
 #[tactic(auto, using(crate::proofs::Working::performed))]
 pub fn perform<H: AllocGlobal, R: Read, W: Write>(

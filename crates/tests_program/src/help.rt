@@ -18,6 +18,7 @@ Commands:
   asm        Compile the program and list its image
   stages     Show what the compiler makes of each function, stage by stage
   size       Say how much the program's image takes: its code, its globals, and a stack that is enough
+  safe       Say `safe` if the program can't go wrong, whatever it reads; else which functions may
   image      Compile the program and print its image as Intel HEX, or print that of a unit of a library
   source     Print the source of a unit of a library
   call       Run a unit of a library on input words
@@ -44,6 +45,7 @@ Examples:
   cclib asm < examples/quotient.c
   cclib stages main < examples/quotient.c
   cclib size < examples/quotient.c
+  cclib safe < examples/quotient.c
   cclib image < examples/quotient.c > quotient.hex
   cclib library units.disk --format 65536 < examples/units.script
   cclib image units.disk sum > sum.hex

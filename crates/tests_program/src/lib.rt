@@ -30,6 +30,8 @@ mod programs;
 #[cfg(test)]
 mod refusals;
 #[cfg(test)]
+mod safety;
+#[cfg(test)]
 mod screens;
 #[cfg(test)]
 mod sizes;

@@ -144,6 +144,9 @@ fn checked_images(rt: HostRuntime) {
             }))
         )
     );
+    let asked = line(alloc, &["cclib", "safe"]);
+    assert!(rt; matches!(asked, Ok(Work::One(Task::Safe))));
+    assert!(rt; is_refused(alloc, &["cclib", "safe", "--checked"]));
     let asked = line(alloc, &["cclib", "size"]);
     assert!(rt; matches!(asked, Ok(Work::One(Task::Size(Kind::Plain)))));
     let asked = line(alloc, &["cclib", "image", "--checked"]);

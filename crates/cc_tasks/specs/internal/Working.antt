@@ -4,8 +4,10 @@ use Rattle.std.specs.Io.KnownBytes.{Appends, Keeps}
 use Rattle.cc_task.specs.declared.task.Task.{Task}
 use Rattle.cc_c_laws.specs.declared.mode.Mode.{Mode}
 use Rattle.cc_tasks.specs.Answer.{Answers, IsRefused, mode_for}
-use Rattle.cc_tasks.specs.Written.{IsAnswered, HasNoAnswer, answer_text, fault_text}
+use Rattle.cc_tasks.specs.Written.{IsAnswered, HasNoAnswer, answer_status, answer_text, fault_text}
 use Rattle.cc_tasks.specs.declared.answer.Answer.{Answer}
+use Rattle.cc_tasks.specs.declared.explain.Matter.{Matter}
+use Rattle.cc_tasks.specs.declared.explain.Matter.TheVariants.{Text, Wrong, Going, Unsure}
 use Rattle.cc_tasks.specs.declared.fault.Fault.{Fault}
 use Rattle.cc_tasks.specs.declared.fault.Fault.TheVariants.{Write}
 
@@ -29,17 +31,24 @@ pub record IsAnsweredFor (task : Task) (text : List ℕ) (old new : Option (List
 abbrev pub IsRefusedFor : Mode → (text : List ℕ) (old new : Option (List ℕ)) → Fault → Type 0
 IsRefusedFor mode text old new fault = (fault ≡ Write) ⊎ (IsRefused mode text fault × Appends old new (fault_text text fault))
 
+-- the status of an answer that leaves this to be explained
+abbrev pub matter_status : Matter → ℕ
+matter_status Text = 0
+matter_status (Wrong cause) = 0
+matter_status Going = 0
+matter_status Unsure = 1
+
 -- the answer was written, or the fault's line
-abbrev pub TellsOf : {T : Type 0} → Task → (text : List ℕ) (old new : Option (List ℕ)) → Result T Fault → Type 0
-TellsOf task text old new (Ok done) = IsAnsweredFor task text old new
+abbrev pub TellsOf : Task → (text : List ℕ) (old new : Option (List ℕ)) → Result Matter Fault → Type 0
+TellsOf task text old new (Ok matter) = (it : IsAnsweredFor task text old new) × (matter_status matter ≡ answer_status it.answer)
 TellsOf task text old new (Err fault) = IsRefusedFor (mode_for task) text old new fault
 
 -- the task was done for a reader's text
-abbrev pub IsDoneFor : {T : Type 0} → Task → (input old new : Option (List ℕ)) → Result T Fault → Type 0
-IsDoneFor task input old new (Ok done) = IsAnswered task input old new
+abbrev pub IsDoneFor : Task → (input old new : Option (List ℕ)) → Result Matter Fault → Type 0
+IsDoneFor task input old new (Ok matter) = (it : IsAnswered task input old new) × (matter_status matter ≡ answer_status it.answer)
 IsDoneFor task input old new (Err fault) = HasNoAnswer (mode_for task) input old new fault
 
--- the status: 0 for an answer, 1 for a fault
-abbrev pub status_of : {T : Type 0} → Result T Fault → ℕ
-status_of (Ok done) = 0
+-- the status: that of the answer, 1 for a fault
+abbrev pub status_of : Result Matter Fault → ℕ
+status_of (Ok matter) = matter_status matter
 status_of (Err fault) = 1
