@@ -1,5 +1,5 @@
 -- What the program answers of a text.
-use Rattle.std.specs.Prelude.{ℕ, ◌≡◌, ◌+◌, ◌*◌, List, [], length, take, slice_get, Some, sum_by}
+use Rattle.std.specs.Prelude.{ℕ, ◌≡◌, ◌+◌, ◌*◌, true, List, [], length, take, slice_get, Some, sum_by}
 use Rattle.std.specs.Arc.{arc_value}
 use Rattle.cc_ast.specs.Source.{source}
 use Rattle.cc_ast.specs.Tree.{Source}
@@ -17,15 +17,17 @@ use Rattle.cc_link.specs.Agree.{Agree, AgreeIn}
 use Rattle.cc_link.specs.Compile.{IsBuildRefusalIn}
 use Rattle.cc_link.specs.Text.{IsProgramText, IsTextRefusal}
 use Rattle.cc_link.specs.declared.build_fault.BuildFault.TheVariants as build
+use Rattle.cc_runs.specs.Count.{IsCounted}
 use Rattle.cc_safe.specs.Safe.{IsSafe}
 use Rattle.cc_size.specs.Sized.{IsSizedIn}
 use Rattle.cc_size.specs.declared.size.FunctionSize.{FunctionSize}
+use Rattle.cc_steps.specs.Count.{IsStepCount}
 use Rattle.cc_task.specs.declared.task.Kind.{Kind}
 use Rattle.cc_task.specs.declared.task.Kind.TheVariants.{Plain, Checked}
 use Rattle.cc_task.specs.declared.task.Task.{Task}
-use Rattle.cc_task.specs.declared.task.Task.TheVariants.{Check, Interpret, Run, Asm, Image as ImageTask, Size, Safe}
+use Rattle.cc_task.specs.declared.task.Task.TheVariants.{Check, Interpret, Run, InterpretCounted, RunCounted, Asm, Image as ImageTask, Size, Safe}
 use Rattle.cc_tasks.specs.declared.answer.Answer.{Answer}
-use Rattle.cc_tasks.specs.declared.answer.Answer.TheVariants.{Accepted, Ran, Executed, Listed, Image as InHex, Sized as Measured, Judged}
+use Rattle.cc_tasks.specs.declared.answer.Answer.TheVariants.{Accepted, Ran, Executed, RanCounted, ExecutedCounted, Listed, Image as InHex, Sized as Measured, Judged}
 use Rattle.cc_tasks.specs.declared.sizing.Measure.{Measure}
 use Rattle.cc_tasks.specs.declared.sizing.SizedFunction.{SizedFunction}
 use Rattle.cc_tasks.specs.declared.fault.Fault.{Fault}
@@ -56,6 +58,8 @@ abbrev pub mode_for : Task → Mode
 mode_for Check = mode.Plain
 mode_for (Interpret steps words) = mode.Plain
 mode_for (Run kind steps words) = mode_of kind
+mode_for (InterpretCounted steps words) = mode.Plain
+mode_for (RunCounted kind steps words) = mode_of kind
 mode_for (Asm kind) = mode_of kind
 mode_for (ImageTask kind) = mode_of kind
 mode_for (Size kind) = mode_of kind
@@ -65,6 +69,17 @@ mode_for Safe = mode.Plain
 abbrev pub IsExecuted : Mode → (steps : ℕ) → (words text : List ℕ) → Answer → Type 0
 IsExecuted m steps words text (Executed done) = (image : Image) × Agree text image × AgreeIn m text image × IsRunOf image steps words done
 IsExecuted m steps words text answer = ⊥
+
+-- what `interpret --count` answers: what the program does within the steps, and the least number of steps with that end
+abbrev pub IsRanCounted : (steps : ℕ) → (words text : List ℕ) → Answer → Type 0
+IsRanCounted steps words text (RanCounted done) =
+    (p : ProgramOf text) × (outcome_tree done.outcome ≡ source_behavior p.program words steps) × IsStepCount p.program steps words done.steps
+IsRanCounted steps words text answer = ⊥
+
+-- what `run --count` answers: what such an image does, and the least number of instructions with that end
+abbrev pub IsExecutedCounted : Mode → (steps : ℕ) → (words text : List ℕ) → Answer → Type 0
+IsExecutedCounted m steps words text (ExecutedCounted done) = (image : Image) × Agree text image × AgreeIn m text image × IsCounted image true steps words done
+IsExecutedCounted m steps words text answer = ⊥
 
 -- what `asm` answers: the listing of such an image
 abbrev pub IsListed : Mode → (text : List ℕ) → Answer → Type 0
@@ -116,6 +131,8 @@ abbrev pub Answers : Task → (text : List ℕ) → Answer → Type 0
 Answers Check text answer = IsAccepted text answer
 Answers (Interpret steps words) text answer = IsRan steps words.items text answer
 Answers (Run kind steps words) text answer = IsExecuted (mode_of kind) steps words.items text answer
+Answers (InterpretCounted steps words) text answer = IsRanCounted steps words.items text answer
+Answers (RunCounted kind steps words) text answer = IsExecutedCounted (mode_of kind) steps words.items text answer
 Answers (Asm kind) text answer = IsListed (mode_of kind) text answer
 Answers (ImageTask kind) text answer = IsImage (mode_of kind) text answer
 Answers (Size kind) text answer = IsMeasured (mode_of kind) text answer

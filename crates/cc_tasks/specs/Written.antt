@@ -15,13 +15,15 @@ use Rattle.cc_tokens.specs.declared.place.Place.{Place}
 use Rattle.cc_link.specs.Text.{text_fault_place}
 use Rattle.cc_sources.specs.Reading.{IsTextOf}
 use Rattle.cc_answers.specs.Text.{line, words_text, run_text, fault_line, place_text, function_text}
+use Rattle.cc_runs.specs.Written.{counted_text}
 use Rattle.cc_size.specs.declared.size.UnitSize.{UnitSize}
+use Rattle.cc_steps.specs.declared.count.CountedOutcome.{CountedOutcome}
 use Rattle.cc_task.specs.declared.task.Task.{Task}
 use Rattle.cc_tasks.specs.Answer.{Answers, IsRefused, mode_for}
 use Rattle.cc_tasks.specs.Fault.{fault_number}
 use Rattle.cc_tasks.specs.Part.{part_fault_number}
 use Rattle.cc_tasks.specs.declared.answer.Answer.{Answer}
-use Rattle.cc_tasks.specs.declared.answer.Answer.TheVariants.{Accepted, Ran, Executed, Listed, Image, Sized, Judged}
+use Rattle.cc_tasks.specs.declared.answer.Answer.TheVariants.{Accepted, Ran, Executed, RanCounted, ExecutedCounted, Listed, Image, Sized, Judged}
 use Rattle.cc_tasks.specs.declared.judging.Unsure.{Unsure}
 use Rattle.cc_tasks.specs.declared.sizing.CyclicCall.{CyclicCall}
 use Rattle.cc_tasks.specs.declared.sizing.Measure.{Measure}
@@ -48,6 +50,13 @@ stop_text (Wrong c) = line (codes "wrong " ++ cause_name c)
 -- the words that a program writes, and how it stops
 abbrev pub outcome_text : Outcome → List ℕ
 outcome_text o = words_text o.output ++ stop_text o.stop
+
+-- the same, and the line of its steps
+abbrev pub steps_text : ℕ → List ℕ
+steps_text steps = line (codes "steps " ++ decimal steps)
+
+abbrev pub counted_outcome_text : CountedOutcome → List ℕ
+counted_outcome_text done = outcome_text done.outcome ++ steps_text done.steps
 
 -- a function of an image: its name and its place; its words; its frame and the longest chain of calls from it
 abbrev pub name_text : List ℕ → List ℕ
@@ -99,6 +108,8 @@ abbrev pub answer_text : Answer → List ℕ
 answer_text Accepted = line (codes "ok")
 answer_text (Ran outcome) = outcome_text outcome
 answer_text (Executed run) = run_text run
+answer_text (RanCounted done) = counted_outcome_text done
+answer_text (ExecutedCounted run) = counted_text run
 answer_text (Listed lines) = lines.items
 answer_text (Image lines) = lines.items
 answer_text (Sized it) = measure_text it

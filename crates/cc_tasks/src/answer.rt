@@ -7,6 +7,7 @@ ghost use Rattle.cc_link.specs.Agree.{Agree, AgreeIn};
 ghost use Rattle.cc_link.specs.Compile.{IsBuildRefusalIn};
 ghost use Rattle.cc_tasks.specs.Answer.{IsAccepted, IsRan, IsExecuted, IsListed, IsImage, IsJudged, IsMeasured, Answers, IsRefused, mode_of, mode_for};
 
+use super::counting::{executed_counted, ran_counted};
 use super::fault::Fault;
 use super::judging::{Unsure, judge};
 use super::sizing::{Measure, measured};
@@ -14,8 +15,10 @@ use cc_answers::{ImageRun, run_image};
 use cc_hex::image::write;
 use cc_link::{BuildFault, CompiledUnit, Mode, compile_in, typed_unit};
 use cc_meaning::{Outcome, interpret};
+use cc_runs::CountedRun;
 use cc_rv32::listing::list;
 use cc_size::size_in;
+use cc_steps::CountedOutcome;
 use cc_task::{Kind, Task};
 use std::alloc::Global;
 
@@ -28,6 +31,10 @@ pub enum Answer {
     Ran(Outcome),
     /// What the program's image has written, and what its run has come to.
     Executed(ImageRun),
+    /// What the program does, and in how many steps.
+    RanCounted(CountedOutcome),
+    /// What the program's image has written and come to, and in how many instructions.
+    ExecutedCounted(CountedRun),
     /// The listing of the program's image.
     Listed(Vec<u8>),
     /// The program's image as Intel HEX.
@@ -85,8 +92,8 @@ fn fault_of_build(fault: BuildFault) -> Fault
     }
 }
 
-// The compiled unit of a text in a mode.
-fn compiled(alloc: Global, mode: Mode, text: &[u8]) -> Result<CompiledUnit, Fault>
+/// The compiled unit of a text in a mode.
+pub(crate) fn compiled(alloc: Global, mode: Mode, text: &[u8]) -> Result<CompiledUnit, Fault>
     ensures agrees { IfOk result (λ unit. Agree text.now unit.image) }
     ensures follows { IfOk result (λ unit. AgreeIn mode text.now unit.image) }
     ensures refused { IfErr result (λ fault. IsRefused mode text.now fault) }
@@ -190,6 +197,10 @@ pub fn answer_for(alloc: Global, task: &Task, text: &[u8]) -> Result<Answer, Fau
         Task::Interpret(steps, words) => ran(alloc, text, words.as_slice(), *steps),
         Task::Run(kind, steps, words) => {
             executed(alloc, mode_of(*kind), text, words.as_slice(), *steps)
+        }
+        Task::InterpretCounted(steps, words) => ran_counted(alloc, text, words.as_slice(), *steps),
+        Task::RunCounted(kind, steps, words) => {
+            executed_counted(alloc, mode_of(*kind), text, words.as_slice(), *steps)
         }
         Task::Asm(kind) => listed(alloc, mode_of(*kind), text),
         Task::Image(kind) => in_hex(alloc, mode_of(*kind), text),

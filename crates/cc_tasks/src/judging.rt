@@ -172,10 +172,10 @@ fn add_places(
     Ok(())
 }
 
-// Whether a line is of the function of this name.
+// Whether a line names a place in the function of this name.
 fn has_line(lines: &[Unsure], name: &[u8]) -> bool {
     for line in lines {
-        if line.function.as_slice() == name {
+        if line.place.is_some() && line.function.as_slice() == name {
             return true;
         }
     }
@@ -249,7 +249,23 @@ fn add_cycles(
     Ok(())
 }
 
-// What may go wrong in a program.
+// What may go wrong in a program of which there are instructions.
+fn add_lines(
+    alloc: Global,
+    lines: &mut Vec<Unsure>,
+    text: &[u8],
+    unit: &TypedUnit,
+    code: &Bytecode<'_>,
+    found: &Safety,
+) -> Result<(), AllocError> {
+    add_places(alloc, lines, text, unit, code, found.guarded.as_slice())?;
+    if !found.acyclic {
+        add_cycles(alloc, lines, code)?;
+    }
+    Ok(())
+}
+
+// What may go wrong in a program, with a line at least for each function that needs a guard.
 fn lines_of(
     alloc: Global,
     text: &[u8],
@@ -257,23 +273,12 @@ fn lines_of(
     found: &Safety,
 ) -> Result<Vec<Unsure>, AllocError> {
     let mut lines = Vec::new(alloc);
-    let Ok(parsed) = parse(alloc, text) else {
-        return Ok(lines);
-    };
-    if let Some(code) = code_of(alloc, &parsed)? {
-        add_places(
-            alloc,
-            &mut lines,
-            text,
-            unit,
-            &code,
-            found.guarded.as_slice(),
-        )?;
-        add_others(alloc, &mut lines, unit, found.guarded.as_slice())?;
-        if !found.acyclic {
-            add_cycles(alloc, &mut lines, &code)?;
+    if let Ok(parsed) = parse(alloc, text) {
+        if let Some(code) = code_of(alloc, &parsed)? {
+            add_lines(alloc, &mut lines, text, unit, &code, found)?;
         }
     }
+    add_others(alloc, &mut lines, unit, found.guarded.as_slice())?;
     Ok(lines)
 }
 

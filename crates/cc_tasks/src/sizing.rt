@@ -107,7 +107,7 @@ fn cycles(
 }
 
 /// What an image takes, with the names and places of its functions.
-pub(crate) fn measured(alloc: Global, sized: Sized) -> Result<Measure, AllocError>
+pub fn measured(alloc: Global, sized: Sized) -> Result<Measure, AllocError>
     ensures sized { IfOk result (λ it. it.sized ≡ sized) }
     ensures functions { IfOk result (λ it. AreFunctions (source (arc_value sized.made.typed)) sized.size.functions.items it.functions.items) }
 {
@@ -242,7 +242,7 @@ fn write_cycles<W: Write>(cycles: &[CyclicCall], writer: &mut W) -> io::Result<(
 
 /// Writes what an image takes: a line for each function, then the whole, then the calls that are part of a cycle.
 #[tactic(auto, using(cc_answers::proofs::Writing::written_third))]
-pub(crate) fn write_measure<W: Write>(measure: &Measure, writer: &mut W) -> io::Result<()>
+pub fn write_measure<W: Write>(measure: &Measure, writer: &mut W) -> io::Result<()>
     ensures { OnOk result (Appends (W.contents writer.old) (W.contents writer.new) (measure_text measure.now)) }
 {
     write_functions(measure.functions.as_slice(), writer)?;

@@ -4,7 +4,7 @@ ghost use Rattle.std.specs.Prelude.{◌≡◌, ◌≤◌, IfOk, IfErr, OnOk};
 ghost use Rattle.std.specs.Io.KnownBytes.{Appends};
 ghost use Rattle.cc_c_laws.specs.declared.mode.Mode.{Mode};
 ghost use Rattle.cc_sources.specs.Reading.{IsTextOf};
-ghost use Rattle.cc_tasks.specs.Written.{answer_status, answer_text, cause_name, outcome_text, stop_text, HasNoAnswer, IsPerformed, Writes};
+ghost use Rattle.cc_tasks.specs.Written.{answer_status, answer_text, cause_name, counted_outcome_text, outcome_text, steps_text, stop_text, HasNoAnswer, IsPerformed, Writes};
 ghost use Rattle.cc_tasks.specs.internal.Working.{Flushes, IsDoneFor, RefusesBy, TellsOf, matter_status, status_of};
 
 use super::answer::{Answer, answer_for};
@@ -16,10 +16,12 @@ use super::fault::Fault;
 use super::judging::write_judged;
 use super::sizing::write_measure;
 use super::source::read_source;
-use cc_answers::{write_run, write_words};
+use cc_answers::{ImageRun, write_run, write_words};
 use cc_meaning::{Cause, Outcome, Stop};
+use cc_runs::write_counted_run;
 use cc_rv32::outcome::MachineOutcome;
 use cc_sources::Origin;
+use cc_steps::CountedOutcome;
 use cc_task::Task;
 use std::alloc::Global;
 use std::io::{self, Read, Write};
@@ -54,6 +56,21 @@ fn write_outcome<W: Write>(outcome: &Outcome, writer: &mut W) -> io::Result<()>
     write_stop(outcome.stop, writer)
 }
 
+// Writes the line of a number of steps.
+fn write_steps<W: Write>(steps: u64, writer: &mut W) -> io::Result<()>
+    ensures { OnOk result (Appends (W.contents writer.old) (W.contents writer.new) (steps_text steps)) }
+{
+    writeln!(writer, "steps {steps}")
+}
+
+#[tactic(auto, using(cc_answers::proofs::Writing::written_on))]
+fn write_counted_outcome<W: Write>(done: &CountedOutcome, writer: &mut W) -> io::Result<()>
+    ensures { OnOk result (Appends (W.contents writer.old) (W.contents writer.new) (counted_outcome_text done.now)) }
+{
+    write_outcome(&done.outcome, writer)?;
+    write_steps(done.steps, writer)
+}
+
 // Writes an answer.
 fn write_answer<W: Write>(answer: &Answer, writer: &mut W) -> io::Result<()>
     ensures { OnOk result (Appends (W.contents writer.old) (W.contents writer.new) (answer_text answer.now)) }
@@ -62,6 +79,8 @@ fn write_answer<W: Write>(answer: &Answer, writer: &mut W) -> io::Result<()>
         Answer::Accepted => writeln!(writer, "ok"),
         Answer::Ran(outcome) => write_outcome(outcome, writer),
         Answer::Executed(run) => write_run(run, writer),
+        Answer::RanCounted(done) => write_counted_outcome(done, writer),
+        Answer::ExecutedCounted(run) => write_counted_run(run, writer),
         Answer::Listed(lines) => writer.write_all(lines.as_slice()),
         Answer::Image(lines) => writer.write_all(lines.as_slice()),
         Answer::Sized(it) => write_measure(it, writer),
@@ -82,19 +101,35 @@ pub(crate) fn flushed<W: Write>(write: io::Result<()>, writer: &mut W) -> Result
     }
 }
 
+// What a run of the interpreter leaves to be explained.
+fn matter_of_outcome(outcome: &Outcome) -> Matter
+    ensures { matter_status result ≡ 0 }
+{
+    match outcome.stop {
+        Stop::Wrong(cause) => Matter::Wrong(cause),
+        Stop::Going | Stop::Ended(_) => Matter::Text,
+    }
+}
+
+// What a run of an image leaves to be explained.
+fn matter_of_run(run: &ImageRun) -> Matter
+    ensures { matter_status result ≡ 0 }
+{
+    match run.outcome {
+        MachineOutcome::Going => Matter::Going,
+        MachineOutcome::Exited(_) | MachineOutcome::Trapped => Matter::Text,
+    }
+}
+
 // What an answer leaves to be explained.
 fn matter_of(answer: &Answer) -> Matter
     ensures { matter_status result ≡ answer_status answer.now }
 {
     match answer {
-        Answer::Ran(outcome) => match outcome.stop {
-            Stop::Wrong(cause) => Matter::Wrong(cause),
-            Stop::Going | Stop::Ended(_) => Matter::Text,
-        },
-        Answer::Executed(run) => match run.outcome {
-            MachineOutcome::Going => Matter::Going,
-            MachineOutcome::Exited(_) | MachineOutcome::Trapped => Matter::Text,
-        },
+        Answer::Ran(outcome) => matter_of_outcome(outcome),
+        Answer::RanCounted(done) => matter_of_outcome(&done.outcome),
+        Answer::Executed(run) => matter_of_run(run),
+        Answer::ExecutedCounted(done) => matter_of_run(&done.run),
         Answer::Judged(lines) if !lines.is_empty() => Matter::Unsure,
         Answer::Accepted
         | Answer::Listed(_)
@@ -222,8 +257,8 @@ pub(crate) fn status(performed: Performed) -> u8
 
 /// Does a task: reads the text from `reader`, and writes the answer or the fault's line to `writer`.
 ///
-/// The status is 0 for an answer, but 1 for one of `safe` that the program may go wrong, and 1 for a fault. A read that fails is fault 53; a write that fails is fault 54, of
-/// which no line is written.
+/// The status is 0 for an answer, but 1 for one of `safe` that the program may go wrong, and 1 for a fault. A read that fails is fault 53; a
+/// write that fails is fault 54, of which no line is written.
 #[tactic(auto, using(crate::proofs::Working::performed))]
 pub fn perform<H: AllocGlobal, R: Read, W: Write>(
     rt: &H,

@@ -29,9 +29,11 @@ pub in_expression-returns-else-not-in_expression-3 : goal.in_expression-returns-
 in_expression-returns-else-not-in_expression-3 t c =
     let Is = λ (g : List ℕ). rank_by c.args.layout.now c.args.table.now g < c.args.limit in
     let So = λ (e : Expression). InExpression Is (expression_tree e) in
-    λ is. subst (InExpression Is) (sym (ap expression_tree c.in-Conditional.is ∙ expression_tree-conditional c.in-Conditional.condition c.in-Conditional.held c.in-Conditional.other))
-    (subst So c.deref-in-Conditional.ensures (c.in_expression-in-Conditional.ensures c.if-not-in_expression-2.false), subst So c.deref-in-Conditional-2.ensures (c.in_expression-in-Conditional-2.ensures c.if-not-in_expression-3.false),
-    subst So c.deref-in-Conditional-3.ensures (c.in_expression-in-Conditional-3.ensures is))
+    λ is. subst (InExpression Is) (sym (ap expression_tree c.in-Conditional.is ∙ expression_tree-conditional c.in-Conditional.condition c.in-Conditional.held c.in-Conditional.other)) (
+      subst So c.deref-in-Conditional.ensures (c.in_expression-in-Conditional.ensures c.if-not-in_expression-2.false),
+      subst So c.deref-in-Conditional-2.ensures (c.in_expression-in-Conditional-2.ensures c.if-not-in_expression-3.false),
+      subst So c.deref-in-Conditional-3.ensures (c.in_expression-in-Conditional-3.ensures is),
+    )
 
 pub in_expressions-loop-e-preserved : goal.in_expressions-loop-e-preserved
 in_expressions-loop-e-preserved t c =

@@ -29,9 +29,11 @@ in_statement-returns-else-not-in_statement t c =
     let Is = λ (g : List ℕ). rank_by c.args.layout.now c.args.table.now g < c.args.limit in
     let So = λ (e : Expression). InExpression Is (expression_tree e) in
     let Does = λ (s : Statement). InStatement Is (statement_tree s) in
-    λ is. subst (InStatement Is) (sym (ap statement_tree c.in-IfElse.is ∙ statement_tree-if_else c.in-IfElse.condition c.in-IfElse.held c.in-IfElse.other))
-    (subst So c.deref-in-IfElse.ensures (c.in_expression-in-IfElse.ensures c.if-not-in_expression-2.false), subst Does c.deref-in-IfElse-2.ensures (c.in_statement-in-IfElse.ensures c.if-not-in_statement.false),
-    subst Does c.deref-in-IfElse-3.ensures (c.in_statement-in-IfElse-2.ensures is))
+    λ is. subst (InStatement Is) (sym (ap statement_tree c.in-IfElse.is ∙ statement_tree-if_else c.in-IfElse.condition c.in-IfElse.held c.in-IfElse.other)) (
+      subst So c.deref-in-IfElse.ensures (c.in_expression-in-IfElse.ensures c.if-not-in_expression-2.false),
+      subst Does c.deref-in-IfElse-2.ensures (c.in_statement-in-IfElse.ensures c.if-not-in_statement.false),
+      subst Does c.deref-in-IfElse-3.ensures (c.in_statement-in-IfElse-2.ensures is),
+    )
 
 pub in_statement-returns-else-not-in_expression-3 : goal.in_statement-returns-else-not-in_expression-3
 in_statement-returns-else-not-in_expression-3 t c =
@@ -53,9 +55,12 @@ pub in_statement-returns-else-not-in_optional_action : goal.in_statement-returns
 in_statement-returns-else-not-in_optional_action t c =
     let Is = λ (g : List ℕ). rank_by c.args.layout.now c.args.table.now g < c.args.limit in
     let Does = λ (s : Statement). InStatement Is (statement_tree s) in
-    λ is. subst (InStatement Is) (sym (ap statement_tree c.in-For.is ∙ statement_tree-for c.in-For.first c.in-For.condition c.in-For.behind c.in-For.body))
-    (subst (λ (b : Beginning). InBeginning Is (beginning_tree b)) c.deref-in-For.ensures (c.in_beginning.ensures c.if-not-in_beginning.false), c.in_optional-in-For.ensures c.if-not-in_optional.false,
-    c.in_optional_action-in-For.ensures c.if-not-in_optional_action.false, subst Does c.deref-in-For-2.ensures (c.in_statement-in-For.ensures is))
+    λ is. subst (InStatement Is) (sym (ap statement_tree c.in-For.is ∙ statement_tree-for c.in-For.first c.in-For.condition c.in-For.behind c.in-For.body)) (
+      subst (λ (b : Beginning). InBeginning Is (beginning_tree b)) c.deref-in-For.ensures (c.in_beginning.ensures c.if-not-in_beginning.false),
+      c.in_optional-in-For.ensures c.if-not-in_optional.false,
+      c.in_optional_action-in-For.ensures c.if-not-in_optional_action.false,
+      subst Does c.deref-in-For-2.ensures (c.in_statement-in-For.ensures is),
+    )
 
 pub in_statements-loop-s-preserved : goal.in_statements-loop-s-preserved
 in_statements-loop-s-preserved t c =
