@@ -2,14 +2,14 @@
 
 ghost use Rattle.std.specs.Prelude.{IfOk, IfErr, IsTrue};
 ghost use Rattle.cc_disk.specs.Images.{OnlyReads};
-ghost use Rattle.cc_tasks.specs.Part.{IsNoPartOn};
-ghost use Rattle.cc_call.specs.Measured.{IsSizeOf, IsSizeOn};
+ghost use Rattle.cc_call.specs.Measured.{IsSizeOf, IsSizeOn, IsUnmeasured};
 
 use crate::calling::unit_on;
 use cc_disk::Disk;
+use cc_findings::{Measure, measured};
 use cc_link::{Audit, Mode};
 use cc_size::size_along_in;
-use cc_tasks::{Measure, PartFault, measured};
+use cc_tasks::PartFault;
 use cc_unit::StoredUnit;
 use std::alloc::{AllocError, Global};
 use std::io::Write;
@@ -53,7 +53,7 @@ pub fn size_on<D: Disk + Drop, E: Write>(
 ) -> (Result<StoredSize, PartFault>, D)
     // Of an honest disk the answer is of the unit of the map to which the disk recovers.
     ensures size { IfOk result.0 (λ size. IsTrue D.honest → IsSizeOn mode (D.seen disk) name.now size) }
-    ensures refused { IfErr result.0 (λ fault. IsNoPartOn D.honest (D.seen disk) (D.failures disk) (D.failures result.1) name.now fault) }
+    ensures refused { IfErr result.0 (IsUnmeasured D.honest (D.seen disk) (D.failures disk) (D.failures result.1) name.now) }
     ensures reads { IsTrue D.honest → OnlyReads D.seen D.may_leave D.moment D.left_since disk result.1 }
 {
     let (found, disk) = unit_on(alloc, disk, name, explanations);

@@ -5,7 +5,8 @@ use cc_answers::{Telling, tell_audit};
 use cc_call::{StoredSize, size_on};
 use cc_command_line::Measuring;
 use cc_filing::disk_of;
-use cc_tasks::{PartFault, mode_of, write_measure};
+use cc_findings::write_measure;
+use cc_tasks::{PartFault, mode_of};
 use std::alloc::{AllocError, Global};
 use std::io::{self, BufWriter, Print, Write};
 

@@ -1,9 +1,6 @@
 -- What the program answers of a text.
-use Rattle.std.specs.Prelude.{ℕ, ◌≡◌, ◌+◌, ◌*◌, true, List, [], length, take, slice_get, Some, sum_by}
-use Rattle.std.specs.Arc.{arc_value}
-use Rattle.cc_ast.specs.Source.{source}
+use Rattle.std.specs.Prelude.{ℕ, ◌≡◌, true, List, []}
 use Rattle.cc_ast.specs.Tree.{Source}
-use Rattle.cc_types.specs.Typed.{defined_names}
 use Rattle.cc_c_laws.specs.Meaning.{source_behavior}
 use Rattle.cc_c_laws.specs.declared.mode.Mode.{Mode}
 use Rattle.cc_c_laws.specs.declared.mode.Mode.TheVariants as mode
@@ -17,10 +14,9 @@ use Rattle.cc_link.specs.Agree.{Agree, AgreeIn}
 use Rattle.cc_link.specs.Compile.{IsBuildRefusalIn}
 use Rattle.cc_link.specs.Text.{IsProgramText, IsTextRefusal}
 use Rattle.cc_link.specs.declared.build_fault.BuildFault.TheVariants as build
+use Rattle.cc_findings.specs.Measured.{Measures}
 use Rattle.cc_runs.specs.Count.{IsCounted}
 use Rattle.cc_safe.specs.Safe.{IsSafe}
-use Rattle.cc_size.specs.Sized.{IsSizedIn}
-use Rattle.cc_size.specs.declared.size.FunctionSize.{FunctionSize}
 use Rattle.cc_steps.specs.Count.{IsStepCount}
 use Rattle.cc_task.specs.declared.task.Kind.{Kind}
 use Rattle.cc_task.specs.declared.task.Kind.TheVariants.{Plain, Checked}
@@ -28,8 +24,6 @@ use Rattle.cc_task.specs.declared.task.Task.{Task}
 use Rattle.cc_task.specs.declared.task.Task.TheVariants.{Check, Interpret, Run, InterpretCounted, RunCounted, Asm, Image as ImageTask, Size, Safe}
 use Rattle.cc_tasks.specs.declared.answer.Answer.{Answer}
 use Rattle.cc_tasks.specs.declared.answer.Answer.TheVariants.{Accepted, Ran, Executed, RanCounted, ExecutedCounted, Listed, Image as InHex, Sized as Measured, Judged}
-use Rattle.cc_tasks.specs.declared.sizing.Measure.{Measure}
-use Rattle.cc_tasks.specs.declared.sizing.SizedFunction.{SizedFunction}
 use Rattle.cc_tasks.specs.declared.fault.Fault.{Fault}
 use Rattle.cc_tasks.specs.declared.fault.Fault.TheVariants.{Text, Meaning, Piece, Link, UnknownFunction, OutOfMemory, Read, Write}
 
@@ -97,26 +91,7 @@ abbrev pub IsImage : Mode → (text : List ℕ) → Answer → Type 0
 IsImage m text (InHex lines) = (image : Image) × Agree text image × AgreeIn m text image × IsHex lines.items image
 IsImage m text answer = ⊥
 
--- the first function is behind the three words that call main and exit, and each other one is behind the one before
-abbrev pub place_by : List FunctionSize → (f : ℕ) → ℕ
-place_by sizes f = 0x1000c + 4 * sum_by (λ (size : FunctionSize). size.words) (take f sizes)
-
--- function f of a program's image: its name, where it is, and what it takes
-pub record IsFunction (program : Source) (sizes : List FunctionSize) (f : ℕ) (it : SizedFunction) : Type 0 where
-  pub name : slice_get (defined_names program) f ≡ Some it.name.items
-  pub size : slice_get sizes f ≡ Some it.size
-  pub address : it.address ≡ place_by sizes f
-
--- all functions of the image, in the order of their definitions
-pub record AreFunctions (program : Source) (sizes : List FunctionSize) (functions : List SizedFunction) : Type 0 where
-  pub count : length functions ≡ length sizes
-  pub each : (f : ℕ) (one : SizedFunction) → slice_get functions f ≡ Some one → IsFunction program sizes f one
-
--- what `size` answers: what an image takes that follows what the text's program shows in the mode, and of each function where it is
-pub record Measures (m : Mode) (text : List ℕ) (it : Measure) : Type 0 where
-  pub sized : IsSizedIn m text it.sized
-  pub functions : AreFunctions (source (arc_value it.sized.made.typed)) it.sized.size.functions.items it.functions.items
-
+-- what `size` answers: what such an image takes
 abbrev pub IsMeasured : Mode → (text : List ℕ) → Answer → Type 0
 IsMeasured m text (Measured it) = Measures m text it
 IsMeasured m text answer = ⊥

@@ -9,16 +9,14 @@ ghost use Rattle.cc_tasks.specs.Answer.{IsAccepted, IsRan, IsExecuted, IsListed,
 
 use super::counting::{executed_counted, ran_counted};
 use super::fault::Fault;
-use super::judging::{Unsure, judge};
-use super::sizing::{Measure, measured};
 use cc_answers::{ImageRun, run_image};
+use cc_findings::{Measure, Unsure, judge, measured};
 use cc_hex::image::write;
 use cc_link::{BuildFault, CompiledUnit, Mode, compile_in, typed_unit};
 use cc_meaning::{Outcome, interpret};
-use cc_runs::CountedRun;
 use cc_rv32::listing::list;
 use cc_size::size_in;
-use cc_steps::CountedOutcome;
+use cc_steps::{CountedOutcome, CountedRun};
 use cc_task::{Kind, Task};
 use std::alloc::Global;
 

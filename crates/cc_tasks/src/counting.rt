@@ -7,8 +7,7 @@ ghost use Rattle.cc_tasks.specs.Answer.{IsExecutedCounted, IsRanCounted, IsRefus
 use super::answer::{Answer, compiled};
 use super::fault::Fault;
 use cc_link::{Mode, typed_unit};
-use cc_runs::run_counted;
-use cc_steps::interpret_counted;
+use cc_steps::{interpret_counted, run_counted};
 use std::alloc::Global;
 
 /// What the program does on the input words, and in how many steps. 40 where memory was refused as it ran.

@@ -4,7 +4,7 @@ ghost use Rattle.std.specs.Prelude.{◌≡◌, ◌≤◌, IfOk, IfErr, OnOk};
 ghost use Rattle.std.specs.Io.KnownBytes.{Appends};
 ghost use Rattle.cc_c_laws.specs.declared.mode.Mode.{Mode};
 ghost use Rattle.cc_sources.specs.Reading.{IsTextOf};
-ghost use Rattle.cc_tasks.specs.Written.{answer_status, answer_text, cause_name, counted_outcome_text, outcome_text, steps_text, stop_text, HasNoAnswer, IsPerformed, Writes};
+ghost use Rattle.cc_tasks.specs.Written.{answer_status, answer_text, counted_outcome_text, outcome_text, steps_text, stop_text, HasNoAnswer, IsPerformed, Writes};
 ghost use Rattle.cc_tasks.specs.internal.Working.{Flushes, IsDoneFor, RefusesBy, TellsOf, matter_status, status_of};
 
 use super::answer::{Answer, answer_for};
@@ -13,29 +13,16 @@ use super::explain::{
     explanation_of_wrong, write_explanation,
 };
 use super::fault::Fault;
-use super::judging::write_judged;
-use super::sizing::write_measure;
 use super::source::read_source;
 use cc_answers::{ImageRun, write_run, write_words};
-use cc_meaning::{Cause, Outcome, Stop};
-use cc_runs::write_counted_run;
+use cc_findings::{cause_name, write_judged, write_measure};
+use cc_meaning::{Outcome, Stop};
 use cc_rv32::outcome::MachineOutcome;
 use cc_sources::Origin;
-use cc_steps::CountedOutcome;
+use cc_steps::{CountedOutcome, write_counted_run};
 use cc_task::Task;
 use std::alloc::Global;
 use std::io::{self, Read, Write};
-
-pub(crate) fn cause_name(cause: Cause) -> &'static str
-    ensures { result.now ≡ cause_name cause }
-{
-    match cause {
-        Cause::Division => "Division",
-        Cause::Shift => "Shift",
-        Cause::Index => "Index",
-        Cause::Depth => "Depth",
-    }
-}
 
 /// Writes how a run of the interpreter stops.
 pub fn write_stop<W: Write>(stop: Stop, writer: &mut W) -> io::Result<()>

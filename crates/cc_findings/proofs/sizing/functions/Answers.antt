@@ -3,10 +3,10 @@ use Rattle.std.proofs.Common.{◌≡◌, ◌∙◌, ◌+◌, ◌*◌, ◌<◌, �
 use Rattle.std.proofs.lemmas.Option.{slice_get-get_or}
 use Rattle.cc_ast.specs.Source.{source}
 use Rattle.cc_size.specs.declared.size.FunctionSize.{FunctionSize}
-use Rattle.cc_tasks.specs.Answer.{IsFunction, place_by}
-use Rattle.cc_tasks.specs.declared.sizing.SizedFunction.{SizedFunction}
-use Rattle.cc_tasks.proofs.Placing.{place_next, each_more}
-use Rattle.cc_tasks.proofs.sizing.functions.Goals as goal
+use Rattle.cc_findings.specs.Measured.{IsFunction, place_by}
+use Rattle.cc_findings.specs.declared.sizing.SizedFunction.{SizedFunction}
+use Rattle.cc_findings.proofs.Placing.{place_next, each_more}
+use Rattle.cc_findings.proofs.sizing.functions.Goals as goal
 
 -- what is read past the end
 abbrev none : FunctionSize

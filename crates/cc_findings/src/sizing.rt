@@ -7,8 +7,8 @@ ghost use Rattle.std.specs.Io.KnownBytes.{Appends};
 ghost use Rattle.cc_ast.specs.Source.{source};
 ghost use Rattle.cc_rv32.specs.Listing.{hexadecimal, hexadecimal_digit};
 ghost use Rattle.cc_answers.specs.Text.{line};
-ghost use Rattle.cc_tasks.specs.Answer.{AreFunctions};
-ghost use Rattle.cc_tasks.specs.Written.{cycle_text, frame_text, function_size_text, measure_text, name_text, place_of_text, whole_size_text, words_of_text};
+ghost use Rattle.cc_findings.specs.Measured.{AreFunctions};
+ghost use Rattle.cc_findings.specs.Written.{cycle_text, frame_text, function_size_text, measure_text, name_text, place_of_text, whole_size_text, words_of_text};
 
 use crate::recursion::recursions;
 use cc_emit::Piece;

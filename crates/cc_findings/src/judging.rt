@@ -9,10 +9,9 @@ ghost use Rattle.std.specs.Io.KnownBytes.{Appends};
 ghost use Rattle.std.specs.List.{flat_map};
 ghost use Rattle.cc_ast.specs.Source.{source};
 ghost use Rattle.cc_safe.specs.Safe.{IsSafe};
-ghost use Rattle.cc_tasks.specs.Written.{in_function_text, judged_text, unsure_text, where_unsure_text};
+ghost use Rattle.cc_findings.specs.Written.{cause_name, in_function_text, judged_text, unsure_text, where_unsure_text};
 
-use super::recursion::{bit, cyclic};
-use super::work::cause_name;
+use crate::recursion::{bit, cyclic};
 use cc_diagnostic::{Bytecode, Element, Function, Instruction, TypedOperator, code_of};
 use cc_meaning::Cause;
 use cc_safe::{Safety, examine};
@@ -283,11 +282,7 @@ fn lines_of(
 }
 
 /// What may go wrong in a program; nothing only if it goes wrong on no input and at no bound.
-pub(crate) fn judge(
-    alloc: Global,
-    text: &[u8],
-    unit: &Arc<TypedUnit>,
-) -> Result<Vec<Unsure>, AllocError>
+pub fn judge(alloc: Global, text: &[u8], unit: &Arc<TypedUnit>) -> Result<Vec<Unsure>, AllocError>
     ensures { IfOk result (λ lines. lines.items ≡ [] → IsSafe (source (arc_value unit.now))) }
 {
     let found = examine(alloc, unit)?;
@@ -303,6 +298,18 @@ pub(crate) fn judge(
         })?;
     }
     Ok(lines)
+}
+
+/// The name of a cause.
+pub fn cause_name(cause: Cause) -> &'static str
+    ensures { result.now ≡ cause_name cause }
+{
+    match cause {
+        Cause::Division => "Division",
+        Cause::Shift => "Shift",
+        Cause::Index => "Index",
+        Cause::Depth => "Depth",
+    }
 }
 
 // Writes a place, or the name of a function.
@@ -344,7 +351,7 @@ fn write_all_unsure<W: Write>(lines: &[Unsure], writer: &mut W) -> io::Result<()
 }
 
 /// Writes that a program is safe, or what may go wrong, a line for each.
-pub(crate) fn write_judged<W: Write>(lines: &[Unsure], writer: &mut W) -> io::Result<()>
+pub fn write_judged<W: Write>(lines: &[Unsure], writer: &mut W) -> io::Result<()>
     ensures { OnOk result (Appends (W.contents writer.old) (W.contents writer.new) (judged_text lines.now)) }
 {
     if lines.is_empty() {

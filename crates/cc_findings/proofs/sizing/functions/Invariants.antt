@@ -1,9 +1,9 @@
 -- The functions so far, and where the next one is.
 use Rattle.std.proofs.Common.{◌≡◌, ℕ, length, slice_get, Some}
 use Rattle.cc_ast.specs.Source.{source}
-use Rattle.cc_tasks.specs.Answer.{IsFunction, place_by}
-use Rattle.cc_tasks.specs.declared.sizing.SizedFunction.{SizedFunction}
-use Rattle.cc_tasks.proofs.sizing.functions.Given as goal
+use Rattle.cc_findings.specs.Measured.{IsFunction, place_by}
+use Rattle.cc_findings.specs.declared.sizing.SizedFunction.{SizedFunction}
+use Rattle.cc_findings.proofs.sizing.functions.Given as goal
 
 abbrev pub invariant-loop-function : goal.invariant-loop-function
 invariant-loop-function l = record {

@@ -4,7 +4,7 @@ use Rattle.std.specs.Prelude.{sum_by}
 use Rattle.std.proofs.lemmas.List.{take_more}
 use Rattle.std.proofs.lemmas.List.Sums.{sum_by-append}
 use Rattle.cc_size.specs.declared.size.FunctionSize.{FunctionSize}
-use Rattle.cc_tasks.specs.Answer.{place_by}
+use Rattle.cc_findings.specs.Measured.{place_by}
 
 -- the place behind a function
 pub place_next : (sizes : List FunctionSize) (k : ℕ) (d : FunctionSize) → k < length sizes → place_by sizes (k + 1) ≡ place_by sizes k + 4 * (get_or sizes k d).words
