@@ -143,6 +143,20 @@ pub fn explanation_of_going(alloc: Global, task: &Task, text: &[u8]) -> Explanat
     explanation
 }
 
+/// What is told of what an answer to a task for a text leaves to be explained.
+pub(crate) fn explanation_of_matter(
+    alloc: Global,
+    task: &Task,
+    text: &[u8],
+    matter: Matter,
+) -> Explanation {
+    match matter {
+        Matter::Text | Matter::Unsure => explanation_of_program(alloc, text),
+        Matter::Wrong(cause) => explanation_of_wrong(alloc, task, text, cause),
+        Matter::Going => explanation_of_going(alloc, task, text),
+    }
+}
+
 // Writes each of some diagnostics.
 fn write_each<W: Write>(
     alloc: Global,

@@ -31,4 +31,6 @@ pub use texts::{
     perform_and_explain_stages_of_texts, perform_stages_of_texts, perform_texts,
     perform_texts_and_explain, read_or_refuse,
 };
-pub use work::{perform, perform_and_explain, write_stop};
+pub use work::{
+    explanation_of_answer, perform, perform_and_explain, status_of_answer, write_answer, write_stop,
+};

@@ -9,8 +9,7 @@ ghost use Rattle.cc_tasks.specs.internal.Working.{Flushes, IsDoneFor, RefusesBy,
 
 use super::answer::{Answer, answer_for};
 use super::explain::{
-    Matter, explanation_of_fault, explanation_of_going, explanation_of_program,
-    explanation_of_wrong, write_explanation,
+    Explanation, Matter, explanation_of_fault, explanation_of_matter, write_explanation,
 };
 use super::fault::Fault;
 use super::source::read_source;
@@ -58,8 +57,8 @@ fn write_counted_outcome<W: Write>(done: &CountedOutcome, writer: &mut W) -> io:
     write_steps(done.steps, writer)
 }
 
-// Writes an answer.
-fn write_answer<W: Write>(answer: &Answer, writer: &mut W) -> io::Result<()>
+/// Writes an answer: the lines that `perform` writes of it.
+pub fn write_answer<W: Write>(answer: &Answer, writer: &mut W) -> io::Result<()>
     ensures { OnOk result (Appends (W.contents writer.old) (W.contents writer.new) (answer_text answer.now)) }
 {
     match answer {
@@ -220,14 +219,40 @@ pub(crate) fn explain<W: Write>(
 ) {
     let text = performed.text.as_slice();
     let explanation = match &performed.told {
-        Ok(Matter::Text) => explanation_of_program(alloc, text),
-        Ok(Matter::Wrong(cause)) => explanation_of_wrong(alloc, task, text, *cause),
-        Ok(Matter::Going) => explanation_of_going(alloc, task, text),
-        Ok(Matter::Unsure) => explanation_of_program(alloc, text),
+        Ok(matter) => explanation_of_matter(alloc, task, text, *matter),
         Err(fault) => explanation_of_fault(alloc, text, fault),
     };
     let _ = write_explanation(alloc, text, origin, &explanation, writer);
     let _ = writer.flush();
+}
+
+/// What is told of an answer to a task for a text, as `perform_and_explain` tells it.
+pub fn explanation_of_answer(
+    alloc: Global,
+    task: &Task,
+    text: &[u8],
+    answer: &Answer,
+) -> Explanation {
+    explanation_of_matter(alloc, task, text, matter_of(answer))
+}
+
+// The status of an answer that leaves this to be explained.
+fn status_of_matter(matter: Matter) -> u8
+    ensures answer { result ≡ matter_status matter }
+    ensures bound { result ≤ 1 }
+{
+    match matter {
+        Matter::Text | Matter::Wrong(_) | Matter::Going => 0,
+        Matter::Unsure => 1,
+    }
+}
+
+/// The status with which a task ends that has this answer.
+pub fn status_of_answer(answer: &Answer) -> u8
+    ensures answer { result ≡ answer_status answer.now }
+    ensures bound { result ≤ 1 }
+{
+    status_of_matter(matter_of(answer))
 }
 
 /// The status of a task that was done.
@@ -236,8 +261,7 @@ pub(crate) fn status(performed: Performed) -> u8
     ensures bound { result ≤ 1 }
 {
     match &performed.told {
-        Ok(Matter::Text) | Ok(Matter::Wrong(_)) | Ok(Matter::Going) => 0,
-        Ok(Matter::Unsure) => 1,
+        Ok(matter) => status_of_matter(*matter),
         Err(_) => 1,
     }
 }
