@@ -120,9 +120,16 @@ const RUN: Runner = Runner {
     example: "The program comes on standard input: cclib run 1000 < examples/quotient.c",
 };
 
+// The command `interpret`, which counts too.
+fn interpret_command<'a>(alloc: Global) -> Result<Command<'a>, AllocError> {
+    runner_command(alloc, &INTERPRET)?.arg(count_flag(alloc))
+}
+
 // The command `run`, which takes a checked image too.
 fn run_command<'a>(alloc: Global) -> Result<Command<'a>, AllocError> {
-    runner_command(alloc, &RUN)?.arg(checked_word(alloc))
+    runner_command(alloc, &RUN)?
+        .arg(checked_word(alloc))?
+        .arg(count_flag(alloc))
 }
 
 // A command that runs a program. Its numbers are read below and not by clap, which takes a sign.
@@ -139,7 +146,7 @@ fn runner_command<'a>(alloc: Global, runner: &Runner) -> Result<Command<'a>, All
         .num_args(0..)
         .allow_negative_numbers(true)
         .help("The input words: 0 to 4294967295 each");
-    with_file(alloc, begun.arg(words)?.arg(count_flag(alloc))?)
+    with_file(alloc, begun.arg(words)?)
 }
 
 // The word that asks for checked images.
@@ -246,7 +253,7 @@ fn command<'a>(alloc: Global) -> Result<Command<'a>, AllocError> {
         .subcommand_required(true)
         .arg(quiet)?;
     let whole = with_part(whole, check_command(alloc))?;
-    let whole = with_part(whole, runner_command(alloc, &INTERPRET))?;
+    let whole = with_part(whole, interpret_command(alloc))?;
     let whole = with_part(whole, run_command(alloc))?;
     let whole = with_part(whole, asm_command(alloc))?;
     let whole = with_part(whole, stages_command(alloc))?;
