@@ -4,7 +4,7 @@ use super::helpers::writes;
 use cc_task::Task;
 
 // Programs, what is written of each, and the status.
-static PROGRAMS: [(&str, &str, u8); 9] = [
+static PROGRAMS: [(&str, &str, u8); 12] = [
     ("int main(void){}", "safe\n", 0),
     ("int main(void){return (7/2)<<3;}", "safe\n", 0),
     ("int a[3];int main(void){return a[0]+a[2];}", "safe\n", 0),
@@ -12,6 +12,21 @@ static PROGRAMS: [(&str, &str, u8); 9] = [
         "int f(int n){return n+1;}int g(int n){return f(n)*2;}int main(void){write_word(g(read_word()));return f(1);}",
         "safe\n",
         0,
+    ),
+    (
+        "int a[3];int main(void){int i;for(i=0;i<3;i++)a[i]=i;}",
+        "safe\n",
+        0,
+    ),
+    (
+        "int a[3];int main(void){int i;for(i=0;i<=3;i++)a[i]=i;}",
+        "unsure Index at 1:48\n",
+        1,
+    ),
+    (
+        "int a[3];int f(int n){return a[n];}int main(void){return f(0)/read_word();}",
+        "unsure Index at 1:30\nunsure Division at 1:62\n",
+        1,
     ),
     (
         "int main(void){return 8/read_word();}",
