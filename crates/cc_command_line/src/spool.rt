@@ -61,8 +61,7 @@ const WORD_RULE: &str = "a word of COMMAND has no space and no newline";
 
 // What a person reads below the options of `serve`.
 const SERVE_HELP: &str = "\
-A script is what `cclib library` reads; it may have the lines `image NAME`, `source NAME`, `audit NAME`, `space`, `update` and
-`call` too. `cclib submit FOLDER` leaves one in the folder and prints its answer. What is not there of the folder is made: everybody may be a client, or, where FOLDER
+A script is what `cclib library` reads; it may have the lines `image NAME`, `source NAME`, `audit NAME`, `update` and `call` too. `cclib submit FOLDER` leaves one in the folder and prints its answer. What is not there of the folder is made: everybody may be a client, or, where FOLDER
 has the set-group-id bit, the members of its group.
 
   touch FOLDER/stop    ends the server when the scripts that were begun are done
@@ -87,7 +86,6 @@ Without a COMMAND the script comes on standard input. A COMMAND is one line of a
   image NAME         its image as Intel HEX
   source NAME        its source, to the byte
   audit NAME         what an audit says of it
-  space              the room of the library, how much of it is used, and would be behind a `compact`
   update NAME        as replace, if the source that is there is that of --was OLDFILE
   call NAME STEPS    run its image on the WORDs that follow
 
