@@ -61,8 +61,9 @@ const WORD_RULE: &str = "a word of COMMAND has no space and no newline";
 
 // What a person reads below the options of `serve`.
 const SERVE_HELP: &str = "\
-A script is what `cclib library` reads; it may have the lines `image NAME`, `source NAME`, `audit NAME`, `update` and `call` too. `cclib submit FOLDER` leaves one in the folder and prints its answer. What is not there of the folder is made: everybody may be a client, or, where FOLDER
-has the set-group-id bit, the members of its group.
+A script is what `cclib library` reads; it may have the lines `image NAME`, `source NAME`, `audit NAME`, `update` and `call`
+too. `cclib submit FOLDER` leaves one in the folder and prints its answer. What is not there of the folder is made: everybody
+may be a client, or, where FOLDER has the set-group-id bit, the members of its group.
 
   touch FOLDER/stop    ends the server when the scripts that were begun are done
 
