@@ -43,21 +43,10 @@ abbrev pub IsRan : (steps : ℕ) → (words text : List ℕ) → Answer → Type
 IsRan steps words text (Ran o) = (p : ProgramOf text) × (outcome_tree o ≡ source_behavior p.program words steps)
 IsRan steps words text answer = ⊥
 
--- the mode of an image, and of a task
+-- the mode of an image
 abbrev pub mode_of : Kind → Mode
 mode_of Plain = mode.Plain
 mode_of Checked = mode.Checked
-
-abbrev pub mode_for : Task → Mode
-mode_for Check = mode.Plain
-mode_for (Interpret steps words) = mode.Plain
-mode_for (Run kind steps words) = mode_of kind
-mode_for (InterpretCounted steps words) = mode.Plain
-mode_for (RunCounted kind steps words) = mode_of kind
-mode_for (Asm kind) = mode_of kind
-mode_for (ImageTask kind) = mode_of kind
-mode_for (Size kind) = mode_of kind
-mode_for Safe = mode.Plain
 
 -- what `run` answers: what an image does that agrees with the text, and follows what its program shows in the mode
 abbrev pub IsExecuted : Mode → (steps : ℕ) → (words text : List ℕ) → Answer → Type 0
@@ -113,13 +102,36 @@ Answers (ImageTask kind) text answer = IsImage (mode_of kind) text answer
 Answers (Size kind) text answer = IsMeasured (mode_of kind) text answer
 Answers Safe text answer = IsJudged text answer
 
--- why a text gets no answer: it is no program's, it has no image in the mode, or memory was refused
-abbrev pub IsRefused : Mode → List ℕ → Fault → Type 0
-IsRefused m text (Text f) = IsTextRefusal text f
-IsRefused m text (Meaning f) = Unit {0}
-IsRefused m text (Piece f) = IsBuildRefusalIn m text (build.Piece f)
-IsRefused m text (Link f) = IsBuildRefusalIn m text (build.Link f)
-IsRefused m text UnknownFunction = ⊥
-IsRefused m text OutOfMemory = Unit {0}
-IsRefused m text Read = ⊥
-IsRefused m text Write = ⊥
+-- why a text gets no answer for which no image is made: it is no program's, or memory was refused
+abbrev pub HasNoProgram : (text : List ℕ) → Fault → Type 0
+HasNoProgram text (Text f) = IsTextRefusal text f
+HasNoProgram text (Meaning f) = Unit {0}
+HasNoProgram text (Piece f) = ⊥
+HasNoProgram text (Link f) = ⊥
+HasNoProgram text UnknownFunction = ⊥
+HasNoProgram text OutOfMemory = Unit {0}
+HasNoProgram text Read = ⊥
+HasNoProgram text Write = ⊥
+
+-- why it gets none for which an image is made: it is no program's, it has no image in the mode, or memory was refused
+abbrev pub HasNoImage : Mode → (text : List ℕ) → Fault → Type 0
+HasNoImage m text (Text f) = IsTextRefusal text f
+HasNoImage m text (Meaning f) = ⊥
+HasNoImage m text (Piece f) = IsBuildRefusalIn m text (build.Piece f)
+HasNoImage m text (Link f) = IsBuildRefusalIn m text (build.Link f)
+HasNoImage m text UnknownFunction = ⊥
+HasNoImage m text OutOfMemory = Unit {0}
+HasNoImage m text Read = ⊥
+HasNoImage m text Write = ⊥
+
+-- why a text gets no answer to a task
+abbrev pub IsRefused : Task → (text : List ℕ) → Fault → Type 0
+IsRefused Check text fault = HasNoProgram text fault
+IsRefused (Interpret steps words) text fault = HasNoProgram text fault
+IsRefused (Run kind steps words) text fault = HasNoImage (mode_of kind) text fault
+IsRefused (InterpretCounted steps words) text fault = HasNoProgram text fault
+IsRefused (RunCounted kind steps words) text fault = HasNoImage (mode_of kind) text fault
+IsRefused (Asm kind) text fault = HasNoImage (mode_of kind) text fault
+IsRefused (ImageTask kind) text fault = HasNoImage (mode_of kind) text fault
+IsRefused (Size kind) text fault = HasNoImage (mode_of kind) text fault
+IsRefused Safe text fault = HasNoProgram text fault

@@ -1,9 +1,8 @@
 -- What the program writes of a text, byte for byte, and what it has then done.
-use Rattle.std.specs.Prelude.{◌≡◌, ◌⊎◌, ℕ, List, [], ◌∷◌, ◌++◌, Option, Result, Ok, Err, Vec, codes}
+use Rattle.std.specs.Prelude.{◌≡◌, ◌⊎◌, ℕ, Bool, true, false, List, [], ◌∷◌, ◌++◌, Option, Result, Ok, Err, Vec, codes}
 use Rattle.std.specs.declared.alloc.Global.{Global}
 use Rattle.std.specs.Fmt.{decimal}
 use Rattle.std.specs.Io.KnownBytes.{Appends}
-use Rattle.cc_c_laws.specs.declared.mode.Mode.{Mode}
 use Rattle.cc_meaning.specs.declared.outcome.Stop.{Stop}
 use Rattle.cc_meaning.specs.declared.outcome.Stop.TheVariants.{Going, Ended, Wrong}
 use Rattle.cc_meaning.specs.declared.outcome.Outcome.{Outcome}
@@ -16,7 +15,7 @@ use Rattle.cc_findings.specs.declared.judging.Unsure.{Unsure}
 use Rattle.cc_runs.specs.Written.{counted_text}
 use Rattle.cc_steps.specs.declared.count.CountedOutcome.{CountedOutcome}
 use Rattle.cc_task.specs.declared.task.Task.{Task}
-use Rattle.cc_tasks.specs.Answer.{Answers, IsRefused, mode_for}
+use Rattle.cc_tasks.specs.Answer.{Answers, IsRefused}
 use Rattle.cc_tasks.specs.Fault.{fault_number}
 use Rattle.cc_tasks.specs.Part.{part_fault_number}
 use Rattle.cc_tasks.specs.declared.answer.Answer.{Answer}
@@ -97,19 +96,20 @@ pub record IsAnswered (task : Task) (input old new : Option (List ℕ)) : Type 0
   pub answers : Answers task text answer
   pub written : Appends old new (answer_text answer)
 
--- the reader's text has this fault in the mode, and the fault's line was written
-pub record IsTurnedDown (mode : Mode) (input old new : Option (List ℕ)) (fault : Fault) : Type 0 where
+-- the reader's text has this fault at the task, and the fault's line was written
+pub record IsTurnedDown (task : Task) (input old new : Option (List ℕ)) (fault : Fault) : Type 0 where
   pub text : List ℕ
   pub read : IsTextOf input text
-  pub refused : IsRefused mode text fault
+  pub refused : IsRefused task text fault
   pub written : Appends old new (fault_text text fault)
 
--- Why there is no answer: something could not be written, 54, and nothing is known of what was; or the text could not be read, 53, and its line was
--- written; or the text has this fault.
-abbrev pub HasNoAnswer : Mode → (input old new : Option (List ℕ)) → Fault → Type 0
-HasNoAnswer mode input old new fault = (fault ≡ Write) ⊎ (((fault ≡ Read) × Appends old new (fault_text [] Read)) ⊎ IsTurnedDown mode input old new fault)
+-- the text could not be read, 53, and its line was written; or the text has this fault
+abbrev pub IsToldFault : Task → (input old new : Option (List ℕ)) → Fault → Type 0
+IsToldFault task input old new fault = ((fault ≡ Read) × Appends old new (fault_text [] Read)) ⊎ IsTurnedDown task input old new fault
 
--- a task was done with this status: that of its answer, and 1 for a fault
-abbrev pub IsPerformed : Task → (input old new : Option (List ℕ)) → (status : ℕ) → Type 0
-IsPerformed task input old new status =
-    ((it : IsAnswered task input old new) × (status ≡ answer_status it.answer)) ⊎ ((status ≡ 1) × ((fault : Fault) × HasNoAnswer (mode_for task) input old new fault))
+-- A task was done with this status, and all that was to be written is: the status is that of its answer, and 1 for a fault. Or something could not be
+-- written, 54: the status is 1, and nothing is known of what was.
+abbrev pub IsPerformed : Task → (input old new : Option (List ℕ)) → (status : ℕ) (written : Bool) → Type 0
+IsPerformed task input old new status true =
+    ((it : IsAnswered task input old new) × (status ≡ answer_status it.answer)) ⊎ ((status ≡ 1) × ((fault : Fault) × IsToldFault task input old new fault))
+IsPerformed task input old new status false = status ≡ 1

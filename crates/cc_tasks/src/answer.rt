@@ -2,10 +2,9 @@
 
 ghost use Rattle.std.specs.Prelude.{◌≡◌, ℕ, List, IfOk, IfErr};
 ghost use Rattle.cc_c_laws.specs.declared.mode.Mode.{Mode};
-ghost use Rattle.cc_c_laws.specs.declared.mode.Mode.TheVariants.{Plain};
 ghost use Rattle.cc_link.specs.Agree.{Agree, AgreeIn};
 ghost use Rattle.cc_link.specs.Compile.{IsBuildRefusalIn};
-ghost use Rattle.cc_tasks.specs.Answer.{IsAccepted, IsRan, IsExecuted, IsListed, IsImage, IsJudged, IsMeasured, Answers, IsRefused, mode_of, mode_for};
+ghost use Rattle.cc_tasks.specs.Answer.{IsAccepted, IsRan, IsExecuted, IsListed, IsImage, IsJudged, IsMeasured, Answers, HasNoImage, HasNoProgram, IsRefused, mode_of};
 
 use super::counting::{executed_counted, ran_counted};
 use super::fault::Fault;
@@ -46,7 +45,7 @@ pub enum Answer {
 // That the text is a program.
 fn accepted(alloc: Global, text: &[u8]) -> Result<Answer, Fault>
     ensures answer { IfOk result (λ answer. IsAccepted text.now answer) }
-    ensures refused { IfErr result (λ fault. IsRefused Plain text.now fault) }
+    ensures refused { IfErr result (λ fault. HasNoProgram text.now fault) }
 {
     let _program = match typed_unit(alloc, text) {
         Ok(program) => program,
@@ -58,7 +57,7 @@ fn accepted(alloc: Global, text: &[u8]) -> Result<Answer, Fault>
 // What the program does on the input words. 40 where memory was refused as it ran.
 fn ran(alloc: Global, text: &[u8], words: &[u32], steps: u64) -> Result<Answer, Fault>
     ensures answer { IfOk result (λ answer. IsRan steps words.now text.now answer) }
-    ensures refused { IfErr result (λ fault. IsRefused Plain text.now fault) }
+    ensures refused { IfErr result (λ fault. HasNoProgram text.now fault) }
 {
     match typed_unit(alloc, text) {
         Ok(program) => match interpret(alloc, &program, words, steps) {
@@ -81,7 +80,7 @@ pub fn mode_of(kind: Kind) -> Mode
 
 // The program's fault for one of compiling.
 fn fault_of_build(fault: BuildFault) -> Fault
-    ensures { (mode : Mode) (text : List ℕ) → IsBuildRefusalIn mode text fault → IsRefused mode text result }
+    ensures { (mode : Mode) (text : List ℕ) → IsBuildRefusalIn mode text fault → HasNoImage mode text result }
 {
     match fault {
         BuildFault::Text(fault) => Fault::Text(fault),
@@ -94,7 +93,7 @@ fn fault_of_build(fault: BuildFault) -> Fault
 pub(crate) fn compiled(alloc: Global, mode: Mode, text: &[u8]) -> Result<CompiledUnit, Fault>
     ensures agrees { IfOk result (λ unit. Agree text.now unit.image) }
     ensures follows { IfOk result (λ unit. AgreeIn mode text.now unit.image) }
-    ensures refused { IfErr result (λ fault. IsRefused mode text.now fault) }
+    ensures refused { IfErr result (λ fault. HasNoImage mode text.now fault) }
 {
     match compile_in(alloc, mode, text) {
         Ok(unit) => Ok(unit),
@@ -111,7 +110,7 @@ fn executed(
     steps: u64,
 ) -> Result<Answer, Fault>
     ensures answer { IfOk result (λ answer. IsExecuted mode steps words.now text.now answer) }
-    ensures refused { IfErr result (λ fault. IsRefused mode text.now fault) }
+    ensures refused { IfErr result (λ fault. HasNoImage mode text.now fault) }
 {
     let unit = match compiled(alloc, mode, text) {
         Ok(unit) => unit,
@@ -126,7 +125,7 @@ fn executed(
 // The listing of the program's image.
 fn listed(alloc: Global, mode: Mode, text: &[u8]) -> Result<Answer, Fault>
     ensures answer { IfOk result (λ answer. IsListed mode text.now answer) }
-    ensures refused { IfErr result (λ fault. IsRefused mode text.now fault) }
+    ensures refused { IfErr result (λ fault. HasNoImage mode text.now fault) }
 {
     match compiled(alloc, mode, text) {
         Err(fault) => Err(fault),
@@ -140,7 +139,7 @@ fn listed(alloc: Global, mode: Mode, text: &[u8]) -> Result<Answer, Fault>
 // The program's image as Intel HEX.
 fn in_hex(alloc: Global, mode: Mode, text: &[u8]) -> Result<Answer, Fault>
     ensures answer { IfOk result (λ answer. IsImage mode text.now answer) }
-    ensures refused { IfErr result (λ fault. IsRefused mode text.now fault) }
+    ensures refused { IfErr result (λ fault. HasNoImage mode text.now fault) }
 {
     match compiled(alloc, mode, text) {
         Err(fault) => Err(fault),
@@ -154,7 +153,7 @@ fn in_hex(alloc: Global, mode: Mode, text: &[u8]) -> Result<Answer, Fault>
 // What the program's image takes.
 fn sized(alloc: Global, mode: Mode, text: &[u8]) -> Result<Answer, Fault>
     ensures answer { IfOk result (λ answer. IsMeasured mode text.now answer) }
-    ensures refused { IfErr result (λ fault. IsRefused mode text.now fault) }
+    ensures refused { IfErr result (λ fault. HasNoImage mode text.now fault) }
 {
     let sized = match size_in(alloc, mode, text) {
         Ok(sized) => sized,
@@ -169,7 +168,7 @@ fn sized(alloc: Global, mode: Mode, text: &[u8]) -> Result<Answer, Fault>
 // What may go wrong in the program.
 fn judged(alloc: Global, text: &[u8]) -> Result<Answer, Fault>
     ensures answer { IfOk result (λ answer. IsJudged text.now answer) }
-    ensures refused { IfErr result (λ fault. IsRefused Plain text.now fault) }
+    ensures refused { IfErr result (λ fault. HasNoProgram text.now fault) }
 {
     let program = match typed_unit(alloc, text) {
         Ok(program) => program,
@@ -188,7 +187,7 @@ fn judged(alloc: Global, text: &[u8]) -> Result<Answer, Fault>
 /// refused.
 pub fn answer_for(alloc: Global, task: &Task, text: &[u8]) -> Result<Answer, Fault>
     ensures answer { IfOk result (λ answer. Answers task.now text.now answer) }
-    ensures refused { IfErr result (λ fault. IsRefused (mode_for task.now) text.now fault) }
+    ensures refused { IfErr result (λ fault. IsRefused task.now text.now fault) }
 {
     match task {
         Task::Check => accepted(alloc, text),

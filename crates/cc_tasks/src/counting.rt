@@ -1,8 +1,7 @@
 // The answer to a task for a text, with a count of the steps or of the instructions.
 
 ghost use Rattle.std.specs.Prelude.{IfOk, IfErr};
-ghost use Rattle.cc_c_laws.specs.declared.mode.Mode.TheVariants.{Plain};
-ghost use Rattle.cc_tasks.specs.Answer.{IsExecutedCounted, IsRanCounted, IsRefused};
+ghost use Rattle.cc_tasks.specs.Answer.{HasNoImage, HasNoProgram, IsExecutedCounted, IsRanCounted};
 
 use super::answer::{Answer, compiled};
 use super::fault::Fault;
@@ -18,7 +17,7 @@ pub(crate) fn ran_counted(
     steps: u64,
 ) -> Result<Answer, Fault>
     ensures answer { IfOk result (λ answer. IsRanCounted steps words.now text.now answer) }
-    ensures refused { IfErr result (λ fault. IsRefused Plain text.now fault) }
+    ensures refused { IfErr result (λ fault. HasNoProgram text.now fault) }
 {
     match typed_unit(alloc, text) {
         Ok(program) => match interpret_counted(alloc, &program, words, steps) {
@@ -38,7 +37,7 @@ pub(crate) fn executed_counted(
     steps: u64,
 ) -> Result<Answer, Fault>
     ensures answer { IfOk result (λ answer. IsExecutedCounted mode steps words.now text.now answer) }
-    ensures refused { IfErr result (λ fault. IsRefused mode text.now fault) }
+    ensures refused { IfErr result (λ fault. HasNoImage mode text.now fault) }
 {
     let unit = match compiled(alloc, mode, text) {
         Ok(unit) => unit,

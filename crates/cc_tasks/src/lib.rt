@@ -32,5 +32,6 @@ pub use texts::{
     perform_texts_and_explain, read_or_refuse,
 };
 pub use work::{
-    explanation_of_answer, perform, perform_and_explain, status_of_answer, write_answer, write_stop,
+    Done, explanation_of_answer, perform, perform_and_explain, status_of_answer, write_answer,
+    write_stop,
 };

@@ -1,11 +1,11 @@
 // Doing a task over any reader and writer.
 
-ghost use Rattle.std.specs.Prelude.{◌≡◌, ◌≤◌, IfOk, IfErr, OnOk};
+ghost use Rattle.std.specs.Prelude.{◌≡◌, ◌≤◌, Bool, IfOk, IfErr, OnOk};
 ghost use Rattle.std.specs.Io.KnownBytes.{Appends};
-ghost use Rattle.cc_c_laws.specs.declared.mode.Mode.{Mode};
+ghost use Rattle.cc_task.specs.declared.task.Task.{Task};
 ghost use Rattle.cc_sources.specs.Reading.{IsTextOf};
-ghost use Rattle.cc_tasks.specs.Written.{answer_status, answer_text, counted_outcome_text, outcome_text, steps_text, stop_text, HasNoAnswer, IsPerformed, Writes};
-ghost use Rattle.cc_tasks.specs.internal.Working.{Flushes, IsDoneFor, RefusesBy, TellsOf, matter_status, status_of};
+ghost use Rattle.cc_tasks.specs.Written.{answer_status, answer_text, counted_outcome_text, outcome_text, steps_text, stop_text, IsPerformed, Writes};
+ghost use Rattle.cc_tasks.specs.internal.Working.{Flushes, HasNoAnswer, IsDoneFor, RefusesBy, TellsOf, is_told, matter_status, status_of, written_of};
 
 use super::answer::{Answer, answer_for};
 use super::explain::{
@@ -179,7 +179,7 @@ pub(crate) fn read_text<R: Read, W: Write>(
 ) -> Result<Vec<u8>, Fault>
     ensures text { IfOk result (λ text. IsTextOf (R.remaining reader.old) text.items) }
     ensures kept { OnOk result (W.contents writer.new ≡ W.contents writer.old) }
-    ensures unread { IfErr result (λ fault. (mode : Mode) → HasNoAnswer mode (R.remaining reader.old) (W.contents writer.old) (W.contents writer.new) fault) }
+    ensures unread { IfErr result (λ fault. (task : Task) → HasNoAnswer task (R.remaining reader.old) (W.contents writer.old) (W.contents writer.new) fault) }
 {
     match read_source(alloc, reader) {
         Ok(text) => Ok(text),
@@ -266,6 +266,48 @@ pub(crate) fn status(performed: Performed) -> u8
     }
 }
 
+/// How a task ended.
+#[derive(Clone, Copy, Debug, Drop, PartialEq, Eq)]
+pub struct Done {
+    /// The status: that of the answer, and 1 for a fault.
+    pub status: u8,
+    /// Whether all that was to be written is. If it is not, that is 54, and the status is 1.
+    pub is_written: bool,
+}
+
+// Whether a fault is told by its line.
+fn is_told(fault: &Fault) -> bool
+    ensures { result ≡ is_told fault.now }
+{
+    match fault {
+        Fault::Write => false,
+        Fault::Text(_)
+        | Fault::Meaning(_)
+        | Fault::Piece(_)
+        | Fault::Link(_)
+        | Fault::UnknownFunction
+        | Fault::OutOfMemory
+        | Fault::Read => true,
+    }
+}
+
+/// How a task ended that was done.
+pub(crate) fn done(performed: Performed) -> Done
+    ensures status { result.status ≡ status_of performed.told }
+    ensures written { result.is_written ≡ written_of performed.told }
+{
+    match &performed.told {
+        Ok(matter) => Done {
+            status: status_of_matter(*matter),
+            is_written: true,
+        },
+        Err(fault) => Done {
+            status: 1,
+            is_written: is_told(fault),
+        },
+    }
+}
+
 /// Does a task: reads the text from `reader`, and writes the answer or the fault's line to `writer`.
 ///
 /// The status is 0 for an answer, but 1 for one of `safe` that the program may go wrong, and 1 for a fault. A read that fails is fault 53; a
@@ -277,10 +319,11 @@ pub fn perform<H: AllocGlobal, R: Read, W: Write>(
     reader: &mut R,
     writer: &mut W,
 ) -> u8
-    ensures { IsPerformed task (R.remaining reader.old) (W.contents writer.old) (W.contents writer.new) result }
+    ensures { (written : Bool) × IsPerformed task (R.remaining reader.old) (W.contents writer.old) (W.contents writer.new) result written }
 {
     let performed = try_perform(rt.alloc(), &task, reader, writer);
-    status(performed)
+    let done = done(performed);
+    done.status
 }
 
 /// Does a task as `perform` does, and writes to `explanations` what helps a person with a fault or with a run that went wrong: the
@@ -295,10 +338,10 @@ pub fn perform_and_explain<H: AllocGlobal, R: Read, W: Write, E: Write>(
     reader: &mut R,
     writer: &mut W,
     explanations: &mut E,
-) -> u8
-    ensures { IsPerformed task (R.remaining reader.old) (W.contents writer.old) (W.contents writer.new) result }
+) -> Done
+    ensures { IsPerformed task (R.remaining reader.old) (W.contents writer.old) (W.contents writer.new) result.status result.is_written }
 {
     let performed = try_perform(rt.alloc(), &task, reader, writer);
     explain(rt.alloc(), &task, &performed, Origin::Input, explanations);
-    status(performed)
+    done(performed)
 }

@@ -81,7 +81,8 @@ fn start<R: AllocGlobal + Input + Print, E: Write + Drop>(
         return Ok(perform(rt, task, &mut rt.reader(), &mut writer));
     }
     let mut reader = rt.reader();
-    Ok(perform_and_explain(rt, task, &mut reader, &mut writer, &mut errors))
+    let done = perform_and_explain(rt, task, &mut reader, &mut writer, &mut errors);
+    Ok(done.status)
 }
 
 // Shows what the compiler makes of a text; the error is lack of memory before it began.

@@ -41,7 +41,8 @@ pub fn start_texts<R: AllocGlobal + Input + Print, E: Write + Drop>(
     if is_quiet {
         return Ok(perform_texts(rt, task, texts, &mut writer));
     }
-    Ok(perform_texts_and_explain(rt, task, texts, &mut writer, &mut told))
+    let done = perform_texts_and_explain(rt, task, texts, &mut writer, &mut told);
+    Ok(done.status)
 }
 
 /// Shows what the compiler makes of the program in these files; the status. The error is lack of memory before it began.

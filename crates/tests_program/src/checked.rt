@@ -160,8 +160,11 @@ fn explains<H: AllocGlobal>(rt: &H, text: &str, lines: &str, told: &str) -> bool
     let mut reader = text.as_bytes();
     let mut written = Vec::new(rt.alloc());
     let mut explained = Vec::new(rt.alloc());
-    let status = perform_and_explain(rt, task, &mut reader, &mut written, &mut explained);
-    status == 0 && written.as_slice() == lines.as_bytes() && explained.as_slice() == told.as_bytes()
+    let done = perform_and_explain(rt, task, &mut reader, &mut written, &mut explained);
+    done.status == 0
+        && done.is_written
+        && written.as_slice() == lines.as_bytes()
+        && explained.as_slice() == told.as_bytes()
 }
 
 #[test]
