@@ -4,7 +4,7 @@
 //! the compiler makes of a text, `texts` does both for texts that are given one after the other, `part` takes a part of a unit out of a
 //! library, `fault` has every refusal with its line, `explain` and `unknown` what a person is told beside it. Which tasks there are is the matter of `cc_task`, what a text means that of the crates of the language.
 //! What is written and told of an answer and of a fault is that of `cc_answers`.
-//! Hands out `answer_for`, `perform`, `perform_and_explain`, the same of stages, `part_in`, `take_out`, their types, and the definitions
+//! Hands out `answer_for`, `carry_out`, `perform`, `perform_and_explain`, the same of stages, `part_in`, `take_out`, their types, and the definitions
 //! that the contracts name (`specs/`).
 #![tactic(auto)]
 
@@ -28,10 +28,10 @@ pub use fault::Fault;
 pub use part::{PartFault, explain_absent, part_in, part_of, take_out, write_part};
 pub use stages::{perform_and_explain_stages, perform_stages};
 pub use texts::{
-    perform_and_explain_stages_of_texts, perform_stages_of_texts, perform_texts,
+    carry_out_texts, perform_and_explain_stages_of_texts, perform_stages_of_texts, perform_texts,
     perform_texts_and_explain, read_or_refuse,
 };
 pub use work::{
-    Done, explanation_of_answer, perform, perform_and_explain, status_of_answer, write_answer,
-    write_stop,
+    Done, carry_out, explanation_of_answer, perform, perform_and_explain, status_of_answer,
+    write_answer, write_stop,
 };

@@ -76,8 +76,21 @@ fn try_texts<W: Write>(alloc: Global, task: &Task, texts: &[NamedText], writer: 
     }
 }
 
-/// Does a task as `perform` does, for the text that texts make: one after the other, with a newline between two if the first lacks it.
+/// Does a task as `carry_out` does, for the text that texts make: one after the other, with a newline between two if the first lacks it.
 #[tactic(auto, using(crate::proofs::Working::performed))]
+pub fn carry_out_texts<H: AllocGlobal, W: Write>(
+    rt: &H,
+    task: Task,
+    texts: &[NamedText],
+    writer: &mut W,
+) -> Done
+    ensures { IsPerformed task (Some (joined texts.now)) (W.contents writer.old) (W.contents writer.new) result.status result.is_written }
+{
+    let performed = try_texts(rt.alloc(), &task, texts, writer);
+    done(performed)
+}
+
+/// Does a task as `carry_out_texts` does; the status.
 pub fn perform_texts<H: AllocGlobal, W: Write>(
     rt: &H,
     task: Task,
@@ -86,12 +99,11 @@ pub fn perform_texts<H: AllocGlobal, W: Write>(
 ) -> u8
     ensures { (written : Bool) × IsPerformed task (Some (joined texts.now)) (W.contents writer.old) (W.contents writer.new) result written }
 {
-    let performed = try_texts(rt.alloc(), &task, texts, writer);
-    let done = done(performed);
+    let done = carry_out_texts(rt, task, texts, writer);
     done.status
 }
 
-/// Does a task as `perform_texts` does, and writes to `explanations` what `perform_and_explain` does, with the name of the text that a place
+/// Does a task as `carry_out_texts` does, and writes to `explanations` what `perform_and_explain` does, with the name of the text that a place
 /// lies in, and line and column there.
 #[tactic(auto, using(crate::proofs::Working::performed))]
 pub fn perform_texts_and_explain<H: AllocGlobal, W: Write, E: Write>(

@@ -313,20 +313,33 @@ pub(crate) fn done(performed: Performed) -> Done
 /// The status is 0 for an answer, but 1 for one of `safe` that the program may go wrong, and 1 for a fault. A read that fails is fault 53; a
 /// write that fails is fault 54, of which no line is written.
 #[tactic(auto, using(crate::proofs::Working::performed))]
+pub fn carry_out<H: AllocGlobal, R: Read, W: Write>(
+    rt: &H,
+    task: Task,
+    reader: &mut R,
+    writer: &mut W,
+) -> Done
+    ensures { IsPerformed task (R.remaining reader.old) (W.contents writer.old) (W.contents writer.new) result.status result.is_written }
+{
+    let performed = try_perform(rt.alloc(), &task, reader, writer);
+    done(performed)
+}
+
+/// Does a task as `carry_out` does; the status.
 pub fn perform<H: AllocGlobal, R: Read, W: Write>(
     rt: &H,
     task: Task,
     reader: &mut R,
     writer: &mut W,
 ) -> u8
+    // Of a status alone it is not known whether all is written.
     ensures { (written : Bool) × IsPerformed task (R.remaining reader.old) (W.contents writer.old) (W.contents writer.new) result written }
 {
-    let performed = try_perform(rt.alloc(), &task, reader, writer);
-    let done = done(performed);
+    let done = carry_out(rt, task, reader, writer);
     done.status
 }
 
-/// Does a task as `perform` does, and writes to `explanations` what helps a person with a fault or with a run that went wrong: the
+/// Does a task as `carry_out` does, and writes to `explanations` what helps a person with a fault or with a run that went wrong: the
 /// place, as editors read it, what was found there and what was expected, and the line of the text; so of a checked image that has stopped
 /// in place; of another program what is warned of.
 /// Of a write to `writer` that fails it says so. Where memory for an explanation runs out, or it can not be written, there is none; the

@@ -19,7 +19,7 @@ use cc_command_line::{Invocation, NoRequest, Work, read_or_tell, tell_bytes};
 use cc_descriptors::{System, take_free};
 use cc_submit::submit_script;
 use cc_task::{Kind, Task};
-use cc_tasks::{Fault, perform, perform_and_explain, perform_and_explain_stages, perform_stages};
+use cc_tasks::{Fault, carry_out, perform_and_explain, perform_and_explain_stages, perform_stages};
 use keeping::{look_into, take_out};
 use library::library_session;
 use serving::serve_folder;
@@ -78,7 +78,8 @@ fn start<R: AllocGlobal + Input + Print, E: Write + Drop>(
         return Err(AllocError);
     };
     if is_quiet {
-        return Ok(perform(rt, task, &mut rt.reader(), &mut writer));
+        let done = carry_out(rt, task, &mut rt.reader(), &mut writer);
+        return Ok(done.status);
     }
     let mut reader = rt.reader();
     let done = perform_and_explain(rt, task, &mut reader, &mut writer, &mut errors);
