@@ -52,6 +52,8 @@ const WAIT: &str = "wait";
 
 const WAIT_RULE: &str = "SECONDS is a decimal number from 1 to 86400";
 
+const COMMAND: &str = "COMMAND";
+
 const WAS: &str = "was";
 
 const WAS_RULE: &str =
@@ -202,7 +204,7 @@ pub(crate) fn submit_command<'a>(alloc: Global) -> Result<Command<'a>, AllocErro
         "SECONDS",
         "Take the script back where no server began it in so many seconds: 1 to 86400",
     );
-    let words = Arg::new(alloc, "COMMAND")
+    let words = Arg::new(alloc, COMMAND)
         .num_args(0..)
         .help("A line of a script");
     let was = option(
@@ -348,13 +350,17 @@ fn begins_with(words: &[&str], first: &str) -> bool {
     }
 }
 
+// Whether the line is one of `update`.
+fn is_update(given: &ArgMatches<'_>) -> bool {
+    match given.get_strs(COMMAND) {
+        Some(words) => begins_with(words, "update"),
+        None => false,
+    }
+}
+
 // The file with the source that `update` is to replace, which that line takes and no other one; none where it is not so.
-fn was_of(
-    alloc: Global,
-    given: &ArgMatches<'_>,
-    words: &[&str],
-) -> Result<Option<Option<String>>, AllocError> {
-    match (given.get_str(WAS), begins_with(words, "update")) {
+fn was_of(alloc: Global, given: &ArgMatches<'_>) -> Result<Option<Option<String>>, AllocError> {
+    match (given.get_str(WAS), is_update(given)) {
         (None, false) => Ok(Some(None)),
         (Some(path), true) if !path.is_empty() && path != "-" => {
             Ok(Some(Some(String::from_str(alloc, path)?)))
@@ -363,7 +369,7 @@ fn was_of(
     }
 }
 
-// What words ask to be sent: the line, and the input of a call.
+// What is asked to be sent: the line, and the input of a call.
 #[derive(Drop)]
 struct Sent {
     line: Option<String>,
@@ -371,13 +377,7 @@ struct Sent {
 }
 
 // What these words ask to be sent.
-fn sent_of(alloc: Global, words: &[&str]) -> Result<Sent, AllocError> {
-    if words.is_empty() {
-        return Ok(Sent {
-            line: None,
-            input: None,
-        });
-    }
+fn sent_by(alloc: Global, words: &[&str]) -> Result<Sent, AllocError> {
     if !begins_with(words, "call") {
         return Ok(Sent {
             line: Some(line_of(alloc, words)?),
@@ -393,25 +393,33 @@ fn sent_of(alloc: Global, words: &[&str]) -> Result<Sent, AllocError> {
     })
 }
 
+// What is asked to be sent; none where a word is none of a line.
+fn sent_of(alloc: Global, given: &ArgMatches<'_>) -> Result<Option<Sent>, AllocError> {
+    match given.get_strs(COMMAND) {
+        Some(words) if are_words(words) => Ok(Some(sent_by(alloc, words)?)),
+        Some(_) => Ok(None),
+        None => Ok(Some(Sent {
+            line: None,
+            input: None,
+        })),
+    }
+}
+
 /// What `submit` asks for.
 pub(crate) fn submit_of(alloc: Global, given: &ArgMatches<'_>) -> Result<Work, Error>
     ensures { IfOk result IsAllowed }
 {
     let wait = wait_of(alloc, given)?;
-    let words = match given.get_strs("COMMAND") {
-        Some(words) => words,
-        None => &[],
-    };
-    if !are_words(words) {
-        return Err(refused_submit(alloc, WORD_RULE)?);
-    }
     let Some(folder) = path_of(alloc, given, "FOLDER")? else {
         return Err(refused_submit(alloc, PATH_RULE)?);
     };
-    let Some(was) = was_of(alloc, given, words)? else {
+    let Some(was) = was_of(alloc, given)? else {
         return Err(refused_submit(alloc, WAS_RULE)?);
     };
-    let Sent { line, input } = sent_of(alloc, words)?;
+    let Some(sent) = sent_of(alloc, given)? else {
+        return Err(refused_submit(alloc, WORD_RULE)?);
+    };
+    let Sent { line, input } = sent;
     Ok(Work::Submit(Submitter {
         folder,
         line,
