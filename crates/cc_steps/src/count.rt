@@ -22,13 +22,20 @@ pub struct CountedOutcome {
     pub steps: u64,
 }
 
+// Whether a run still goes.
+fn is_going(done: &Outcome) -> bool
+    ensures { IsTrue result ↔ ((outcome_tree done.now).stop ≡ outcome.Going) }
+{
+    matches!(done.stop, Stop::Going)
+}
+
 // Whether a program still goes within these steps.
 fn goes(alloc: Global, unit: &TypedUnit, input: &[u32], steps: u64) -> Result<bool, MeaningFault>
     ensures { IfOk result (λ goes. IsTrue goes ↔ ((source_behavior (source unit.now) input.now steps).stop ≡ outcome.Going)) }
 {
     match interpret(alloc, unit, input, steps) {
         Ok(outcome) => {
-            let is_going = matches!(outcome.stop, Stop::Going);
+            let is_going = is_going(&outcome);
             drop(outcome);
             Ok(is_going)
         }
@@ -70,7 +77,7 @@ pub fn interpret_counted(
         Ok(outcome) => outcome,
         Err(fault) => return Err(fault),
     };
-    if matches!(outcome.stop, Stop::Going) {
+    if is_going(&outcome) {
         runs_go_on();
         return Ok(CountedOutcome { outcome, steps });
     }

@@ -139,7 +139,7 @@ pub fn explanation_of_going(alloc: Global, task: &Task, text: &[u8]) -> Explanat
     };
     let told = of_wrong(alloc, text, words, steps, cause);
     let mut explanation = Explanation::first(alloc, told);
-    explanation.words = Some("the image has stopped in place, since the program goes wrong:");
+    explanation.words = Some("the image stops in place, since the program goes wrong:");
     explanation
 }
 

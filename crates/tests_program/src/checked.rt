@@ -150,7 +150,7 @@ static EXPLAINED: [(&str, &str, &str); 3] = [
     (
         "int a[3],n=3;int main(void){write_word(a[2]);write_word(a[n]);}",
         "0\ngoing\n",
-        "cclib: the image has stopped in place, since the program goes wrong:\n-:1:57: index 3 is outside a[3], in main\n    1 | int a[3],n=3;int main(void){write_word(a[2]);write_word(a[n]);}\n      |                                                         ^\n",
+        "cclib: the image stops in place, since the program goes wrong:\n-:1:57: index 3 is outside a[3], in main\n    1 | int a[3],n=3;int main(void){write_word(a[2]);write_word(a[n]);}\n      |                                                         ^\n",
     ),
 ];
 
