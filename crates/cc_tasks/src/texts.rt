@@ -8,7 +8,7 @@ ghost use Rattle.cc_tasks.specs.declared.fault.Fault.TheVariants.{OutOfMemory};
 
 use super::fault::Fault;
 use super::stages::{explain_stages, try_stages};
-use super::work::{Done, Performed, done, explain, refused, status, try_perform};
+use super::work::{Done, Performed, ended, explain, refused, status, try_perform};
 use cc_sources::{NamedText, NoText, NoTexts, Origin, join, read_texts, tell_unread};
 use cc_task::{Kind, Task};
 use std::alloc::{AllocError, Global};
@@ -87,7 +87,7 @@ pub fn carry_out_texts<H: AllocGlobal, W: Write>(
     ensures { IsPerformed task (Some (joined texts.now)) (W.contents writer.old) (W.contents writer.new) result.status result.is_written }
 {
     let performed = try_texts(rt.alloc(), &task, texts, writer);
-    done(performed)
+    ended(performed)
 }
 
 /// Does a task as `carry_out_texts` does; the status.
@@ -118,7 +118,7 @@ pub fn perform_texts_and_explain<H: AllocGlobal, W: Write, E: Write>(
     let performed = try_texts(rt.alloc(), &task, texts, writer);
     let origin = Origin::Texts(texts);
     explain(rt.alloc(), &task, &performed, origin, explanations);
-    done(performed)
+    ended(performed)
 }
 
 // Shows the functions of the text that texts make.

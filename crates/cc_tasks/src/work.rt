@@ -292,7 +292,7 @@ fn is_told(fault: &Fault) -> bool
 }
 
 /// How a task ended that was done.
-pub(crate) fn done(performed: Performed) -> Done
+pub(crate) fn ended(performed: Performed) -> Done
     ensures status { result.status ≡ status_of performed.told }
     ensures written { result.is_written ≡ written_of performed.told }
 {
@@ -322,7 +322,7 @@ pub fn carry_out<H: AllocGlobal, R: Read, W: Write>(
     ensures { IsPerformed task (R.remaining reader.old) (W.contents writer.old) (W.contents writer.new) result.status result.is_written }
 {
     let performed = try_perform(rt.alloc(), &task, reader, writer);
-    done(performed)
+    ended(performed)
 }
 
 /// Does a task as `carry_out` does; the status.
@@ -356,5 +356,5 @@ pub fn perform_and_explain<H: AllocGlobal, R: Read, W: Write, E: Write>(
 {
     let performed = try_perform(rt.alloc(), &task, reader, writer);
     explain(rt.alloc(), &task, &performed, Origin::Input, explanations);
-    done(performed)
+    ended(performed)
 }
