@@ -72,7 +72,7 @@ unread input a b fault told (inr is) (inr by) task = inr (inr (subst (λ (f : Fa
 })))
 
 -- a task that was not done, since memory ran out before a text was there
-pub undone : {T : Type 0} (answer : Result T Fault) (task : Task) (input a b : Option (List ℕ)) → IsErrAnd answer (λ told. RefusesBy OutOfMemory [] a b told) → IsDoneFor task input a b answer
+pub undone : (answer : Result Matter Fault) (task : Task) (input a b : Option (List ℕ)) → IsErrAnd answer (λ told. RefusesBy OutOfMemory [] a b told) → IsDoneFor task input a b answer
 undone (Ok did) task input a b by = absurd by
 undone (Err told) task input a b by = unread input a b OutOfMemory told (inr refl) by task
 

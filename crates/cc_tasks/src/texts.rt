@@ -77,7 +77,6 @@ fn try_texts<W: Write>(alloc: Global, task: &Task, texts: &[NamedText], writer: 
 }
 
 /// Does a task as `carry_out` does, for the text that texts make: one after the other, with a newline between two if the first lacks it.
-#[tactic(auto, using(crate::proofs::Working::performed))]
 pub fn carry_out_texts<H: AllocGlobal, W: Write>(
     rt: &H,
     task: Task,
@@ -105,7 +104,6 @@ pub fn perform_texts<H: AllocGlobal, W: Write>(
 
 /// Does a task as `carry_out_texts` does, and writes to `explanations` what `perform_and_explain` does, with the name of the text that a place
 /// lies in, and line and column there.
-#[tactic(auto, using(crate::proofs::Working::performed))]
 pub fn perform_texts_and_explain<H: AllocGlobal, W: Write, E: Write>(
     rt: &H,
     task: Task,

@@ -312,7 +312,6 @@ pub(crate) fn ended(performed: Performed) -> Done
 ///
 /// The status is 0 for an answer, but 1 for one of `safe` that the program may go wrong, and 1 for a fault. A read that fails is fault 53; a
 /// write that fails is fault 54, of which no line is written.
-#[tactic(auto, using(crate::proofs::Working::performed))]
 pub fn carry_out<H: AllocGlobal, R: Read, W: Write>(
     rt: &H,
     task: Task,
@@ -344,7 +343,6 @@ pub fn perform<H: AllocGlobal, R: Read, W: Write>(
 /// in place; of another program what is warned of.
 /// Of a write to `writer` that fails it says so. Where memory for an explanation runs out, or it can not be written, there is none; the
 /// status is the same.
-#[tactic(auto, using(crate::proofs::Working::performed))]
 pub fn perform_and_explain<H: AllocGlobal, R: Read, W: Write, E: Write>(
     rt: &H,
     task: Task,
