@@ -1,5 +1,7 @@
 // A writer of answers that says on a terminal how many lines of them there are.
 
+ghost use Rattle.std.specs.Prelude.{◌≡◌};
+
 use std::io::{self, Write};
 use std::rt::Clock;
 
