@@ -1,9 +1,11 @@
 // A writer of answers that says on a terminal how many lines of them there are.
 
+ghost use Rattle.std.specs.Prelude.{◌≡◌};
+
 use std::io::{self, Write};
 use std::rt::Clock;
 
-/// For how many seconds nothing is said.
+/// For how many seconds nothing is shown.
 const QUIET: u64 = 2;
 
 /// A writer of answers that says how many lines of them there are: from the third second on, at most once a second, on one line of a terminal,
@@ -12,9 +14,9 @@ const QUIET: u64 = 2;
 pub struct AnswerProgress<W: Drop, C: Drop, E: Drop> {
     writer: W,
     clock: C,
-    // Where it is said; none if nobody is to be told.
+    // The terminal that shows it, if one does.
     screen: Option<E>,
-    // From which second on something is said.
+    // The second from which on something is shown.
     next: u64,
     lines: u64,
     is_shown: bool,
@@ -32,7 +34,7 @@ fn second<C: Clock>(clock: &C) -> Option<u64> {
 }
 
 impl<W: Write + Drop, C: Clock + Drop, E: Write + Drop> AnswerProgress<W, C, E> {
-    /// Before this writer. What is said goes to the screen, if there is one.
+    /// Before this writer. The screen, if there is one, shows how many lines there are.
     pub fn new(writer: W, clock: C, screen: Option<E>) -> AnswerProgress<W, C, E>
         ensures { result.writer ≡ writer }
     {
@@ -50,14 +52,14 @@ impl<W: Write + Drop, C: Clock + Drop, E: Write + Drop> AnswerProgress<W, C, E> 
         }
     }
 
-    /// The writer behind.
+    /// The writer that gets the answers.
     pub fn writer(&self) -> &W
         ensures { result.now ≡ self.now.writer }
     {
         &self.writer
     }
 
-    /// Takes what was said off the screen.
+    /// Clears the screen's line.
     pub fn clear(&mut self)
         ensures { self.new.writer ≡ self.old.writer }
     {
@@ -71,7 +73,7 @@ impl<W: Write + Drop, C: Clock + Drop, E: Write + Drop> AnswerProgress<W, C, E> 
         }
     }
 
-    // Says how many lines there are. The cursor goes back, so that what is told next is written over it.
+    // Says how many lines there are. The cursor goes back, so that the next line is written over it.
     fn show(&mut self)
         ensures { self.new.writer ≡ self.old.writer }
     {

@@ -1,4 +1,4 @@
-// Of which sources an installed program is: what its install wrote beside it, behind the line of the version.
+// The sources of an installed program: its install wrote them beside it. They come after the line of the version.
 
 use cc_sources::{NoText, read_text};
 use std::env;
@@ -20,7 +20,7 @@ fn sources(files: &HostRuntime) -> io::Result<Vec<u8>> {
     }
 }
 
-// Whether a line says of which sources the program is, or by which toolchain it was made. What would steer a terminal is none.
+// Whether a line names the sources of the program, or the toolchain that made it. A line that would steer a terminal does not.
 fn is_wanted(line: &[u8]) -> bool {
     (line.starts_with(b"commit ") || line.starts_with(b"toolchain "))
         && line
@@ -39,7 +39,7 @@ fn write_wanted<W: Write>(text: &[u8], writer: &mut W) -> io::Result<()> {
     writer.flush()
 }
 
-/// Prints of which sources the program is, if it is installed; the status.
+/// Prints the sources of the program, if it is installed; the status.
 pub fn print_sources<R: Print>(rt: &R, files: &HostRuntime) -> u8 {
     match sources(files) {
         Ok(text) => u8::from(write_wanted(text.as_slice(), &mut io::writer(rt)).is_err()),

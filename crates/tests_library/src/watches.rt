@@ -51,7 +51,7 @@ impl Clock for Ticks {
     }
 }
 
-// Nothing is said for two seconds, and then once a second: with the first line of the second and of each later one.
+// Nothing is shown for two seconds, and then at most once a second.
 #[test]
 fn lines_so_far(rt: HostRuntime) -> Result<(), Fail> {
     let alloc = rt.alloc();
