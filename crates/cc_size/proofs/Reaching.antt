@@ -12,7 +12,7 @@ use Rattle.cc_emit.specs.Piece.{Piece}
 use Rattle.cc_link.specs.Linked.{all_items, lent_pieces}
 use Rattle.cc_size.specs.declared.recursion.Recursion.{Recursion}
 use Rattle.cc_size.specs.Cycles.{AreCyclic, DoesCall, IsCyclic, LeadsBy}
-use Rattle.cc_size.specs.internal.Reached.{FoundUpTo, item_calls, items_call, nearer, reaches}
+use Rattle.cc_size.specs.internal.Reached.{FoundUpTo, added, item_calls, items_call, nearer, reaches}
 
 -- ---- tests
 
@@ -150,40 +150,28 @@ found_first bodies found e = record {
     nowhere it (inl lt) = omega arith
     nowhere it (inr p) = (let lt = p.1 in omega arith)
 
--- one more call that is part of a cycle
-pub found_more : (bodies : List (List PieceItem)) (f m : ℕ) (old new : List Recursion) (it : Recursion) → it.caller ≡ f → it.called ≡ m → new ≡ old ++ it ∷ [] → (items_call (λ g. g == m) (get_or bodies f []) && reaches bodies f (length bodies) m) ≡ true → FoundUpTo bodies f m old → FoundUpTo bodies f (m + 1) new
-found_more bodies f m old new it ef em pushed yes o = record {
-  each = λ other c. by_case other (Contains-push_cases old it other (subst (λ (xs : List Recursion). Contains xs other) pushed c));
-  all = λ other cycle few before. subst (λ (xs : List Recursion). Contains xs other) (sym pushed) (found_by other cycle few before);
+-- one more call, which is part of a cycle or is not
+found_yes : (bodies : List (List PieceItem)) (f m : ℕ) (old : List Recursion) → items_call (λ g. g == m) (get_or bodies f []) ≡ true → reaches bodies f (length bodies) m ≡ true → FoundUpTo bodies f m old → FoundUpTo bodies f (m + 1) (old ++ record { caller = f; called = m } ∷ [])
+found_yes bodies f m old calls back o = record {
+  each = λ other c. by_case other (Contains-push_cases old it other c);
+  all = found_by;
 }
   where
-    two : (a b : Bool) → (a && b) ≡ true → (a ≡ true) × (b ≡ true)
-    two true true p = (refl, refl)
-    two true false p = absurd (let z : false ≡ true = p in cc)
-    two false b p = absurd (let z : false ≡ true = p in cc)
-
-    calls : items_call (λ g. g == m) (get_or bodies f []) ≡ true
-    calls = (two (items_call (λ g. g == m) (get_or bodies f [])) (reaches bodies f (length bodies) m) yes).0
-
-    back : reaches bodies f (length bodies) m ≡ true
-    back = (two (items_call (λ g. g == m) (get_or bodies f [])) (reaches bodies f (length bodies) m) yes).1
+    it : Recursion
+    it = record { caller = f; called = m }
 
     does_call : DoesCall bodies f m
     does_call = (let r = items_found (λ g. g == m) (get_or bodies f []) calls in subst (DoesCall bodies f) (eqb_says r.0 m r.2) r.1)
 
     cyclic : IsCyclic bodies it
-    cyclic = (let w = reach_sound bodies f (length bodies) m back in record {
-      calls = subst (λ n. DoesCall bodies n it.called) (sym ef) (subst (DoesCall bodies f) (sym em) does_call);
-      way = w.0;
-      back = subst (λ n. LeadsBy bodies w.0 n it.caller) (sym em) (subst (LeadsBy bodies w.0 m) (sym ef) w.1);
-    })
+    cyclic = (let w = reach_sound bodies f (length bodies) m back in record { calls = does_call; way = w.0; back = w.1 })
 
     by_case : (other : Recursion) → Contains old other ⊎ (it ≡ other) → IsCyclic bodies other
     by_case other (inl c) = o.each other c
     by_case other (inr e) = subst (IsCyclic bodies) e cyclic
 
     same : (other : Recursion) → other.caller ≡ f → other.called ≡ m → it ≡ other
-    same other e d = ap₂ (λ (a b : ℕ). record { caller = a; called = b }) (ef ∙ sym e) (em ∙ sym d)
+    same other e d = ap₂ (λ (a b : ℕ). record { caller = a; called = b }) (sym e) (sym d)
 
     found_by : (other : Recursion) (cycle : IsCyclic bodies other) → length cycle.way ≤ length bodies → (other.caller < f) ⊎ ((other.caller ≡ f) × (other.called < m + 1)) → Contains (old ++ it ∷ []) other
     found_by other cycle few (inl lt) = Contains-append_left old (it ∷ []) other (o.all other cycle few (inl lt))
@@ -192,12 +180,8 @@ found_more bodies f m old new it ef em pushed yes o = record {
       | inr h ↦ Contains-append_left old (it ∷ []) other (o.all other cycle few (inr (p.0, (let lt = p.1 in let ne = h.1 in omega arith))))
     ]
 
--- one that is not
-pub found_skip : (bodies : List (List PieceItem)) (f m : ℕ) (found : List Recursion) → (items_call (λ g. g == m) (get_or bodies f []) && reaches bodies f (length bodies) m) ≡ false → FoundUpTo bodies f m found → FoundUpTo bodies f (m + 1) found
-found_skip bodies f m found not o = record {
-  each = o.each;
-  all = found_by;
-}
+found_no : (bodies : List (List PieceItem)) (f m : ℕ) (found : List Recursion) → (items_call (λ g. g == m) (get_or bodies f []) && reaches bodies f (length bodies) m) ≡ false → FoundUpTo bodies f m found → FoundUpTo bodies f (m + 1) found
+found_no bodies f m found not o = record { each = o.each; all = found_by }
   where
     refused : (a b : Bool) → a ≡ true → b ≡ true → (a && b) ≡ false → ⊥
     refused true true p q n = (let z : true ≡ false = n in cc)
@@ -212,6 +196,23 @@ found_skip bodies f m found not o = record {
           (reach_whole bodies f (length bodies) m cycle.way (subst (λ n. LeadsBy bodies cycle.way n f) h.1 (subst (LeadsBy bodies cycle.way other.called) p.0 cycle.back)) few) not)
       | inr h ↦ o.all other cycle few (inr (p.0, (let lt = p.1 in let ne = h.1 in omega arith)))
     ]
+
+found_next_by : (bodies : List (List PieceItem)) (f m : ℕ) (old : List Recursion) (a b is : Bool) → items_call (λ g. g == m) (get_or bodies f []) ≡ a → reaches bodies f (length bodies) m ≡ b → is ≡ (a && b) → FoundUpTo bodies f m old → FoundUpTo bodies f (m + 1) (old ++ added is f m)
+found_next_by bodies f m old a b true ea eb e o = (let t = two a b (sym e) in found_yes bodies f m old (ea ∙ t.0) (eb ∙ t.1) o)
+  where
+    two : (a b : Bool) → (a && b) ≡ true → (a ≡ true) × (b ≡ true)
+    two true true p = (refl, refl)
+    two true false p = absurd (let z : false ≡ true = p in cc)
+    two false b p = absurd (let z : false ≡ true = p in cc)
+found_next_by bodies f m old a b false ea eb e o = subst (FoundUpTo bodies f (m + 1)) (sym (append_none old)) (found_no bodies f m old (ap₂ (λ (x y : Bool). x && y) ea eb ∙ sym e) o)
+  where
+    append_none : (xs : List Recursion) → xs ++ [] ≡ xs
+    append_none [] = refl
+    append_none (x ∷ xs) = ap (λ l. x ∷ l) (append_none xs)
+
+pub found_next : (bodies : List (List PieceItem)) (f m : ℕ) (old new : List Recursion) (is : Bool) → new ≡ old ++ added is f m → is ≡ (items_call (λ g. g == m) (get_or bodies f []) && reaches bodies f (length bodies) m) → FoundUpTo bodies f m old → FoundUpTo bodies f (m + 1) new
+found_next bodies f m old new is put e o =
+    subst (FoundUpTo bodies f (m + 1)) (sym put) (found_next_by bodies f m old (items_call (λ g. g == m) (get_or bodies f [])) (reaches bodies f (length bodies) m) is refl refl e o)
 
 -- all of one function
 pub found_row : (bodies : List (List PieceItem)) (f m : ℕ) (found : List Recursion) → f < length bodies → length bodies ≤ m → FoundUpTo bodies f m found → FoundUpTo bodies (f + 1) 0 found
@@ -239,7 +240,7 @@ body_at [] at d lt is = absurd (omega arith)
 body_at (p ∷ ps) zero d lt is = ap (λ (b : Bor Piece). b.now.items) (sym is)
 body_at (p ∷ ps) (suc at) d lt is = body_at ps at d (omega arith) is
 
-pub asked : (ps : List (Bor Piece)) (f m : ℕ) (d : Bor Piece) (items : List PieceItem) (table : List Bool) (yes calls : Bool) → f < length ps → d ≡ get_or ps f d → items ≡ d.now.items → calls ≡ items_call (λ g. g == m) items → ((g : ℕ) → get_or table g false ≡ reaches (all_items (lent_pieces ps)) f (length ps) g) → yes ≡ (calls && get_or table m false)
-    → yes ≡ (items_call (λ g. g == m) (get_or (all_items (lent_pieces ps)) f []) && reaches (all_items (lent_pieces ps)) f (length (all_items (lent_pieces ps))) m)
-asked ps f m d items table yes calls lt is ei ec each e =
-    e ∙ ap₂ (λ (a b : Bool). a && b) (ec ∙ ap (items_call (λ g. g == m)) (ei ∙ sym (body_at ps f d lt is))) (each m ∙ ap (λ k. reaches (all_items (lent_pieces ps)) f k m) (sym (bodies_long ps)))
+pub asked : (ps : List (Bor Piece)) (f m : ℕ) (d : Bor Piece) (items : List PieceItem) (table : List Bool) (is calls : Bool) → f < length ps → d ≡ get_or ps f d → items ≡ d.now.items → calls ≡ items_call (λ g. g == m) items → ((g : ℕ) → get_or table g false ≡ reaches (all_items (lent_pieces ps)) f (length ps) g) → is ≡ (calls && get_or table m false)
+    → is ≡ (items_call (λ g. g == m) (get_or (all_items (lent_pieces ps)) f []) && reaches (all_items (lent_pieces ps)) f (length (all_items (lent_pieces ps))) m)
+asked ps f m d items table is calls lt is_d ei ec each e =
+    e ∙ ap₂ (λ (a b : Bool). a && b) (ec ∙ ap (items_call (λ g. g == m)) (ei ∙ sym (body_at ps f d lt is_d))) (each m ∙ ap (λ k. reaches (all_items (lent_pieces ps)) f k m) (sym (bodies_long ps)))

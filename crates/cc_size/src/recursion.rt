@@ -1,9 +1,9 @@
 // Which calls are part of a cycle of calls: of each function it is found from which functions calls lead to it.
 
-ghost use Rattle.std.specs.Prelude.{◌≡◌, ◌<◌, ◌+◌, ◌==◌, ◌&&◌, ◌||◌, ℕ, false, length, get_or, IfOk, OnOk};
+ghost use Rattle.std.specs.Prelude.{◌≡◌, ◌<◌, ◌+◌, ◌==◌, ◌&&◌, ◌||◌, ◌++◌, ℕ, false, length, get_or, IfOk, OnOk};
 ghost use Rattle.cc_link.specs.Linked.{all_items, lent_pieces};
 ghost use Rattle.cc_size.specs.Cycles.{AreCyclic};
-ghost use Rattle.cc_size.specs.internal.Reached.{item_calls, items_call, nearer, reaches, FoundUpTo};
+ghost use Rattle.cc_size.specs.internal.Reached.{added, item_calls, items_call, nearer, reaches, FoundUpTo};
 
 use cc_emit::{Piece, PieceItem};
 use std::alloc::{AllocError, Global};
@@ -96,6 +96,23 @@ fn leading(alloc: Global, pieces: &[&Piece], target: usize) -> Result<Vec<bool>,
     Ok(table)
 }
 
+// Adds a call, where it is part of a cycle.
+fn add_if(
+    found: &mut Vec<Recursion>,
+    is: bool,
+    caller: usize,
+    called: usize,
+) -> Result<(), AllocError>
+    ensures { OnOk result (found.new.items ≡ found.old.items ++ added is caller called) }
+{
+    if is {
+        found.push(Recursion { caller, called })?;
+        Ok(())
+    } else {
+        Ok(())
+    }
+}
+
 // Adds the calls of one function that are part of a cycle.
 fn add_of(
     alloc: Global,
@@ -107,12 +124,11 @@ fn add_of(
     requires before { FoundUpTo (all_items (lent_pieces pieces.now)) caller 0 found.old.items }
     ensures { OnOk result (FoundUpTo (all_items (lent_pieces pieces.now)) (caller + 1) 0 found.new.items) }
 {
-    let back = leading(alloc, pieces, caller)?;
+    let leading = leading(alloc, pieces, caller)?;
+    let back = leading.as_slice();
     for called in 0..back.len() {
         let calls = call(called, pieces[caller].items());
-        if both(calls, back[called]) {
-            found.push(Recursion { caller, called })?;
-        }
+        add_if(found, both(calls, back[called]), caller, called)?;
     }
     Ok(())
 }

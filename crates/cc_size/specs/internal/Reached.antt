@@ -1,5 +1,5 @@
 -- From which functions calls lead to one, as the code finds it.
-use Rattle.std.specs.Prelude.{◌≡◌, ℕ, zero, suc, ◌<◌, ◌≤◌, ◌⊎◌, Bool, false, ◌||◌, ◌==◌, List, [], ◌∷◌, Contains, length, get_or}
+use Rattle.std.specs.Prelude.{◌≡◌, ℕ, zero, suc, ◌<◌, ◌≤◌, ◌⊎◌, Bool, true, false, ◌||◌, ◌==◌, List, [], ◌∷◌, Contains, length, get_or}
 use Rattle.cc_emit.specs.declared.item.PieceItem.{PieceItem}
 use Rattle.cc_emit.specs.declared.item.PieceItem.TheVariants.{Plain, Call, Go}
 use Rattle.cc_size.specs.declared.recursion.Recursion.{Recursion}
@@ -31,3 +31,8 @@ nearer is (b ∷ bs) (items ∷ rest) = (b || items_call is items) ∷ nearer is
 pub record FoundUpTo (bodies : List (List PieceItem)) (caller called : ℕ) (found : List Recursion) : Type 0 where
   pub each : (it : Recursion) → Contains found it → IsCyclic bodies it
   pub all : (it : Recursion) (cycle : IsCyclic bodies it) → length cycle.way ≤ length bodies → (it.caller < caller) ⊎ ((it.caller ≡ caller) × (it.called < called)) → Contains found it
+
+-- a call, where it is part of a cycle
+abbrev pub added : (is : Bool) → (caller called : ℕ) → List Recursion
+added true f g = record { caller = f; called = g } ∷ []
+added false f g = []
