@@ -1,5 +1,5 @@
 -- What a script is to the client that does it: line by line a call of the service, what its answer makes of the client, and what is written of it.
-use Rattle.std.specs.Prelude.{◌≡◌, ◌≢◌, ◌⊎◌, ◌+◌, ◌<◌, ◌≤◌, ℕ, Bool, true, false, List, [], ◌∷◌, ◌++◌, All, drop, length, take, nat_le, if◌then◌else◌, Option, Some, None, IfSome, Result, Ok, Err, codes}
+use Rattle.std.specs.Prelude.{◌≡◌, ◌≢◌, ◌⊎◌, ◌+◌, ◌<◌, ◌≤◌, ℕ, Bool, true, false, List, [], ◌∷◌, ◌++◌, All, drop, length, take, nat_le, if◌then◌else◌, Option, Some, None, IfSome, Result, Ok, Err, IfErr, codes}
 use Rattle.std.specs.Io.KnownBytes.{Appends}
 use Rattle.cc_script.specs.Line.{ScriptRequest, Add, Replace, Withdraw, Names, Run, Compact, Audit, Image, Source, asked_of}
 use Rattle.cc_script.specs.Reading.{IsLine}
@@ -14,6 +14,9 @@ use Rattle.cc_history.specs.declared.entry.Receipt.{Receipt}
 use Rattle.cc_history.specs.declared.reply.Reply.TheVariants as reply
 use Rattle.cc_history.specs.Held.{receipts_bytes}
 use Rattle.cc_history.specs.History.{MemberView}
+use Rattle.cc_service.specs.Serving.{IsNotCompacted}
+use Rattle.cc_service.specs.book_fault.BookFault.{BookFault}
+use Rattle.cc_service.specs.declared.fault.ServiceFault.TheVariants.{Book}
 use Rattle.cc_c_laws.specs.declared.mode.Mode.{Mode}
 use Rattle.cc_service.specs.Serving.{Adds, Replaces, GetAnswers, ListAnswers, PutAnswers, WithdrawAnswers}
 use Rattle.cc_service.specs.declared.fault.ServiceFault.{ServiceFault}
@@ -78,9 +81,13 @@ pub record ListsAndAudits (mode : Mode) (old new : Talk) : Type 0 where
 abbrev pub Audits : Mode → (old new : Talk) → Type 0
 Audits mode old new = CallsAndWrites ListAnswers SaysRefusal old new ⊎ ListsAndAudits mode old new
 
--- the library was written anew, or was not; whoever did so is no client, and has no receipt
+-- a compaction is refused by 34, 35, 36 or 40 alone
+abbrev pub IsCompacted : Result (Unit {0}) ServiceFault → Type 0
+IsCompacted answer = IfErr answer (λ fault. (why : BookFault) × (fault ≡ Book why) × IsNotCompacted why)
+
+-- the service answered a compaction; whoever asked for it is no client, and has no receipt
 abbrev pub Compacts : (old new : Talk) → Type 0
-Compacts old new = (answer : Result (Unit {0}) ServiceFault) × Writes (done_text answer) old new
+Compacts old new = (answer : Result (Unit {0}) ServiceFault) × IsCompacted answer × Writes (done_text answer) old new
 
 -- what a line asks for is done in the mode; 50 if it asks for nothing
 -- ORDER ScriptCommand
@@ -100,8 +107,9 @@ Obeys mode None before after old new = (after ≡ before) × Writes (script_faul
 abbrev pub asked_by_line : Dialect → List ℕ → Option ScriptRequest
 asked_by_line dialect line = if nat_le (length line) 128 then asked_of dialect line else None
 
--- one line of a script of this dialect is done in the mode, with the source after it if it has one
+-- One line of a script of this dialect is done in the mode, with the source after it if it has one. There is a line only if a byte is left.
 pub record IsStep (mode : Mode) (dialect : Dialect) (before after : List ℕ) (old new : Talk) : Type 0 where
+  pub some : before ≢ []
   pub line : List ℕ
   pub rest : List ℕ
   pub is_line : IsLine before line rest
