@@ -1,6 +1,6 @@
 // A script that is left for a server, and what became of it.
 
-ghost use Rattle.std.specs.Prelude.{◌≡◌, ◌++◌, ◌∷◌, [], IfOk, OnErr, codes, string_bytes};
+ghost use Rattle.std.specs.Prelude.{◌≡◌, ◌++◌, ◌∷◌, [], false, IfOk, OnErr, codes, string_bytes};
 ghost use Rattle.std.specs.Option.{option_map};
 ghost use Rattle.cc_script.specs.Line.{asked_of};
 ghost use Rattle.cc_spool.specs.Submitted.{HasWrittenIfOk};
