@@ -107,7 +107,7 @@ def plants():
         ("commands", changed("crates/cc_command_line/src/spool.rt", ("\n  list", "\n  planted")), "SUBMIT_HELP"),
         ("commands", changed("docs/FORMATS.md", ("\n| `list` |", "\n| `planted` |")), "docs/FORMATS.md"),
         ("from_help", changed("docs/cclib.1", more='.\\" planted\n'), "docs/cclib.1"),
-        ("from_help", changed("README.md", ("| Command | What it does |\n", "| Command | What it does |\n| planted | |\n")), "README.md"),
+        ("from_help", changed("docs/LANGUAGE.md", ("| Command | What it does |\n", "| Command | What it does |\n| planted | |\n")), "docs/LANGUAGE.md"),
         ("costs", changed("docs/GATE.md", ("|   52 |", "|   53 |")), "docs/GATE.md"),
         ("example", changed("docs/SERVICE.md", ("```rust\n", "```rust\n// Planted.\n")), "docs/SERVICE.md"),
         ("pictures", changed("docs/pictures/passes.svg", ("<svg ", "<svg  ")), "docs/pictures/passes.svg is not what"),
