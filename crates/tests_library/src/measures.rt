@@ -66,7 +66,7 @@ fn lines_of_units(rt: HostRuntime) -> Result<(), Fail> {
         wild.0
             .as_slice()
             .split(|byte| *byte == b'\n')
-            .any(|line| line == b"globals 12")
+            .any(|line| line == b"globals 12".as_slice())
     );
     Ok(())
 }
