@@ -73,7 +73,10 @@ fn updates(rt: HostRuntime) -> Result<(), Fail> {
     let alloc = rt.alloc();
     for (script, lines) in UPDATES.iter() {
         let (bytes, wanted) = (script.as_bytes(), lines.as_bytes());
-        assert!(rt; is_served(&rt, alloc, bytes, ROOM, wanted, None)?, "for {script}");
+        assert!(rt;
+            is_served(&rt, alloc, bytes, ROOM, wanted, None)?,
+            "for {script}"
+        );
     }
     Ok(())
 }
@@ -83,7 +86,10 @@ fn audits_and_calls(rt: HostRuntime) -> Result<(), Fail> {
     let alloc = rt.alloc();
     for (script, lines) in LOOKS.iter() {
         let (bytes, wanted) = (script.as_bytes(), lines.as_bytes());
-        assert!(rt; is_served(&rt, alloc, bytes, ROOM, wanted, None)?, "for {script}");
+        assert!(rt;
+            is_served(&rt, alloc, bytes, ROOM, wanted, None)?,
+            "for {script}"
+        );
     }
     Ok(())
 }
@@ -100,7 +106,10 @@ fn scripts_that_end_early(rt: HostRuntime) -> Result<(), Fail> {
         "call a 1 9\n1 2",
     ] {
         let bytes = script.as_bytes();
-        assert!(rt; is_served(&rt, alloc, bytes, ROOM, lines, Some(51))?, "for {script}");
+        assert!(rt;
+            is_served(&rt, alloc, bytes, ROOM, lines, Some(51))?,
+            "for {script}"
+        );
     }
     Ok(())
 }
