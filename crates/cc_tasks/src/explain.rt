@@ -5,7 +5,7 @@ use cc_answers::{of_fault, words_of_task};
 use cc_diagnostic::{Diagnostic, further_of_typing, warnings};
 use cc_link::{TextFault, typed_unit};
 use cc_meaning::{Cause, Stop, interpret};
-use cc_run_diagnostic::of_wrong;
+use cc_run_diagnostic::{WrongRun, of_wrong_run};
 use cc_sources::{Origin, write_diagnostic};
 use cc_task::{Kind, Task};
 use std::alloc::{AllocError, Global};
@@ -20,6 +20,8 @@ pub(crate) enum Matter {
     Wrong(Cause),
     /// Whether an image that goes on has stopped in place.
     Going,
+    /// Nothing; the program may go wrong.
+    Unsure,
 }
 
 /// What is told beside the answer to a text.
@@ -29,6 +31,8 @@ pub struct Explanation {
     pub words: Option<&'static str>,
     /// What is told of the fault, or of what went wrong in a run.
     pub first: Option<Diagnostic>,
+    /// The calls that were open as a run went wrong, the innermost first.
+    pub calls: Vec<Diagnostic>,
     /// What would be said if the fault were mended, up to twenty in all.
     pub further: Vec<Diagnostic>,
     /// What is warned of in a program.
@@ -41,6 +45,7 @@ impl Explanation {
         Explanation {
             words,
             first: None,
+            calls: Vec::new(alloc),
             further: Vec::new(alloc),
             warnings: Vec::new(alloc),
         }
@@ -51,6 +56,17 @@ impl Explanation {
         let mut explanation = Explanation::words(alloc, None);
         if let Ok(first) = told {
             explanation.first = first;
+        }
+        explanation
+    }
+
+    // What is told of a run that went wrong.
+    fn wrong(alloc: Global, told: Result<Option<WrongRun>, AllocError>) -> Explanation {
+        let mut explanation = Explanation::words(alloc, None);
+        if let Ok(Some(run)) = told {
+            let WrongRun { first, calls } = run;
+            explanation.first = Some(first);
+            explanation.calls = calls;
         }
         explanation
     }
@@ -88,17 +104,21 @@ pub fn explanation_of_program(alloc: Global, text: &[u8]) -> Explanation {
     explanation
 }
 
-/// What is told of a task that answered that a text's run goes wrong for a cause: where, in which function and with which values. The run is
-/// done once more for that. Nothing where memory for it runs out.
+/// What is told of a task that answered that a text's run goes wrong for a cause: where, in which function, with which values, and which calls
+/// are open. The run is done once more for that. Nothing where memory for it runs out.
 pub fn explanation_of_wrong(alloc: Global, task: &Task, text: &[u8], cause: Cause) -> Explanation {
     match task {
-        Task::Interpret(steps, words) => {
-            let told = of_wrong(alloc, text, words.as_slice(), *steps, cause);
-            Explanation::first(alloc, told)
+        Task::Interpret(steps, words) | Task::InterpretCounted(steps, words) => {
+            let told = of_wrong_run(alloc, text, words.as_slice(), *steps, cause);
+            Explanation::wrong(alloc, told)
         }
-        Task::Check | Task::Run(_, _, _) | Task::Asm(_) | Task::Image(_) | Task::Size(_) => {
-            Explanation::words(alloc, None)
-        }
+        Task::Check
+        | Task::Run(_, _, _)
+        | Task::RunCounted(_, _, _)
+        | Task::Asm(_)
+        | Task::Image(_)
+        | Task::Size(_)
+        | Task::Safe => Explanation::words(alloc, None),
     }
 }
 
@@ -122,16 +142,33 @@ fn stopping_cause(alloc: Global, text: &[u8], words: &[u32], steps: u64) -> Opti
 /// What is told of a run of an image that goes on: of a checked one where it has stopped in place, if the program goes wrong within as many
 /// steps, 100,000,000 at most; else what is warned of in the text. The program is interpreted for that.
 pub fn explanation_of_going(alloc: Global, task: &Task, text: &[u8]) -> Explanation {
-    let Task::Run(Kind::Checked, steps, words) = task else {
+    let (steps, words) = match task {
+        Task::Run(Kind::Checked, steps, words) | Task::RunCounted(Kind::Checked, steps, words) => {
+            (*steps, words.as_slice())
+        }
+        _ => return explanation_of_program(alloc, text),
+    };
+    let Some(cause) = stopping_cause(alloc, text, words, steps) else {
         return explanation_of_program(alloc, text);
     };
-    let Some(cause) = stopping_cause(alloc, text, words.as_slice(), *steps) else {
-        return explanation_of_program(alloc, text);
-    };
-    let told = of_wrong(alloc, text, words.as_slice(), *steps, cause);
-    let mut explanation = Explanation::first(alloc, told);
-    explanation.words = Some("the image has stopped in place, since the program goes wrong:");
+    let told = of_wrong_run(alloc, text, words, steps, cause);
+    let mut explanation = Explanation::wrong(alloc, told);
+    explanation.words = Some("the image stops in place, since the program goes wrong:");
     explanation
+}
+
+/// What is told of what an answer to a task for a text leaves to be explained.
+pub(crate) fn explanation_of_matter(
+    alloc: Global,
+    task: &Task,
+    text: &[u8],
+    matter: Matter,
+) -> Explanation {
+    match matter {
+        Matter::Text | Matter::Unsure => explanation_of_program(alloc, text),
+        Matter::Wrong(cause) => explanation_of_wrong(alloc, task, text, cause),
+        Matter::Going => explanation_of_going(alloc, task, text),
+    }
 }
 
 // Writes each of some diagnostics.
@@ -162,6 +199,7 @@ pub fn write_explanation<W: Write>(
     if let Some(first) = &explanation.first {
         write_diagnostic(alloc, text, origin, first, writer)?;
     }
+    write_each(alloc, text, origin, explanation.calls.as_slice(), writer)?;
     write_each(alloc, text, origin, explanation.further.as_slice(), writer)?;
     write_each(alloc, text, origin, explanation.warnings.as_slice(), writer)
 }
