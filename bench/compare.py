@@ -2,7 +2,7 @@
 """Compares what the interpreter, the compiled program and gcc's program write, for random programs whose meaning the standard fixes.
 
 compare.py [COUNT] [SEED]: COUNT programs (100), from a seed (1). The programs have both types, casts, all operators, arrays of words and of bytes, locals,
-functions of up to eight parameters without side effects, words of the input and all statements but goto; shifts and divisions are
+functions of up to eight parameters, of which some may return at once, elements near by, words of the input and all statements but goto; shifts and divisions are
 guarded, and sums wrap (-fwrapv). Every second program has more objects between its own, so that some of these lie beyond the first 4 KiB of
 the globals, or across their end. The words have to be the same, and the word that main returns; gcc tells only the last eight bits of
 that. A program in which an operation goes wrong is passed over, once it is seen that it is compiled. The program has to be built
@@ -45,6 +45,32 @@ int l = 9, m = -3, n = 0; unsigned s = 4000000000u, t = 0, o = 1;
 """
 CONSTANTS = "0 1 2 3 7 31 32 255 2147483647 1u 5u 4294967295u 0x80000000 0x7fffffff 017 65536".split()
 VARIABLES = "a b c u v w l m n s t o".split()
+
+
+# More of a program, from random numbers of its own, so that the rest stays as it was for a seed.
+
+
+def near(more):
+    """A loop over elements beside one another."""
+    element = lambda by: f"{more.choice('pqre')}[i{more.choice(['', '', by])}]"
+    up = more.random() < 0.5
+    by = "+1" if up else "-1"
+    first = f"{element(by)}{more.choice(['=', '+=', '^='])}{element(by)}{more.choice('+-*^|')}{element(by)};"
+    head = "int i=0;i<3;i++" if up else "unsigned i=3;i>0;i--"
+    return f"for({head}){{{first}write_word({element(by)}-{element(by)});}}"
+
+
+def called(more):
+    return f"write_word(early{more.randrange(3)}({more.choice(VARIABLES)},{more.choice(CONSTANTS)}));"
+
+
+def returning(number, more):
+    """A function that begins with a test, mostly so that one way of it returns at once."""
+    test = more.choice(["x", "!x", "x<y", "x>=7", "y==x", "(x&3)==0", "x*2<y", "(int)y<0", "x+5>(int)y"])
+    soon = more.choice(["x", "y", "x+1", "3", "y-x", "x^y", "-x", "p[1]", "x*y+1"])
+    later = more.choice(["f(x,y)-y", "g(y,x)+x*y", "f(x,y)+g(x,y)+x", "d(x&7,y)+y", "x-y+(x>>3)"])
+    body = f"if({test})return {soon};return {later};" if more.random() < 0.7 else f"if({test}){{x={later};c^=x;}}return {soon};"
+    return f"int early{number}(int x, unsigned y) {{ {body} }}\n"
 
 
 class Writer:
@@ -121,10 +147,11 @@ class Writer:
             return f"for(int {n}=0;{n}<{turns};{n}++){{{s()}{leave}{s()}}}"
         return f"{{int {n}={turns};do{{{s()}{n}--;}}while({n}>0);}}"
 
-    def begin(self, seed):
+    def begin(self, seed, more):
         """The objects and the helpers; of an odd seed with up to 5,000 words between two objects, mostly so few that the 4 KiB end among them."""
         pads = random.Random(-seed)
         lines = BEGIN.splitlines(keepends=True)
+        lines[-2:-2] = [returning(it, more) for it in range(3)]
         for at in range(5, 0, -1) if seed % 2 else ():
             if pads.random() < 0.6:
                 size = pads.choice([1, 3, 250, 900, 1016, 1020, 1024, pads.randrange(1, 5000)])
@@ -132,7 +159,12 @@ class Writer:
         return "".join(lines)
 
     def program(self, seed):
-        return self.begin(seed) + "".join(self.statement(3) + "\n" for _ in range(40)) + "return a;\n}\n"
+        """Forty statements, between them some with elements near by, and calls of functions that may return at once."""
+        more = random.Random(f"more of {seed}")
+        statements = [self.statement(3) for _ in range(40)]
+        for at in range(35, 0, -5):
+            statements.insert(at, more.choice([near, near, called])(more))
+        return self.begin(seed, more) + "".join(it + "\n" for it in statements) + "return a;\n}\n"
 
 
 def lines_of(command, text=""):

@@ -1,7 +1,20 @@
 # The three services for the start in start.s, on a core that qemu simulates: words go out as four bytes each, the lowest first, by
-# semihosting; the input is what the linker puts at `input`, a count and that many words. A board has its own in place of this file.
+# semihosting; the input is what the linker puts at `input`, a count and that many words; the stack begins at `stack_from`, an address given to the
+# linker. A board has its own in place of this file.
 
-        .globl  write_word, read_word, end_with
+        .globl  write_word, read_word, end_with, backed
+
+# Where this core begins: it takes the stack from 0x00600000 to `stack_from` away, so a load or store there traps, and goes on with the start. A
+# region of physical memory protection without rights, which is locked, so it holds for machine mode.
+backed: li      t0, 0x00600000 >> 2
+        csrw    pmpaddr0, t0
+        lui     t0, %hi(stack_from)
+        addi    t0, t0, %lo(stack_from)
+        srli    t0, t0, 2
+        csrw    pmpaddr1, t0
+        li      t0, 0x8800              # the second: locked, from the first one's address up to its own
+        csrw    pmpcfg0, t0
+        j       _start
 
 # semihosting: the call's number in x10, its argument in x11. The three instructions must be in one page and uncompressed.
         .balign 16

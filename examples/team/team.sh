@@ -2,8 +2,8 @@
 # What a firmware team does with a library of units, from the first `add` to the images for a board: examples/team/team.sh [FOLDER]
 #
 # Four units are stored, one is replaced, all are listed and audited; source and image of each are taken out, the image is read by objcopy and compared with
-# the listing, and, where qemu is there, run on a core that knows nothing of cclib, with the start of start.s. FOLDER (made, else a temporary
-# one) has the library and the images afterwards. CCLIB names the program, where it is not ./cclib. The status is 0 where all is as it should be.
+# the listing, and, where qemu is there, run on a core that knows nothing of cclib, with the start of start.s and with no more stack than `size` says.
+# FOLDER (made, else a temporary one) has the library and the images afterwards. CCLIB names the program, where it is not ./cclib. The status is 0 where all is as it should be.
 set -euo pipefail
 here=$(CDPATH='' cd -- "$(dirname -- "$(readlink -f -- "$0")")" && pwd)
 cclib=${CCLIB:-$here/../../cclib}
@@ -38,6 +38,7 @@ for unit in checksum frame lamp heater; do
   "$cclib" source "$library" $unit | cmp - "$here/${source[$unit]}" || fail "the source of $unit is another one"
   "$cclib" image "$library" $unit >"$out/$unit.hex"
   "$cclib" asm <"$here/${source[$unit]}" >"$out/$unit.lst"
+  "$cclib" size <"$here/${source[$unit]}" | tee "$out/$unit.size"
   # shellcheck disable=SC2086
   "$cclib" run 100000 ${words[$unit]} <"$here/${source[$unit]}" | tee "$out/$unit.said"
   command -v $tool-objcopy >/dev/null || { echo "team: no $tool-objcopy here: the image is not compared" >&2; continue; }
@@ -51,15 +52,17 @@ for unit in checksum frame lamp heater; do
   # The globals' end: the image begins at 0x00010000, and has globals where it goes on beyond 0x00200000.
   size=$(wc -c <"$out/$unit.bin")
   end=$((65536 + size > 2097152 ? 65536 + size : 2097152))
+  # So many bytes below 0x00800000 the image has, and none below them.
+  stack=$(sed -n 's/^stack //p' "$out/$unit.size")
   # shellcheck disable=SC2086
   { printf '.data\n.globl input\n.balign 4\ninput: .word '; wc -w <<<"${words[$unit]}"; printf '.word %s\n' ${words[$unit]}; } >"$out/input.s"
   for file in "$here/start.s" "$here/qemu.s" "$out/input.s"; do $tool-as -march=rv32im_zicsr -mabi=ilp32 "$file" -o "$out/$(basename "$file" .s).o"; done
-  $tool-ld --no-relax -m elf32lriscv -Ttext=0x1000 -Tdata=0x2000 --defsym globals_end=$end "$out/start.o" "$out/qemu.o" "$out/input.o" -o "$out/start.elf"
+  $tool-ld --no-relax -m elf32lriscv -e backed -Ttext=0x1000 -Tdata=0x2000 --defsym globals_end=$end --defsym stack_from=$((8388608 - stack)) "$out/start.o" "$out/qemu.o" "$out/input.o" -o "$out/start.elf"
   status=0
   timeout 60 qemu-system-riscv32 -M none -cpu rv32 -m 16M -display none -monitor none -serial none \
     -semihosting-config enable=on,target=native,chardev=words -chardev file,id=words,path="$out/$unit.words" \
     -device loader,file="$out/$unit.hex" -device loader,file="$out/start.elf",cpu-num=0 || status=$?
   { od -An -v -w4 -td4 "$out/$unit.words" | tr -d ' '; echo "exited $status"; } >"$out/$unit.qemu"
   cmp "$out/$unit.said" "$out/$unit.qemu" || fail "$unit does something else on qemu's core"
-  echo "(the same on qemu's core)"
+  echo "(the same on qemu's core, with $stack bytes of stack)"
 done

@@ -70,7 +70,7 @@ def commands():
     verbs = re.findall(r'verb == b"([a-z]*)"', read("crates/cc_script/src/command.rt"))
     wrong = differ(f"{COMMANDS} and command.rt", sorted(it.split()[0] for it in listed), sorted(verbs))
     wrong += differ(f"{COMMANDS} and LIBRARY_HELP", listed[:plain], in_help("LIBRARY_HELP", "library"))
-    wrong += differ(f"{COMMANDS} and SUBMIT_HELP", [it.removesuffix(" LEN") for it in listed], in_help("SUBMIT_HELP", "spool"))
+    wrong += differ(f"{COMMANDS} and SUBMIT_HELP", [it.removesuffix(" OLDLEN NEWLEN").removesuffix(" LEN") for it in listed], in_help("SUBMIT_HELP", "spool"))
     return wrong + differ(f"{COMMANDS} and docs/FORMATS.md", listed, re.findall(r"^\| `([a-z]+(?: [A-Z]+)*)` \|", table, re.M))
 
 

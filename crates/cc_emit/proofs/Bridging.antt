@@ -247,7 +247,7 @@ next_reaches base f all first second end i here items p leads o l lt near =
 
 -- ---- labels that steps lead to
 
-contained_below : (n : ℕ) (ls : List ℕ) (l : ℕ) → Contains ls l → AllByRecursion (λ label. label < n) ls → l < n
+pub contained_below : (n : ℕ) (ls : List ℕ) (l : ℕ) → Contains ls l → AllByRecursion (λ label. label < n) ls → l < n
 contained_below n [] l (k, lt, is) all = absurd (omega arith)
 contained_below n (x ∷ ls) l (zero, lt, is) all = (let p = all.0 in let e : x ≡ l = is in omega arith)
 contained_below n (x ∷ ls) l (suc k, lt, is) all = contained_below n ls l (k, omega arith, is) all.1

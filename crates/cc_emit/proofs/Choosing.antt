@@ -21,11 +21,11 @@ use Rattle.cc_emit.proofs.Basics.{eqb_yes}
 kept_member : (r : ℕ) → IsKept r → Member r kept_registers
 kept_member r k = grind arith
 
-abbrev AreKept : List ℕ → Type 0
+abbrev pub AreKept : List ℕ → Type 0
 AreKept [] = Unit {0}
 AreKept (r ∷ rs) = IsKept r × AreKept rs
 
-all_kept : AreKept kept_registers
+pub all_kept : AreKept kept_registers
 all_kept =
     (inl (omega arith, omega arith), (inl (omega arith, omega arith), (inr (omega arith, omega arith), (inr (omega arith, omega arith), (inr (omega arith, omega arith), (inr (omega arith, omega arith), (inr (omega arith, omega arith), (inr (omega arith, omega arith), (inr (omega arith, omega arith), (inr (omega arith, omega arith), (inr (omega arith, omega arith), (inr (omega arith, omega arith), tt))))))))))))
 

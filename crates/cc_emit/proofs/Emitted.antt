@@ -42,13 +42,13 @@ abbrev pub Does : {b : List Size} (y : ObjectLayout b) (code : Code) (rate : ℕ
 Does y code rate from s z done = DoesBy y code rate from s z.stop z.output done
 
 -- more is done where a path leads on
-does_then : {b : List Size} (y : ObjectLayout b) (code : Code) (rate : ℕ) (from s t : State) (stop : Stop Answer) (o : List ℕ) (v m more : ℕ) → Path code m s t → more ≤ rate * m → DoesBy y code rate from t stop o v → DoesBy y code rate from s stop o (more + v)
+pub does_then : {b : List Size} (y : ObjectLayout b) (code : Code) (rate : ℕ) (from s t : State) (stop : Stop Answer) (o : List ℕ) (v m more : ℕ) → Path code m s t → more ≤ rate * m → DoesBy y code rate from t stop o v → DoesBy y code rate from s stop o (more + v)
 does_then y code rate from s t Going o v m more p b (k, u, q, e, c) = (m + k, u, path_then code m k s t u p q, e, (let f = mul-add rate m k in omega arith))
 does_then y code rate from s t (Ended r) o v m more p b (k, u, q, e, c) = (m + k, u, path_then code m k s t u p q, e, (let f = mul-add rate m k in omega arith))
 does_then y code rate from s t Wrong o v m more p b x = tt
 
 -- one move, paid by an instruction at least
-one_move : {b : List Size} (y : ObjectLayout b) (code : Code) (rate : ℕ) (from s t : State) (z : Outcome Answer) (v m : ℕ) → 1 ≤ rate → Path code (suc m) s t → Does y code rate from t z v → Does y code rate from s z (suc v)
+pub one_move : {b : List Size} (y : ObjectLayout b) (code : Code) (rate : ℕ) (from s t : State) (z : Outcome Answer) (v m : ℕ) → 1 ≤ rate → Path code (suc m) s t → Does y code rate from t z v → Does y code rate from s z (suc v)
 one_move y code rate from s t z v m one p x =
     let f : 1 + v ≡ suc v = omega arith in
     let g : 1 ≤ rate * suc m = let h = mul-suc rate m in omega arith in
@@ -59,23 +59,23 @@ call_paid c m n one h = let f = mul-suc (c + c) m in let g = add-mul c c m in om
 
 module _ (x : Site) (c : ℕ) (one : 1 ≤ c) (all_places : (g : ℕ) → g < x.meaning.functions → IsPlace (x.places g)) (calls : CallsMeet x.meaning x.layout x.code x.places c (suc x.opened))
     (sound : IsSound x.from) (back : x.from.registers 1 % 4 ≡ 0) (all : StandsWhole x) where
-  abbrev rate : ℕ
+  abbrev pub rate : ℕ
   rate = c + c
 
-  abbrev Done : State → Outcome Answer → ℕ → Type 0
+  abbrev pub Done : State → Outcome Answer → ℕ → Type 0
   Done s z done = Does x.layout x.code rate x.from s z done
 
-  abbrev lrun : ℕ → ℕ → Configuration → Outcome Answer
+  abbrev pub lrun : ℕ → ℕ → Configuration → Outcome Answer
   lrun k j q = run (selected_move x.meaning.arity x.steps) selected_output (call_effect x.meaning (suc x.opened)) k j q
 
-  abbrev lwork : ℕ → ℕ → Configuration → ℕ
+  abbrev pub lwork : ℕ → ℕ → Configuration → ℕ
   lwork k j q = work (selected_move x.meaning.arity x.steps) (call_effect x.meaning (suc x.opened)) k j q
 
-  abbrev FollowsWith : (k j : ℕ) → Configuration → State → Type 0
+  abbrev pub FollowsWith : (k j : ℕ) → Configuration → State → Type 0
   FollowsWith k j q s = (i steps : ℕ) → i ≤ k → steps ≤ j → Done s (lrun i steps q) (lwork i steps q)
 
   -- some words, for all smaller cuts at once
-  abbrev Simulated : (k j : ℕ) → List Step → Locations → World → State → Type 0
+  abbrev pub Simulated : (k j : ℕ) → List Step → Locations → World → State → Type 0
   Simulated k j ops l h s = (words : List ℕ) × AreWords words × FollowsWith k j (at_steps ops l h words) s
 
   two : 1 ≤ rate
@@ -101,7 +101,7 @@ module _ (x : Site) (c : ℕ) (one : 1 ≤ c) (all_places : (g : ℕ) → g < x.
 
   -- ---- all that is to come
 
-  abbrev Later : ℕ → Type 0
+  abbrev pub Later : ℕ → Type 0
   Later k = (j w a : ℕ) (held : Scratch) (ops : List Step) (l : Locations) (h : World) (s : State) → s.pc ≡ x.place + 4 * a → Standing x held w a ops → Within x held l h s → Simulated k j ops l h s
 
   at_stepped : (k j : ℕ) (ops : List Step) (l : Locations) (h : World) (s : State) → Later k → s.output ≡ h.output → Stepped x ops l h s → Simulated (suc k) j ops l h s
@@ -243,7 +243,7 @@ module _ (x : Site) (c : ℕ) (one : 1 ≤ c) (all_places : (g : ℕ) → g < x.
   simulate_next k later j w a held (BranchImmediate o nonzero b v n ∷ ops) l h s e st inside = at_stepped k j (BranchImmediate o nonzero b v n ∷ ops) l h s later inside.shares.output (branch_immediate_case x w a o nonzero b v n ops l h s (e, st, inside) all)
   simulate_next k later j w a held (One Return ∷ ops) l h s e st inside = ([], tt, return_follows k j s ops l h inside.shares.output (return_path x w a ops l h s sound back e st inside))
 
-  simulate : (k : ℕ) → Later k
+  pub simulate : (k : ℕ) → Later k
   simulate zero j w a held ops l h s e st inside = ([], tt, at_none j ops l h s inside.shares.output)
   simulate (suc k) j w a held ops l h s e st inside = simulate_next k (simulate k) j w a held ops l h s e st inside
 
@@ -283,7 +283,7 @@ rate_paid r c v p m n left one a b =
     let y : r * 1 ≡ r = omega arith in
     omega arith
 
-meets_of : {b : List Size} (y : ObjectLayout b) (code : Code) (r c p n : ℕ) (s t : State) (e : Effect) (v : ℕ) (z : Outcome Answer) → 1 ≤ c → Path code p s t → Keeps r n e v z → Does y code (c + c) s t z v → Meets y code ((r + r) * c) ((r + r) * c) n s e
+pub meets_of : {b : List Size} (y : ObjectLayout b) (code : Code) (r c p n : ℕ) (s t : State) (e : Effect) (v : ℕ) (z : Outcome Answer) → 1 ≤ c → Path code p s t → Keeps r n e v z → Does y code (c + c) s t z v → Meets y code ((r + r) * c) ((r + r) * c) n s e
 meets_of y code r c p n s t (Gives a left) v z one path (e, b) does =
     let does' = subst (λ x. Does y code (c + c) s t x v) e does in
     (p + does'.0, does'.1, path_then code p does'.0 s t does'.1 path does'.2, does'.3, rate_paid r c v p does'.0 n left one b does'.4)
@@ -293,7 +293,7 @@ meets_of y code r c p n s t (Unfinished o) v z one path (e, b) does =
 meets_of y code r c p n s t (Failed o) v z one path k does = tt
 
 -- the function's items stand behind its prologue
-standing_all : (x : Site) → IsPlace x.place → IsPlace (x.place + 4 * length (framed_items x.layout.base x.frame (all_addressed x))) → Stands x x.place (framed_items x.layout.base x.frame (all_addressed x)) → EachCalled (HasRoom x) (framed_items x.layout.base x.frame (all_addressed x)) → AreFine x.meaning x.frame x.steps → Stands x x.place (prologue x.frame) × StandsWhole x
+pub standing_all : (x : Site) → IsPlace x.place → IsPlace (x.place + 4 * length (framed_items x.layout.base x.frame (all_addressed x))) → Stands x x.place (framed_items x.layout.base x.frame (all_addressed x)) → EachCalled (HasRoom x) (framed_items x.layout.base x.frame (all_addressed x)) → AreFine x.meaning x.frame x.steps → Stands x x.place (prologue x.frame) × StandsWhole x
 standing_all x from to placed calls fine =
     let f = x.frame in
     let first = prologue f in
@@ -312,6 +312,7 @@ standing_all x from to placed calls fine =
         placed = subst (λ b. Stands x b rest) e both.1;
         from = between x.place (x.place + 4 * prologue_size f) _ from last (omega arith) (omega arith) (omega arith);
         to = last;
+        last = refl;
         calls = (each_append (HasRoom x) first rest calls).1;
         fine = fine;
         seen = seen_first f (all_addressed x);

@@ -15,7 +15,7 @@ use Rattle.cc_select.specs.Pair as above
 use Rattle.cc_emit.specs.declared.item.PieceItem.{PieceItem}
 use Rattle.cc_emit.specs.Objects.{object_address}
 use Rattle.cc_emit.specs.Frames.{frame_of, frame_size}
-use Rattle.cc_emit.specs.Function.{pair_items, function_items}
+use Rattle.cc_emit.specs.Function.{pair_frame, pair_items, function_items}
 use Rattle.cc_emit.specs.Piece.{IsPieceOfUnit}
 use Rattle.cc_emit.specs.internal.Bases.{base_in}
 use Rattle.cc_emit.proofs.Pieces.{frame_for, items_for}
@@ -38,6 +38,10 @@ unfolding pair_items
 items_selected q p eu el ec =
     ap (λ (u : parsed.Unit). function_items (object_address (objects_in (source u).externals)) p.ltl.slots p.code) eu ∙ ap (λ (k : Ltl). function_items (object_address (objects_in (linear.tree_of q))) k.slots p.code) el
     ∙ ap (function_items (object_address (objects_in (linear.tree_of q))) q.ltl.slots) ec
+
+pub frame_selected : (q : linear.Pair) (p : above.Pair) → p.ltl ≡ q.ltl → p.code ≡ selected q.code → frame_for p ≡ pair_frame q
+unfolding pair_frame
+frame_selected q p el ec = ap (λ (k : Ltl). frame_size (frame_of false k.slots p.code)) el ∙ ap (λ (steps : List Step). frame_size (frame_of false q.ltl.slots steps)) ec
 
 pub piece_handed : (p : above.Pair) (m : Mode) (u : parsed.Unit) (f : ℕ) (ltl : Ltl) (frame : ℕ) (items : List PieceItem) → m ≡ p.mode → u ≡ p.unit → f ≡ p.function → ltl ≡ p.ltl → frame ≡ frame_for p → items ≡ items_for p
     → IsPieceOfUnit (record { mode = p.mode; unit = p.unit; function = p.function; ltl = p.ltl; frame = frame_for p; items = items_for p }) → IsPieceOfUnit (record { mode = m; unit = u; function = f; ltl = ltl; frame = frame; items = items })

@@ -33,6 +33,10 @@ pub mod Returning
 pub mod Emitted
 -- the frame that is chosen
 pub mod Choosing
+-- what stands before a frame, its steps, and the rest behind it
+pub mod Heads
+pub mod Headed
+pub mod Earlier
 -- every item has a word
 pub mod Encoding
 -- a pair's code is a piece
@@ -41,6 +45,8 @@ pub mod Pieces
 pub mod Looping
 -- the code: what is known of addresses
 pub mod Addressing
+-- the code: what stands before a frame
+pub mod Ahead
 -- the code: which registers are saved
 pub mod Kept
 -- the code: the table of labels

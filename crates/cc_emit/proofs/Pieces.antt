@@ -1,5 +1,5 @@
 -- The code that a pair of selected steps becomes is a piece of its unit.
-use Rattle.std.proofs.Common.{◌≡◌, ℕ, zero, suc, ◌+◌, ◌<◌, ◌≤◌, Bool, true, false, cond, List, [], ◌∷◌, ◌++◌, length, map, unwrap_or, slice_get, nat_lt, refl, sym, ap, ◌∙◌, subst, arith}
+use Rattle.std.proofs.Common.{◌≡◌, ℕ, zero, suc, ◌+◌, ◌<◌, ◌≤◌, Bool, true, false, cond, Option, Some, None, List, [], ◌∷◌, ◌++◌, length, map, unwrap_or, slice_get, nat_lt, refl, sym, ap, ◌∙◌, subst, arith}
 use Rattle.std.proofs.lemmas.Bool.Decides.{nat_tests}
 use Rattle.std.specs.List.{AllByRecursion}
 use Rattle.cc_ast.specs.Tree.{Parameter, Signature, External, Declaration, Definition, Objects}
@@ -10,20 +10,29 @@ use Rattle.cc_types.specs.declared.rule.RuleError.{RuleError}
 use Rattle.cc_c_laws.specs.Meaning.{Function, functions, functions_from, text_of}
 use Rattle.cc_c_laws.specs.Numbered.{arity_in, objects_in}
 use Rattle.cc_simulation.specs.World.{Size}
+use Rattle.cc_simulation.specs.Meaning.{Meaning}
+use Rattle.cc_simulation.specs.Tracks.{TracksForAll}
+use Rattle.cc_ltl.specs.Registers.{most_slots}
+use Rattle.cc_select.specs.declared.step.Step.{Step}
 use Rattle.cc_ltl.specs.Ltl.{IsLtl}
 use Rattle.cc_linear_language.specs.Pair.{most_blocks, LtlKeepsUp}
-use Rattle.cc_select.specs.Selected.{labels, IsStep, IsSelected}
+use Rattle.cc_select.specs.Selected.{labels, IsStep, IsSelected, selected_move, selected_output, selected_start}
 use Rattle.cc_select.specs.Pair as above
 use Rattle.cc_emit.specs.declared.item.PieceItem.{PieceItem}
-use Rattle.cc_emit.specs.Contract.{IsPiece}
+use Rattle.cc_emit.specs.Contract.{IsPiece, ObjectLayout}
+use Rattle.cc_emit.specs.Early.{Early, early, early_from}
+use Rattle.cc_emit.specs.Emission.{framed_items}
 use Rattle.cc_emit.specs.Objects.{object_address}
-use Rattle.cc_emit.specs.Frames.{frame_of, frame_size}
-use Rattle.cc_emit.specs.Scratch.{gains}
-use Rattle.cc_emit.specs.Function.{function_items}
+use Rattle.cc_emit.specs.Frames.{Frame, frame_of, frame_size}
+use Rattle.cc_emit.specs.Scratch.{nothing, addressed, gains}
+use Rattle.cc_emit.specs.Function.{behind, early_items, function_items, whole_items}
 use Rattle.cc_emit.specs.Piece.{AreOf, IsPieceOfUnit}
 use Rattle.cc_emit.proofs.Choosing.{is_frame, are_fine}
 use Rattle.cc_emit.proofs.Encoding.{framed_fit}
 use Rattle.cc_emit.proofs.Emitted.{framed_meets}
+use Rattle.cc_emit.proofs.Fine.{AreFine}
+use Rattle.cc_emit.proofs.Headed.{early_says, head_fits, head_saves, rest_fits, saved_rest}
+use Rattle.cc_emit.proofs.Earlier.{bare, bare_frame, behind_fit, early_meets}
 
 -- ---- a function has at most eight parameters
 
@@ -67,6 +76,46 @@ items_for p = function_items (object_address (objects_in (above.tree_of p))) p.l
 abbrev pub frame_for : above.Pair → ℕ
 frame_for p = frame_size (frame_of false p.ltl.slots p.code)
 
+-- the steps of a function in their frame do what it does
+whole_does : (meaning : Meaning) (layout : ObjectLayout meaning.objects) (f rate slots : ℕ) (ls : List ℕ) (code : List Step) → TracksForAll meaning f rate (selected_move meaning.arity code) selected_output (selected_start slots code) → ((g : ℕ) → meaning.arity g ≤ 8) → AllByRecursion (IsStep slots meaning.functions ls) code → slots ≤ most_slots
+    → IsPiece meaning layout f (frame_size (frame_of false slots code)) (whole_items layout.base slots code)
+whole_does meaning layout f rate slots ls code keeps few fits le =
+    let sets_pointer = gains layout.base code in
+    let frame = frame_of sets_pointer slots code in
+    let fine = are_fine meaning ls sets_pointer slots code few fits in
+    let framed = is_frame sets_pointer slots code le in
+    record { rate = rate + rate; meets = framed_meets meaning layout f rate frame code keeps framed fine; small = (let z = framed.small in omega arith); fit = framed_fit meaning layout.base frame code framed fine }
+
+-- and so do those of which some stand before the frame
+early_does : (meaning : Meaning) (layout : ObjectLayout meaning.objects) (f rate slots : ℕ) (ls : List ℕ) (code : List Step) (e : Early) → early_from code code ≡ Some e → TracksForAll meaning f rate (selected_move meaning.arity code) selected_output (selected_start slots code) → ((g : ℕ) → meaning.arity g ≤ 8)
+    → AllByRecursion (IsStep slots meaning.functions ls) code → slots ≤ most_slots → IsPiece meaning layout f (frame_size (frame_of false slots code)) (early_items layout.base slots (Some e) code)
+early_does meaning layout f rate slots ls code e is keeps few fits le =
+    let sets_pointer = gains layout.base e.rest in
+    let frame = frame_of sets_pointer slots e.rest in
+    let fine = are_fine meaning ls sets_pointer slots e.rest few (rest_fits slots meaning.functions ls code code e is fits) in
+    let framed = is_frame sets_pointer slots e.rest le in
+    let none : frame_of false 0 e.head ≡ bare = ap (λ (rs : List ℕ). record { sets_pointer = false; slots = 0; saved = rs }) (head_saves code code e is) in
+    let fine_head : AreFine meaning bare e.head = subst (λ (x : Frame). AreFine meaning x e.head) none (are_fine meaning ls false 0 e.head few (head_fits slots meaning.functions ls code e is fits)) in
+    let head = framed_items layout.base bare (addressed layout.base false nothing e.head) in
+    let rest = framed_items layout.base frame (addressed layout.base sets_pointer nothing e.rest) in
+    let piece : IsPiece meaning layout f (frame_size frame) (behind head rest) = record {
+      rate = rate + rate;
+      meets = early_meets meaning layout f rate code e frame is keeps framed fine fine_head;
+      small = (let z = framed.small in omega arith);
+      fit = behind_fit meaning.functions head rest (framed_fit meaning layout.base bare e.head bare_frame fine_head) (framed_fit meaning layout.base frame e.rest framed fine);
+    } in
+    let size : frame_size frame ≡ frame_size (frame_of false slots code) = ap (λ (rs : List ℕ). frame_size (record { sets_pointer = false; slots = slots; saved = rs })) (sym (saved_rest code code e is)) in
+    subst (λ n. IsPiece meaning layout f n (early_items layout.base slots (Some e) code)) size
+    (subst (λ (x : Frame). IsPiece meaning layout f (frame_size frame) (behind (framed_items layout.base x (addressed layout.base false nothing e.head)) rest)) (sym none) piece)
+
+function_does : (meaning : Meaning) (layout : ObjectLayout meaning.objects) (f rate slots : ℕ) (ls : List ℕ) (code : List Step) → TracksForAll meaning f rate (selected_move meaning.arity code) selected_output (selected_start slots code) → ((g : ℕ) → meaning.arity g ≤ 8) → AllByRecursion (IsStep slots meaning.functions ls) code
+    → slots ≤ most_slots → IsPiece meaning layout f (frame_size (frame_of false slots code)) (function_items layout.base slots code)
+function_does meaning layout f rate slots ls code keeps few fits le = by (early slots code) refl
+  where
+    by : (z : Option Early) → early slots code ≡ z → IsPiece meaning layout f (frame_size (frame_of false slots code)) (early_items layout.base slots z code)
+    by None q = whole_does meaning layout f rate slots ls code keeps few fits le
+    by (Some e) q = early_does meaning layout f rate slots ls code e (early_says slots code e q) keeps few fits le
+
 items_do : (p : above.Pair) → IsWithinLimits (above.tree_of p) → IsSelected p.ltl.slots (length (functions (above.tree_of p))) p.code → above.KeepsUp p.mode (above.tree_of p) p.function p.ltl.slots p.code
     → AreOf p.mode (above.tree_of p) p.function (frame_for p) (items_for p)
 items_do p limits selected keeps meaning is layout in_order =
@@ -74,17 +123,7 @@ items_do p limits selected keeps meaning is layout in_order =
     let base : layout.base ≡ object_address (objects_in tree) = λ i g. (in_order g ∙ ap (λ (o : List Size). object_address o g) is.objects) i in
     let fits : AllByRecursion (IsStep p.ltl.slots meaning.functions (labels p.code)) p.code = subst (λ n. AllByRecursion (IsStep p.ltl.slots n (labels p.code)) p.code) (sym is.functions) selected.fit in
     let few : (g : ℕ) → meaning.arity g ≤ 8 = λ g. subst (λ (arity : ℕ → ℕ). arity g ≤ 8) (sym is.arity) (few_parameters tree limits g) in
-    let sets_pointer = gains layout.base p.code in
-    let frame = frame_of sets_pointer p.ltl.slots p.code in
-    let fine = are_fine meaning (labels p.code) sets_pointer p.ltl.slots p.code few fits in
-    let framed = is_frame sets_pointer p.ltl.slots p.code selected.few in
-    let rate = keeps.0 in
-    let piece : IsPiece meaning layout p.function (frame_size frame) (function_items layout.base p.ltl.slots p.code) = record {
-      rate = rate + rate;
-      meets = framed_meets meaning layout p.function rate frame p.code (keeps.1 meaning is) framed fine;
-      small = (let z = framed.small in omega arith);
-      fit = framed_fit meaning layout.base frame p.code framed fine;
-    } in
+    let piece = function_does meaning layout p.function keeps.0 p.ltl.slots (labels p.code) p.code (keeps.1 meaning is) few fits selected.few in
     subst (λ (b : ℕ → ℕ). IsPiece meaning layout p.function (frame_for p) (function_items b p.ltl.slots p.code)) base piece
 
 frame_small : (p : above.Pair) → IsSelected p.ltl.slots (length (functions (above.tree_of p))) p.code → frame_for p ≤ 2032

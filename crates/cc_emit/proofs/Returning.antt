@@ -1,6 +1,6 @@
 -- Calls and returns within a frame, and its start.
 use Rattle.std.proofs.Common.{◌≡◌, ℕ, zero, suc, ◌+◌, ◌-◌, ◌*◌, ◌%◌, ◌^◌, ◌<◌, ◌≤◌, ◌⊎◌, List, [], ◌∷◌, ◌++◌, Bool, true, false, Some, length, get_or, refl, sym, ap, ap₂, ◌∙◌, subst, inl, inr, arith}
-use Rattle.std.specs.Prelude.{if◌then◌else◌, nat_le, ◌==◌, ◌&&◌, not}
+use Rattle.std.specs.Prelude.{if◌then◌else◌, nat_le}
 use Rattle.std.proofs.lemmas.Bool.Decides.{nat_tests}
 use Rattle.cc_words.specs.Words.{add}
 use Rattle.cc_simulation.specs.Behavior.{AreWords}
@@ -312,9 +312,15 @@ found_register f t ws r hi p = found_by (nat_le 10 r) r ws t (le_says r) hi p
     le_says : (r : ℕ) → nat_le 10 r ≡ true → 10 ≤ r
     le_says r e = grind (arith, nat_tests)
 
-pub framed_within : (x : Site) (fn d : ℕ) (ws : List ℕ) (h : World) → Enters x.meaning x.layout x.code fn d x.place ws h x.from → Within x nothing (found x.frame (framed x.frame x.from) ws) h (framed x.frame x.from)
+pub framed_other : (f : Frame) (s : State) (r : ℕ) → (r ≡ 2 → ⊥) → (r ≡ 3 → ⊥) → (framed f s).registers r ≡ s.registers r
 unfolding framed
-framed_within x fn d ws h enters =
+framed_other f s r e q = set_other (begun f s).registers 2 (s.registers 2 - frame_size f) r e ∙ begun_other f.sets_pointer s.registers r q
+
+-- behind the prologue, where the locations are what the machine holds there
+pub framed_inside : (x : Site) (l : Locations) (h : World) → IsSound x.from → Shares x.layout x.from h → ((r : ℕ) → IsAllocatable r → l (Register r) ≡ (framed x.frame x.from).registers r)
+    → ((i : ℕ) → i < x.frame.slots → l (Slot i) ≡ (framed x.frame x.from).memory ((framed x.frame x.from).registers 2 + 4 * i)) → Within x nothing l h (framed x.frame x.from)
+unfolding framed
+framed_inside x l h sound shares same slots =
     let f = x.frame in
     let s = x.from in
     let room = x.room in
@@ -323,21 +329,29 @@ framed_within x fn d ws h enters =
     let n = s.registers 2 - frame_size f in
     let at = n + 4 * f.slots in
     let k = (begun f s).registers in
-    let k_words = begun_words f.sets_pointer s.registers enters.sound.registers in
+    let k_words = begun_words f.sets_pointer s.registers sound.registers in
     let g = with_register k 2 n in
     let low : n ≤ s.registers 2 = omega arith in
-    let b2 = enters.sound.registers 2 in
+    let b2 = sound.registers 2 in
     let other : (r : ℕ) → (r ≡ 2 → ⊥) → (r ≡ 3 → ⊥) → g r ≡ s.registers r = λ r e q. set_other k 2 n r e ∙ begun_other f.sets_pointer s.registers r q in
-    let moved = passes_moved ws 10 s (framed f s) (omega arith) (λ r le. other r (λ e. omega arith) (λ e. omega arith)) enters.passes in
     record {
-      sound = record { zero = other 0 (λ e. omega arith) (λ e. omega arith) ∙ enters.sound.zero; registers = set_word k 2 n (omega arith) k_words; memory = saved_words f.saved at g s.memory (set_word k 2 n (omega arith) k_words) enters.sound.memory; input = enters.sound.input };
+      sound = record { zero = other 0 (λ e. omega arith) (λ e. omega arith) ∙ sound.zero; registers = set_word k 2 n (omega arith) k_words; memory = saved_words f.saved at g s.memory (set_word k 2 n (omega arith) k_words) sound.memory; input = sound.input };
       holds = holds_nothing _;
-      same = λ r u. found_register f (framed f s) ws r u.1 moved;
-      slots = λ i lt. listed_at f.slots 0 i (λ k. (framed f s).memory ((framed f s).registers 2 + 4 * k)) lt ∙ ap (λ k. (framed f s).memory (n + 4 * k)) (let e : 0 + i ≡ i = omega arith in e);
-      shares = record { sizes = enters.shares.sizes; globals = λ k i lt. elements_stay x s.memory (with_saved f.saved at g s.memory) k i lt (λ c below. saved_below f.saved at g s.memory c (omega arith)) ∙ enters.shares.globals k i lt; input = enters.shares.input; output = enters.shares.output };
+      same = same;
+      slots = slots;
+      shares = record { sizes = shares.sizes; globals = λ k i lt. elements_stay x s.memory (with_saved f.saved at g s.memory) k i lt (λ c below. saved_below f.saved at g s.memory c (omega arith)) ∙ shares.globals k i lt; input = shares.input; output = shares.output };
       stack = omega arith;
       pointer = subst (IsPointer f.sets_pointer (s.registers 3)) (sym (set_other k 2 n 3 (λ e. omega arith))) (begun_pointer f.sets_pointer s.registers);
       saved = saved_other f.saved at g s.registers _ x.is_frame.savable other (saved_at f.saved at g s.memory);
       kept = λ r k. inr (other r (savable_not_2 r k) (savable_not_3 r k));
       above = λ b le. saved_above f.saved at g s.memory b (omega arith);
     }
+
+pub framed_within : (x : Site) (fn d : ℕ) (ws : List ℕ) (h : World) → Enters x.meaning x.layout x.code fn d x.place ws h x.from → Within x nothing (found x.frame (framed x.frame x.from) ws) h (framed x.frame x.from)
+framed_within x fn d ws h enters =
+    let f = x.frame in
+    let s = x.from in
+    let t = framed f s in
+    let moved = passes_moved ws 10 s t (omega arith) (λ r le. framed_other f s r (λ e. omega arith) (λ e. omega arith)) enters.passes in
+    framed_inside x (found f t ws) h enters.sound enters.shares (λ r u. found_register f t ws r u.1 moved)
+    (λ i lt. listed_at f.slots 0 i (λ k. t.memory (t.registers 2 + 4 * k)) lt ∙ ap (λ k. t.memory (t.registers 2 + 4 * k)) (let e : 0 + i ≡ i = omega arith in e))

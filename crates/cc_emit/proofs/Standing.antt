@@ -109,11 +109,16 @@ items_for x held w a op = items_of x.layout.base x.frame (near x w) (labels x) a
 abbrev pub Stands : Site → ℕ → List PieceItem → Type 0
 Stands x p items = Placed x.code x.places x.place p items
 
--- the items of these steps stand from an item of the piece on, w in the first pass, where so much is known
+-- how many items the code has
+abbrev pub end_of : Site → ℕ
+end_of x = prologue_size x.frame + length (items_at x nothing 0 (prologue_size x.frame) x.steps)
+
+-- the items of these steps stand from an item of the piece on up to its end, w in the first pass, where so much is known
 pub record Standing (x : Site) (held : Scratch) (w a : ℕ) (ops : List Step) : Type 0 where
   pub placed : Stands x (x.place + 4 * a) (items_at x held w a ops)
   pub from : IsPlace (x.place + 4 * a)
   pub to : IsPlace (x.place + 4 * a + 4 * length (items_at x held w a ops))
+  pub last : a + length (items_at x held w a ops) ≡ end_of x
   pub calls : EachCalled (HasRoom x) (items_at x held w a ops)
   pub fine : AreFine x.meaning x.frame ops
   pub seen : AreSeen x.frame (all_addressed x) (addressed_at x held ops) w a
@@ -157,6 +162,7 @@ standing_tail x {held} w a op ops st =
       placed = subst (λ c. Stands x c rest) e (placed_append x.code x.places x.place (x.place + 4 * a) first rest st.placed).1;
       from = between (x.place + 4 * a) (x.place + 4 * b) _ st.from to (omega arith) (omega arith) (omega arith);
       to = to;
+      last = (let l = st.last in omega arith);
       calls = (each_append (HasRoom x) first rest st.calls).1;
       fine = st.fine.1;
       seen = seen_next x.frame (all_addressed x) i (addressed_at x (behind x held op) ops) w a st.seen;
@@ -164,10 +170,10 @@ standing_tail x {held} w a op ops st =
 
 -- a label forgets what is known before it, and where no step is left nothing is to be known
 standing_none : (x : Site) {held : Scratch} (w a : ℕ) → Standing x held w a [] → Standing x nothing w a []
-standing_none x {held} w a st = record { placed = st.placed; from = st.from; to = st.to; calls = st.calls; fine = st.fine; seen = st.seen }
+standing_none x {held} w a st = record { placed = st.placed; from = st.from; to = st.to; last = st.last; calls = st.calls; fine = st.fine; seen = st.seen }
 
 standing_label : (x : Site) {held : Scratch} (w a l : ℕ) (op : Step) (ops : List Step) → is_label_step l op ≡ true → Standing x held w a (op ∷ ops) → Standing x nothing w a (op ∷ ops)
-standing_label x {held} w a l (One (Label n)) ops e st = record { placed = st.placed; from = st.from; to = st.to; calls = st.calls; fine = st.fine; seen = st.seen }
+standing_label x {held} w a l (One (Label n)) ops e st = record { placed = st.placed; from = st.from; to = st.to; last = st.last; calls = st.calls; fine = st.fine; seen = st.seen }
 standing_label x {held} w a l _ ops e st = absurd (let q : false ≡ true = e in cc)
 
 stands_if : (x : Site) (t : Bool) (v w a b : ℕ) (os ps : List Step) → (t ≡ true → Standing x nothing v a os) → Standing x nothing w b ps → Standing x nothing (if t then v else w) (if t then a else b) (if t then os else ps)

@@ -1,12 +1,14 @@
 -- The code of a whole function: the steps that are selected for its items, each with how much of its address is known, in their frame.
-use Rattle.std.specs.Prelude.{ℕ, Bool, List}
+use Rattle.std.specs.Prelude.{ℕ, ◌+◌, Bool, false, Option, Some, None, List, ◌++◌, length, map}
 use Rattle.cc_c_laws.specs.Numbered.{objects_in}
 use Rattle.cc_linear_language.specs.Pair as above
 use Rattle.cc_select.specs.declared.step.Step.{Step}
 use Rattle.cc_select.specs.Selection.{selected}
 use Rattle.cc_emit.specs.declared.item.PieceItem.{PieceItem}
+use Rattle.cc_emit.specs.declared.item.PieceItem.TheVariants.{Plain, Call, Go}
 use Rattle.cc_emit.specs.Objects.{object_address}
-use Rattle.cc_emit.specs.Frames.{frame_of}
+use Rattle.cc_emit.specs.Frames.{frame_of, frame_size}
+use Rattle.cc_emit.specs.Early.{Early, early}
 use Rattle.cc_emit.specs.Emission.{framed_items}
 use Rattle.cc_emit.specs.Scratch.{nothing, addressed, gains}
 
@@ -15,9 +17,30 @@ abbrev pub items_with : (base : ℕ → ℕ) → (sets_pointer : Bool) → (slot
 items_with base sets_pointer slots steps = framed_items base (frame_of sets_pointer slots steps) (addressed base sets_pointer nothing steps)
 
 -- it does where it gains by that
+abbrev pub whole_items : (base : ℕ → ℕ) → (slots : ℕ) → List Step → List PieceItem
+whole_items base slots steps = items_with base (gains base steps) slots steps
+
+-- an item of code that stands behind this many others
+abbrev pub shifted : (before : ℕ) → PieceItem → PieceItem
+shifted n (Plain i) = Plain i
+shifted n (Call g) = Call g
+shifted n (Go to) = Go (to + n)
+
+abbrev pub behind : List PieceItem → List PieceItem → List PieceItem
+behind head items = head ++ map (shifted (length head)) items
+
+-- behind what may return before there is a frame
+abbrev pub early_items : (base : ℕ → ℕ) → (slots : ℕ) → Option Early → List Step → List PieceItem
+early_items base slots None steps = whole_items base slots steps
+early_items base slots (Some e) steps = behind (items_with base false 0 e.head) (whole_items base slots e.rest)
+
 abbrev pub function_items : (base : ℕ → ℕ) → (slots : ℕ) → List Step → List PieceItem
-function_items base slots steps = items_with base (gains base steps) slots steps
+function_items base slots steps = early_items base slots (early slots steps) steps
 
 -- the items that a pair's code becomes, with the objects of its unit in order
 unfoldable pub pair_items : above.Pair → List PieceItem
 pair_items p = function_items (object_address (objects_in (above.tree_of p))) p.ltl.slots (selected p.code)
+
+-- how many bytes the frame of a pair's code has
+unfoldable pub pair_frame : above.Pair → ℕ
+pair_frame p = frame_size (frame_of false p.ltl.slots (selected p.code))

@@ -12,6 +12,8 @@ pub mod Branches
 pub mod Emission
 -- what x3 and the scratch registers hold of addresses, which steps take theirs from there, and whether a function sets x3
 pub mod Scratch
+-- what stands before a function's frame
+pub mod Early
 -- the items of a function's code
 pub mod Function
 -- what a piece keeps

@@ -3,6 +3,8 @@
 pub mod Behind
 -- the addresses of objects as a table
 pub mod Bases
+-- what stands before a frame
+pub mod Ahead
 -- which steps are in loops
 pub mod Loops
 -- what the instruction of a recipe has to hold

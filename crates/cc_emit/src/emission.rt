@@ -1,6 +1,6 @@
 // The items of a function's code: those that stand for one step, and those of all steps behind the prologue.
 
-ghost use Rattle.std.specs.Prelude.{◌≡◌, ◌≤◌, ◌<◌, ◌+◌, ◌^◌, ◌++◌, ◌∷◌, [], ℕ, true, length, get_or, OnOk, IfOk};
+ghost use Rattle.std.specs.Prelude.{◌≡◌, ◌≤◌, ◌<◌, ◌+◌, ◌^◌, ◌++◌, ◌∷◌, [], ℕ, List, true, length, get_or, OnOk, IfOk};
 ghost use Rattle.std.specs.List.{AllByRecursion};
 ghost use Rattle.cc_ltl.specs.Registers.{most_slots};
 ghost use Rattle.cc_select.specs.declared.step.Step.TheVariants.{One};
@@ -9,7 +9,7 @@ ghost use Rattle.cc_rv32.specs.Fields.{IsImmediate};
 ghost use Rattle.cc_rv32.specs.declared.instr.Instr.TheVariants.{Load, Store};
 ghost use Rattle.cc_emit.specs.Contract.{load_of, store_of};
 ghost use Rattle.cc_emit.specs.Emission.{low, items_of_one, items_of_step, move_item, upper_items, base_register, part_of, based, indexed, known_place, load_at, store_at, service, prologue, framed_items};
-ghost use Rattle.cc_emit.specs.Function.{function_items};
+ghost use Rattle.cc_emit.specs.Function.{behind as behind_items, shifted, whole_items, function_items};
 ghost use Rattle.cc_emit.specs.declared.item.PieceItem.TheVariants.{Plain};
 ghost use Rattle.cc_emit.specs.internal.Bases.{base_in};
 ghost use Rattle.cc_emit.specs.internal.Behind.{reaches, near_behind, place_from, behind, ArePlaces, StepLeadsBelow, LeadsBelow};
@@ -19,6 +19,7 @@ use crate::bases::Bases;
 use crate::branches::{put_branch_to, put_word_branch_to};
 use crate::condition::Condition;
 use crate::constants::put_constant;
+use crate::early::before_frame;
 use crate::frame::Frame;
 use crate::instructions::{
     OTHER_SCRATCH, POINTER, SCRATCH, SERVICE, STACK, ZERO, add_immediate, four_times, from_pointer,
@@ -389,6 +390,55 @@ fn put_code(
     Ok(())
 }
 
+// The items of the code of a function with this many slots, all in its frame; `bases` has the objects' addresses, and the labels are below
+// `count`.
+fn whole_items(
+    alloc: Global,
+    slots: u16,
+    code: &[Step],
+    bases: &Bases,
+    count: usize,
+) -> Result<Vec<PieceItem>, AllocError>
+    requires slots { slots ≤ most_slots }
+    requires labels { AllByRecursion (λ label. label < count) (labels code.now) }
+    requires fit { (functions : ℕ) × (all : List ℕ) × AllByRecursion (λ label. label < count) all × AllByRecursion (IsStep slots functions all) code.now }
+    requires few { length code.now ≤ 2 ^ 56 }
+    ensures { IfOk result (λ items. items.items ≡ whole_items (base_in bases.now) slots code.now) }
+{
+    let (steps, sets_pointer) = addressed(alloc, bases, code, count)?;
+    let frame = Frame::new(alloc, sets_pointer, slots, code)?;
+    let places = Places::new(alloc, &frame, steps.as_slice(), count)?;
+    let mut items = Vec::with_capacity(alloc, places.end())?;
+    frame.put_prologue(&mut items)?;
+    put_code(&mut items, &frame, &places, bases, steps.as_slice())?;
+    Ok(items)
+}
+
+// An item of code that stands behind so many others. No memory holds so many that the sum is none.
+fn shifted(before: usize, item: PieceItem) -> Result<PieceItem, AllocError>
+    ensures { IfOk result (λ moved. moved ≡ shifted before item) }
+{
+    match item {
+        PieceItem::Go(to) => match to.checked_add(before) {
+            Some(to) => Ok(PieceItem::Go(to)),
+            None => Err(AllocError),
+        },
+        PieceItem::Plain(_) | PieceItem::Call(_) => Ok(item),
+    }
+}
+
+// Puts the items of code behind others.
+fn put_behind(items: &mut Vec<PieceItem>, rest: &[PieceItem]) -> Result<(), AllocError>
+    ensures { OnOk result (items.new.items ≡ behind_items items.old.items rest.now) }
+{
+    let before = items.len();
+    for item in rest {
+        let moved = shifted(before, *item)?;
+        put_item(items, moved)?;
+    }
+    Ok(())
+}
+
 /// The items of the code of a function with this many slots; `bases` has the objects' addresses.
 pub(crate) fn function_items(
     alloc: Global,
@@ -398,15 +448,15 @@ pub(crate) fn function_items(
 ) -> Result<Vec<PieceItem>, AllocError>
     requires slots { slots ≤ most_slots }
     requires fit { (functions : ℕ) × AllByRecursion (IsStep slots functions (labels code.now)) code.now }
-    requires few { length code.now ≤ 2 ^ 56 }
+    requires few { length code.now ≤ 2 ^ 55 }
     ensures { IfOk result (λ items. items.items ≡ function_items (base_in bases.now) slots code.now) }
 {
     let count = label_count(code);
-    let (steps, sets_pointer) = addressed(alloc, bases, code, count)?;
-    let frame = Frame::new(alloc, sets_pointer, slots, code)?;
-    let places = Places::new(alloc, &frame, steps.as_slice(), count)?;
-    let mut items = Vec::with_capacity(alloc, places.end())?;
-    frame.put_prologue(&mut items)?;
-    put_code(&mut items, &frame, &places, bases, steps.as_slice())?;
+    let Some(ahead) = before_frame(alloc, slots, code)? else {
+        return whole_items(alloc, slots, code, bases, count);
+    };
+    let mut items = whole_items(alloc, 0, ahead.head.as_slice(), bases, count)?;
+    let rest = whole_items(alloc, slots, &code[ahead.taken..], bases, count)?;
+    put_behind(&mut items, rest.as_slice())?;
     Ok(items)
 }

@@ -1,7 +1,7 @@
 // The pass: the piece of a pair of Linear, by the steps that are selected for it.
 
 ghost use Rattle.std.specs.Prelude.{◌≡◌, IfOk};
-ghost use Rattle.cc_emit.specs.Function.{pair_items};
+ghost use Rattle.cc_emit.specs.Function.{pair_frame, pair_items};
 
 use crate::bases::Bases;
 use crate::emission::function_items;
@@ -13,10 +13,11 @@ use std::alloc::{AllocError, Global};
 use std::sync::Arc;
 
 /// The most steps that are emitted. No memory holds more.
-const MOST_STEPS: usize = 1 << 56;
+const MOST_STEPS: usize = 1 << 55;
 
 /// The code of a function of a unit, as its items: those of `specs/Function.antt`, at most 15 for a step.
-/// That the machine does with them what the function does belongs to the answer's type. The LTL is kept beside them.
+/// That the machine does with them what the function does belongs to the answer's type. The LTL is kept beside them, and how many bytes the
+/// frame has.
 ///
 /// It fails only for lack of memory (40); the pair is gone then.
 pub fn emit(alloc: Global, pair: LinearPair) -> Result<Piece, AllocError>
@@ -24,6 +25,7 @@ pub fn emit(alloc: Global, pair: LinearPair) -> Result<Piece, AllocError>
     ensures unit { IfOk result (λ piece. piece.unit ≡ pair.unit) }
     ensures function { IfOk result (λ piece. piece.function ≡ pair.function) }
     ensures ltl { IfOk result (λ piece. piece.ltl ≡ pair.ltl) }
+    ensures frame { IfOk result (λ piece. piece.frame ≡ pair_frame pair) }
     ensures items { IfOk result (λ piece. piece.items ≡ pair_items pair) }
 {
     let selected = select(alloc, pair)?;

@@ -5,9 +5,9 @@
 //! `specs/Branches.antt`, what a piece owes on the machine in `specs/Contract.antt`.
 //!
 //! `emitting` is the pass. `bases` has the objects' addresses, `frame` which registers are saved and where, `loops` which steps are
-//! in loops, `scratch` whether `x3` is set and what the scratch registers hold between steps, so that each step is `addressed`, `tables` the places of labels and which branches
-//! are near; `emission` puts the items of each step, with the help of `constants`, `recipe`, `operators`, `condition`, `branches` and
-//! `instructions`.
+//! in loops, `scratch` whether `x3` is set and what the scratch registers hold between steps, so that each step is `addressed`, `early` what
+//! stands before the frame, `tables` the places of labels and which branches are near; `emission` puts the items of each step, with the
+//! help of `constants`, `recipe`, `operators`, `condition`, `branches` and `instructions`.
 #![tactic(auto)]
 
 mod addressed;
@@ -15,6 +15,7 @@ mod bases;
 mod branches;
 mod condition;
 mod constants;
+mod early;
 mod emission;
 mod emitting;
 mod frame;

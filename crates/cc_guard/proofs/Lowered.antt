@@ -15,7 +15,7 @@ use Rattle.cc_simulation.specs.World.{Object, Size, size_of, World, Answer, Effe
 use Rattle.cc_simulation.specs.Meaning.{Meaning}
 use Rattle.cc_simulation.specs.Tracks.{Tracks}
 use Rattle.cc_cminor.specs.Cminor.{Expression, Constant, Local, Unary, Binary, Load, Statement, Skip, Set, Store, Call, Read, Write, Sequence, If, Loop, Block, Exit, Return, cminor_move, cminor_output, cminor_start}
-use Rattle.cc_cminor.specs.Numbers.{most_variables, StatementFits}
+use Rattle.cc_cminor.specs.Numbers.{most_variables}
 use Rattle.cc_cminor.specs.Exits.{ExitsFit}
 use Rattle.cc_cminor.specs.Breaks.{TracksOrBreaks}
 use Rattle.cc_cminor.specs.Variables.{above, above_result, above_expression, above_expressions, above_statement}
@@ -24,6 +24,8 @@ use Rattle.cc_guard.specs.declared.known.Limit.{Limit}
 use Rattle.cc_guard.specs.Guard.{Guard, Put, Stop, StopBoth, first_index, stored_word, guards_then, guarded, guarded_all, head, known_after, known_within, code_after, guarded_code, has_guards, with_loop, guarded_function, variables_in}
 use Rattle.cc_guard.specs.internal.Fits.{Under, AllUnder, Fits, KeepsSizes}
 use Rattle.cc_guard.specs.Safe.{CodeConstantsFit, NeedsNoGuard}
+use Rattle.cc_guard.specs.Held.{IsHeld}
+use Rattle.cc_guard.proofs.Holding.{IsSound, held_sound}
 use Rattle.cc_guard.proofs.Sizing.{unnamed, unnamed_sizes}
 use Rattle.cc_guard.proofs.Numbered.{function_fits}
 use Rattle.cc_guard.proofs.Tracking.{guarded_tracks}
@@ -215,17 +217,17 @@ unguarded_needs_none keep unit f s calls constants exits alike wrong none = reco
 -- ---- the pair
 
 pub guarded_is_pair : CallsKeepObjects → (p q : Pair) → IsPair p → ExitsFit 0 (code_of p) → FailsAlike (tree_of p) p.function (code_of p) → variables_in (objects_in (tree_of p)) (above_statement 0 (code_of p)) (code_of p) ≤ most_variables
-    → q.mode ≡ Checked → q.unit ≡ p.unit → q.function ≡ p.function → code_of q ≡ guarded_function (objects_in (tree_of p)) (above_statement 0 (code_of p)) (code_of p) → IsPair q
+    → q.mode ≡ Checked → q.unit ≡ p.unit → q.function ≡ p.function → IsHeld (guarded_function (objects_in (tree_of p)) (above_statement 0 (code_of p)) (code_of p)) (code_of q) → IsPair q
 guarded_is_pair keep p q is exits alike few mode unit function code =
     let n = above_statement 0 (code_of p) in
     let objects = objects_in (tree_of p) in
-    subst IsPair (sym same) (record {
-      typed = is.typed;
-      function = is.function;
-      calls = subst (λ (s : Statement). AreCalls (tree_of p) s) (sym code) (function_calls (tree_of p) objects n (code_of p) is.calls);
-      numbers = subst StatementFits (sym code) (function_fits objects n (code_of p) is.numbers few);
-      keeps_up = subst (λ (s : Statement). KeepsUp Checked (tree_of p) p.function s) (sym code) (checked_keeps_up keep (tree_of p) p.function (code_of p) exits alike);
-    })
+    let sound : IsSound Checked (tree_of p) p.function (guarded_function objects n (code_of p)) = record {
+      calls = function_calls (tree_of p) objects n (code_of p) is.calls;
+      numbers = function_fits objects n (code_of p) is.numbers few;
+      keeps_up = checked_keeps_up keep (tree_of p) p.function (code_of p) exits alike;
+    } in
+    let held = held_sound Checked (tree_of p) p.function (guarded_function objects n (code_of p)) (code_of q) sound code in
+    subst IsPair (sym same) (record { typed = is.typed; function = is.function; calls = held.calls; numbers = held.numbers; keeps_up = held.keeps_up })
   where
     same : q ≡ record { mode = Checked; unit = p.unit; function = p.function; statement = q.statement }
     same = λ i. record { mode = mode i; unit = unit i; function = function i; statement = q.statement }

@@ -1,5 +1,5 @@
 -- The numbers in guarded code are below their limits, if its guards set no more variables than there are.
-use Rattle.std.proofs.Common.{ℕ, suc, ◌<◌, ◌≤◌, Bool, true, false, List, [], ◌∷◌, ◌++◌, arith}
+use Rattle.std.proofs.Common.{ℕ, suc, ◌<◌, ◌≤◌, Bool, true, false, List, [], ◌∷◌, ◌++◌, arith, ◌≡◌, subst}
 use Rattle.std.specs.Prelude.{if◌then◌else◌, max}
 use Rattle.std.proofs.Math.Nat.{le-max_left, le-max_right}
 use Rattle.cc_words.specs.declared.operators.Binary as two
@@ -235,3 +235,7 @@ module _ (objects : List Size) where
         by : (r : Bool) → StatementFits (if r then with_loop (guarded_code objects n 0 s) else guarded_code objects n 0 s)
         by true = ((code_fits 0 s [] u le, tt), tt)
         by false = code_fits 0 s [] u le
+
+    -- the code with the loop at its end, if there is a guard
+    pub loop_fits : (s : Statement) → StatementFits s → variables_in objects n s ≤ most_variables → has_guards objects n s ≡ true → StatementFits (with_loop (guarded_code objects n 0 s))
+    loop_fits s u le is = subst (λ b. StatementFits (if b then with_loop (guarded_code objects n 0 s) else guarded_code objects n 0 s)) is (function_fits s u le)

@@ -1,5 +1,7 @@
 -- the guards, and the code with them
 pub mod Guard
+-- the code with words in variables
+pub mod Held
 -- what holds of all guarded code
 pub mod Laws
 -- units in which no function needs a guard

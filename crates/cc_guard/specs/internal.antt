@@ -5,5 +5,7 @@ pub mod Fits
 pub mod Next
 -- that guarded code keeps up
 pub mod Laws
+-- marks for variables
+pub mod Marks
 -- guards and sizes as the code writes them
 pub mod Written

@@ -1,9 +1,12 @@
 // What is known of variables after a statement that sets some of them, and how a statement is left.
+//
+// Which variables a statement sets is found by one walk, which marks them: there are many facts, and loops in loops.
 
-ghost use Rattle.std.specs.Prelude.{◌≡◌, IfOk, OnOk};
+ghost use Rattle.std.specs.Prelude.{◌≡◌, ◌&&◌, ℕ, nat_lt, Bool, false, not, Some, length, get_or, IfOk, OnOk};
 ghost use Rattle.cc_cminor.specs.Code.{statement_of, in_sequence};
 ghost use Rattle.cc_cminor.specs.internal.Statements.{statements_of};
-ghost use Rattle.cc_guard.specs.Guard.{sets_result, sets, unset, stays, kept, set_to, with_told, falls, leaves};
+ghost use Rattle.cc_guard.specs.Guard.{sets_result, sets, unset, kept, set_to, with_told, falls, leaves};
+ghost use Rattle.cc_guard.specs.internal.Marks.{Marks, IsMarked};
 
 use crate::known::Limit;
 use cc_cminor::Statement;
@@ -19,38 +22,90 @@ fn sets_result(to: Option<usize>, variable: usize) -> bool
     }
 }
 
-// A part of a statement sets a variable.
-#[cycle(setting)]
-fn sets(s: &Statement, variable: usize) -> bool
-    ensures { result ≡ sets (statement_of s.now) variable }
+// Marks a variable, if there is a mark for it.
+fn mark_variable(marks: &mut Vec<bool>, variable: usize)
+    ensures { Marks (sets_result (Some variable)) marks.old.items marks.new.items }
+{
+    if variable < marks.len() {
+        marks[variable] = true;
+    }
+}
+
+fn mark_result(marks: &mut Vec<bool>, to: Option<usize>)
+    ensures { Marks (sets_result to) marks.old.items marks.new.items }
+{
+    if let Some(variable) = to {
+        mark_variable(marks, variable);
+    }
+}
+
+// Marks the variables that a statement sets.
+#[cycle(marking)]
+fn mark(marks: &mut Vec<bool>, s: &Statement)
+    ensures { Marks (sets (statement_of s.now)) marks.old.items marks.new.items }
 {
     match s {
-        Statement::Set(set, _) => *set == variable,
-        Statement::Call(to, _, _) => sets_result(*to, variable),
-        Statement::Read(to) => sets_result(*to, variable),
-        Statement::Sequence(all) => any_sets(all.as_slice(), variable),
+        Statement::Set(variable, _) => mark_variable(marks, *variable),
+        Statement::Call(to, _, _) => mark_result(marks, *to),
+        Statement::Read(to) => mark_result(marks, *to),
+        Statement::Sequence(all) => mark_all(marks, all.as_slice()),
         Statement::If(_, nonzero, otherwise) => {
-            sets(nonzero, variable) || sets(otherwise, variable)
+            mark(marks, nonzero);
+            mark(marks, otherwise);
         }
-        Statement::Loop(body) => sets(body, variable),
-        Statement::Block(body) => sets(body, variable),
+        Statement::Loop(body) => mark(marks, body),
+        Statement::Block(body) => mark(marks, body),
         Statement::Skip
         | Statement::Store(_, _, _, _)
         | Statement::Write(_)
         | Statement::Exit(_)
-        | Statement::Return(_) => false,
+        | Statement::Return(_) => {}
     }
 }
 
-#[cycle(setting)]
-fn any_sets(all: &[Statement], variable: usize) -> bool
-    ensures { result ≡ sets (in_sequence (statements_of all.now)) variable }
+#[cycle(marking)]
+fn mark_all(marks: &mut Vec<bool>, all: &[Statement])
+    ensures { Marks (sets (in_sequence (statements_of all.now))) marks.old.items marks.new.items }
 {
-    let mut found = false;
     for s in all {
-        found = found || sets(s, variable);
+        mark(marks, s);
     }
-    found
+}
+
+// No mark yet.
+fn unmarked(alloc: Global, first: usize) -> Result<Vec<bool>, AllocError>
+    ensures long { IfOk result (λ marks. length marks.items ≡ first) }
+    ensures none { IfOk result (λ marks. (x : ℕ) → get_or marks.items x false ≡ false) }
+{
+    let mut marks = Vec::with_capacity(alloc, first)?;
+    for i in 0..first {
+        let _i = i;
+        marks.push(false)?;
+    }
+    Ok(marks)
+}
+
+// Which variables below `first` a statement sets.
+fn marked(alloc: Global, first: usize, s: &Statement) -> Result<Vec<bool>, AllocError>
+    ensures { IfOk result (λ marks. IsMarked first (sets (statement_of s.now)) marks.items) }
+{
+    let mut marks = unmarked(alloc, first)?;
+    mark(&mut marks, s);
+    Ok(marks)
+}
+
+// There is a mark for a variable, which is not set.
+fn stays(marks: &[bool], variable: usize) -> bool
+    ensures { (n : ℕ) (changed : ℕ → Bool) → IsMarked n changed marks.now → result ≡ (nat_lt variable n && not (changed variable)) }
+{
+    variable < marks.len() && !marks[variable]
+}
+
+// There is a mark for a variable, which is set.
+fn changes(marks: &[bool], variable: usize) -> bool
+    ensures { (n : ℕ) (changed : ℕ → Bool) → IsMarked n changed marks.now → result ≡ (nat_lt variable n && not (not (changed variable))) }
+{
+    variable < marks.len() && marks[variable]
 }
 
 /// What is known of variables below `first` that a statement does not set.
@@ -62,9 +117,10 @@ pub fn kept(
 ) -> Result<Vec<Limit>, AllocError>
     ensures { IfOk result (λ limits. limits.items ≡ kept first (sets (statement_of s.now)) known.now) }
 {
+    let marks = marked(alloc, first, s)?;
     let mut limits = Vec::new(alloc);
     for limit in known {
-        if limit.variable < first && !sets(s, limit.variable) {
+        if stays(marks.as_slice(), limit.variable) {
             limits.push(*limit)?;
         }
     }
@@ -99,13 +155,6 @@ pub fn set_to(known: &mut Vec<Limit>, variable: usize, most: Option<u32>) -> Res
     Ok(())
 }
 
-// No part of a statement sets a variable.
-fn unset(s: &Statement, variable: usize) -> bool
-    ensures { result ≡ unset (statement_of s.now) variable }
-{
-    !sets(s, variable)
-}
-
 /// What is known of variables below `first` that a statement sets.
 pub fn kept_set(
     alloc: Global,
@@ -115,9 +164,10 @@ pub fn kept_set(
 ) -> Result<Vec<Limit>, AllocError>
     ensures { IfOk result (λ limits. limits.items ≡ kept first (unset (statement_of s.now)) known.now) }
 {
+    let marks = marked(alloc, first, s)?;
     let mut limits = Vec::new(alloc);
     for limit in known {
-        if limit.variable < first && !unset(s, limit.variable) {
+        if changes(marks.as_slice(), limit.variable) {
             limits.push(*limit)?;
         }
     }

@@ -1,6 +1,6 @@
 // The pass: Cminor in which a test comes before each operation that may have no answer.
 
-ghost use Rattle.std.specs.Prelude.{◌≡◌, ◌<◌, ◌≤◌, true, not, IfOk, OnOk, IfErr};
+ghost use Rattle.std.specs.Prelude.{◌≡◌, ◌<◌, ◌≤◌, true, false, not, IfOk, OnOk, IfErr};
 ghost use Rattle.cc_c_laws.specs.Numbered.{objects_in};
 ghost use Rattle.cc_c_laws.specs.declared.mode.Mode.TheVariants.{Checked};
 ghost use Rattle.cc_cminor.specs.Code.{statement_of};
@@ -9,6 +9,7 @@ ghost use Rattle.cc_cminor.specs.Numbers.{most_variables};
 ghost use Rattle.cc_cminor.specs.Pair.{tree_of, code_of, FailsAlike, GoesWrong};
 ghost use Rattle.cc_cminor.specs.Variables.{above_statement};
 ghost use Rattle.cc_guard.specs.Guard.{guarded_code, has_guards, guarded_function, variables_in};
+ghost use Rattle.cc_guard.specs.Held.{IsHeld};
 ghost use Rattle.cc_guard.specs.Safe.{NeedsNoGuard};
 ghost use Rattle.cc_guard.specs.declared.fault.GuardFault.TheVariants.{FunctionTooLarge};
 ghost use Rattle.cc_guard.specs.internal.Written.{Sees};
@@ -16,15 +17,13 @@ ghost use Rattle.cc_guard.specs.internal.Written.{Sees};
 use crate::constants::constants_fit;
 use crate::fault::GuardFault;
 use crate::guards::{Seen, with_loop};
+use crate::held::{MOST_VARIABLES, held};
 use crate::sizes::object_sizes;
 use crate::statements::{Done, statement};
 use cc_c_laws::{Mode, calls_keep_objects};
 use cc_cminor::{CminorPair, Statement, variables_above};
 use cc_types::TypedUnit;
 use std::alloc::{AllocError, Global};
-
-/// Code has at most so many variables.
-const MOST_VARIABLES: usize = 2048;
 
 // The code of a function's own body with its guards, and what is seen of them.
 fn guarded_body(
@@ -51,9 +50,10 @@ const NOTHING: Seen = Seen {
     variables: 0,
 };
 
-// The code of a function with its guards.
+// The code of a function with its guards, and words that its conditions compare with in variables.
 fn guarded(alloc: Global, pair: &CminorPair) -> Result<Box<Statement>, GuardFault>
-    ensures code { IfOk result (λ code. statement_of code.value ≡ guarded_function (objects_in (tree_of pair.now)) (above_statement 0 (code_of pair.now)) (code_of pair.now)) }
+    ensures code { IfOk result (λ code. IsHeld (guarded_function (objects_in (tree_of pair.now)) (above_statement 0 (code_of pair.now)) (code_of pair.now)) (statement_of code.value)) }
+    ensures unguarded { IfOk result (λ code. has_guards (objects_in (tree_of pair.now)) (above_statement 0 (code_of pair.now)) (code_of pair.now) ≡ false → statement_of code.value ≡ code_of pair.now) }
     ensures few { IfOk result (λ _. variables_in (objects_in (tree_of pair.now)) (above_statement 0 (code_of pair.now)) (code_of pair.now) ≤ most_variables) }
     ensures large { IfErr result (λ fault. fault ≡ FunctionTooLarge → most_variables < variables_in (objects_in (tree_of pair.now)) (above_statement 0 (code_of pair.now)) (code_of pair.now)) }
 {
@@ -64,7 +64,9 @@ fn guarded(alloc: Global, pair: &CminorPair) -> Result<Box<Statement>, GuardFaul
         return Err(GuardFault::FunctionTooLarge);
     }
     if seen.guards {
-        Ok(with_loop(alloc, made)?)
+        let _kept = pair.code();
+        let code = with_loop(alloc, made)?;
+        Ok(held(alloc, code)?)
     } else {
         Ok(made)
     }
@@ -89,7 +91,8 @@ pub fn needs_no_guard(alloc: Global, pair: &CminorPair) -> Result<bool, AllocErr
 
 /// The Cminor of a function with a test before each operation that may have no answer, but not before one that evidently has. If a test
 /// fails the run goes on for ever, writes nothing more and never ends. So the code keeps up with the checked function, which the pair's
-/// type keeps. A function without guards has the code that it had.
+/// type keeps. Words that conditions in loops compare with may be in variables (`code`). A function without guards has the code that it had
+/// (`unguarded`).
 ///
 /// `FunctionTooLarge` (22) if the guards would set more variables than code may have, `OutOfMemory` (40) if memory runs out. The pair is
 /// given up with an error.
@@ -99,7 +102,8 @@ pub fn guard(alloc: Global, pair: CminorPair) -> Result<CminorPair, GuardFault>
     ensures mode { IfOk result (λ made. made.mode ≡ Checked) }
     ensures unit { IfOk result (λ made. made.unit ≡ pair.unit) }
     ensures function { IfOk result (λ made. made.function ≡ pair.function) }
-    ensures code { IfOk result (λ made. code_of made ≡ guarded_function (objects_in (tree_of pair)) (above_statement 0 (code_of pair)) (code_of pair)) }
+    ensures code { IfOk result (λ made. IsHeld (guarded_function (objects_in (tree_of pair)) (above_statement 0 (code_of pair)) (code_of pair)) (code_of made)) }
+    ensures unguarded { IfOk result (λ made. has_guards (objects_in (tree_of pair)) (above_statement 0 (code_of pair)) (code_of pair) ≡ false → code_of made ≡ code_of pair) }
     ensures large { IfErr result (λ fault. fault ≡ FunctionTooLarge → most_variables < variables_in (objects_in (tree_of pair)) (above_statement 0 (code_of pair)) (code_of pair)) }
 {
     match guarded(alloc, &pair) {

@@ -9,10 +9,12 @@ use Rattle.cc_cminor.specs.Numbers.{ExpressionBelow, ExpressionsBelow, ResultBel
 use Rattle.cc_cminor.specs.Size.{AtMostTwelveAToken, AtMostOnePartialAToken}
 use Rattle.cc_cminor.specs.Variables.{above, above_result, above_expression, above_expressions, above_statement}
 use Rattle.cc_guard.specs.Guard.{guarded_function, variables_in}
+use Rattle.cc_guard.specs.Held.{IsHeld}
 use Rattle.cc_guard.specs.Laws.{GuardsSetFew}
 use Rattle.cc_rtl.specs.Size.{function_nodes}
 use Rattle.cc_mode.specs.Long.{IsLongIn}
 use Rattle.cc_mode.proofs.GuardedNodes.{guarded_nodes}
+use Rattle.cc_mode.proofs.HeldNodes.{held_nodes}
 
 -- ---- variables below a number are that many
 
@@ -52,9 +54,10 @@ module _ (m : ℕ) where
 -- ---- more than 177 tokens
 
 module _ (unit : List External) (f : ℕ) (s : Statement) (objects : List Size) (few : AtMostOnePartialAToken unit f s) where
-  pub nodes_long : AtMostTwelveAToken unit f s → (n : ℕ) → 4096 < function_nodes (guarded_function objects n s) → IsLongIn Checked unit f
-  nodes_long small n large definition at tokens spelled =
+  pub nodes_long : AtMostTwelveAToken unit f s → (n : ℕ) (t : Statement) → IsHeld (guarded_function objects n s) t → 4096 < function_nodes t → IsLongIn Checked unit f
+  nodes_long small n t held large definition at tokens spelled =
       let a = guarded_nodes objects n (length tokens) s (small definition at tokens spelled) (few definition at tokens spelled) in
+      let b = held_nodes (guarded_function objects n s) t held in
       omega arith
 
   pub variables_long : GuardsSetFew → StatementBelow 1024 s → 2048 < variables_in objects (above_statement 0 s) s → IsLongIn Checked unit f

@@ -1,7 +1,7 @@
 -- What is printed of the answer to a script that was sent, and the status.
 use Rattle.std.specs.Prelude.{◌≡◌, ◌⊎◌, ◌||◌, ℕ, Bool, true, false, IsTrue, List, [], ◌∷◌, ◌++◌, Option, Some, None, codes}
 use Rattle.std.specs.Io.KnownBytes.{Appends}
-use Rattle.cc_script.specs.Line.{ScriptRequest, Add, Replace, Withdraw, Names, Run, Compact, Audit, Image, Source, asked_of}
+use Rattle.cc_script.specs.Line.{ScriptRequest, Add, Replace, Withdraw, Names, Run, Compact, Audit, Image, Source, AuditOne, Update, Call, asked_of}
 use Rattle.cc_script.specs.declared.command.Dialect.TheVariants.{Served}
 use Rattle.cc_spool.specs.Answer.{framed}
 use Rattle.cc_spool.specs.Parts.{TellsFault}
@@ -23,6 +23,9 @@ has_source (Some Compact) = false
 has_source (Some Audit) = false
 has_source (Some (Image name)) = false
 has_source (Some (Source name)) = false
+has_source (Some (AuditOne name)) = false
+has_source (Some (Update name expected length)) = false
+has_source (Some (Call name steps length)) = false
 
 -- a line that is a whole command
 abbrev pub is_whole : Option ScriptRequest → Bool
@@ -36,6 +39,9 @@ is_whole (Some Compact) = true
 is_whole (Some Audit) = true
 is_whole (Some (Image name)) = true
 is_whole (Some (Source name)) = true
+is_whole (Some (AuditOne name)) = true
+is_whole (Some (Update name expected length)) = false
+is_whole (Some (Call name steps length)) = false
 
 -- a line whose answer is a source
 abbrev pub asks_source : Option ScriptRequest → Bool

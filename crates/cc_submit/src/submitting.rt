@@ -1,6 +1,6 @@
 // A script that is left for a server, and what became of it.
 
-ghost use Rattle.std.specs.Prelude.{◌≡◌, ◌++◌, ◌∷◌, [], IfOk, codes, string_bytes};
+ghost use Rattle.std.specs.Prelude.{◌≡◌, ◌++◌, ◌∷◌, [], IfOk, OnErr, codes, string_bytes};
 ghost use Rattle.std.specs.Option.{option_map};
 ghost use Rattle.cc_script.specs.Line.{asked_of};
 ghost use Rattle.cc_spool.specs.Submitted.{HasWrittenIfOk};
@@ -77,6 +77,8 @@ fn is_whole(line: &str) -> bool
     match command_of(Dialect::Served, line.as_bytes()) {
         Some(ScriptCommand::Add { name: _, length: _ })
         | Some(ScriptCommand::Replace { name: _, length: _ })
+        | Some(ScriptCommand::Update { .. })
+        | Some(ScriptCommand::Call { .. })
         | None => false,
         Some(_) => true,
     }
@@ -530,7 +532,8 @@ pub fn submit_to<R: AllocGlobal + Input, W: Write, E: Write + Drop>(
     writer: &mut W,
     told: &mut Telling<E>,
 ) -> Result<Ended, AllocError>
-    ensures { IfOk result (λ ended. Submits (option_map string_bytes asked.now.line) (W.contents writer.old) (W.contents writer.new) ended) }
+    ensures submits { IfOk result (λ ended. Submits (option_map string_bytes asked.now.line) (W.contents writer.old) (W.contents writer.new) ended) }
+    ensures unwritten { OnErr result (W.contents writer.new ≡ W.contents writer.old) }
 {
     let line = match &asked.line {
         Some(line) => Some(line.as_str()),

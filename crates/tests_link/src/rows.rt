@@ -15,6 +15,15 @@ pub const WORDS: &[u32] = &[
     1, 2, 3, 4, 5, 6, 7, 8, 9, 10, 11, 12, 13, 14, 15, 16, 17, 18, 19, 20, 21, 22, 23, 24,
 ];
 
+/// Functions that return before they have a frame: by a test of a word, of two, of a word and a constant, with an operation before it, and
+/// one after the label.
+const RETURNING: &str = "int g(int x){return x*3;}int a(int x,int y){if(!x)return y;return g(y)+x;}\
+    int b(int x,int y){if(x<y)return x+1;return g(x)-g(y);}\
+    int c(unsigned x,unsigned y){if(x>=7u)return 3;return g(y)+c(x+1u,y);}\
+    int d(int x,int y){if((x&3)==0)return -x;return d(x-1,y)+g(y);}\
+    int e(int x,int y){if(x-5>y)return y;return g(x)+g(y);}\
+    int main(void){int i;for(i=-2;i<6;i=i+2){write_word(a(i,5-i));write_word(b(i,2));write_word(c(i+5,i));write_word(d(i,3));write_word(e(i*3,i));}}";
+
 const ENDED: MachineOutcome = MachineOutcome::Exited(0);
 
 /// A program, its input, how many instructions it may take, the words that it writes, and what it comes to.
@@ -26,7 +35,7 @@ type Row = (
     MachineOutcome,
 );
 
-static ROWS: [Row; 18] = [
+static ROWS: [Row; 19] = [
     ("int main(void){}", &[], 1000, &[], ENDED),
     ("int main(void){}", &[], 0, &[], MachineOutcome::Going),
     (QUOTIENTS, &[], 1000, &[-3, -1], ENDED),
@@ -45,6 +54,15 @@ static ROWS: [Row; 18] = [
         ENDED,
     ),
     (LONG, WORDS, 10_000, &[0, 300], ENDED),
+    (
+        RETURNING,
+        &[],
+        10_000,
+        &[
+            19, -1, -21, 22, -24, 5, 1, 3, 0, 0, 11, 0, 3, 18, 24, 7, 6, 3, -4, 4,
+        ],
+        ENDED,
+    ),
     (
         "int f(int n){if(n)return f(n-1);return 7;}int main(void){write_word(f(1022));}",
         &[],

@@ -92,26 +92,29 @@ static SHOWN: [(&str, usize, &str); 5] = [
       skip
 ",
     ),
-    // one test for both accesses of `a[i]`; an index that is no variable waits in one
+    // one test for both accesses of `a[i]`; an index that is no variable waits in one; what the loop compares with is in variables
     (
         "int a[3];unsigned char b[8];int main(void){int i;for(i=0;i<9;i=i+1)a[b[i+1]]+=i;}",
         0,
         "f0
+  v3 = 9
+  v4 = 8
+  v5 = 3
   block
     block
       v0 = 0
       v0 = 0
       block
         loop
-          if lt_s(v0, 9)
+          if lt_s(v0, v3)
             block
               v2 = add(v0, 1)
-              if le_u(8, v2)
+              if le_u(v4, v2)
                 exit 2
               else
                 skip
               v1 = byte o1[v2]
-              if le_u(3, v1)
+              if le_u(v5, v1)
                 exit 2
               else
                 skip

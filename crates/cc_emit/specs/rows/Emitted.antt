@@ -3,7 +3,7 @@
 use Rattle.std.specs.Prelude.{ℕ, zero, suc, ◌+◌, ◌-◌, ◌*◌, ◌/◌, ◌≡◌, refl, true, false, if◌then◌else◌, ◌==◌, nat_le, List, [], ◌∷◌, map, Option, None, slice_get}
 use Rattle.cc_words.specs.declared.operators.Width.TheVariants.{Byte, Word}
 use Rattle.cc_words.specs.declared.operators.Binary.TheVariants.{Add, Sub, LtS, LeS, LeU, Ne}
-use Rattle.cc_ltl.specs.declared.operation.Move.TheVariants.{Reload, Spill}
+use Rattle.cc_ltl.specs.declared.operation.Move.TheVariants.{Between, Reload, Spill}
 use Rattle.cc_linear_language.specs.declared.item.LinearItem.{LinearItem}
 use Rattle.cc_linear_language.specs.declared.item.LinearItem.TheVariants.{Label, Jump, IfZero, Copy, Const, Binary, Load, Store, Call, Write, Return}
 use Rattle.cc_select.specs.declared.step.WordOperator.TheVariants as immediate
@@ -25,7 +25,7 @@ use Rattle.cc_emit.specs.Contract.{filled}
 use Rattle.cc_emit.specs.Objects.{object_address}
 use Rattle.cc_emit.specs.Branches.{comparison, turned}
 use Rattle.cc_emit.specs.Emission.{addi, branch_items, load_element, load_word, store_element, store_word, const_size, is_close}
-use Rattle.cc_emit.specs.Function.{function_items, items_with}
+use Rattle.cc_emit.specs.Function.{function_items, items_with, whole_items}
 
 -- 1 is added up once; the sum goes through a slot and through an element of the second object, whose address has a negative lower part
 abbrev loop : List LinearItem
@@ -89,6 +89,37 @@ bare_words = refl
 calling : function_items (λ g. 0) 0 (One (Call 3) ∷ One Return ∷ [])
     ≡ addi 2 2 0xfffffffc ∷ store_word 2 1 0 ∷ item.Call 3 ∷ load_word 1 2 0 ∷ addi 2 2 4 ∷ Plain (Jalr 0 1 0) ∷ []
 calling = refl
+
+-- a leaf that changes no register but those that a call destroys has no frame: add x10, x10, x11; jalr x0, 0(x1)
+leaf : function_items (λ g. 0) 0 (One (Binary Add 10 10 11) ∷ One Return ∷ []) ≡ Plain (Op operation.Add 10 10 11) ∷ Plain (Jalr 0 1 0) ∷ []
+leaf = refl
+
+-- ---- what stands before a frame
+
+-- a test and the return to which it leads: slti x5, x10, 2; beq x5, x0, 8; jalr x0, 0(x1); then the frame, in which a label's return is as before
+returns_early : function_items (λ g. 0) 0 (BranchImmediate immediate.LtS true 10 2 7 ∷ One (Call 3) ∷ One (Label 7) ∷ One Return ∷ [])
+    ≡ Plain (OpImm Slti 5 10 2) ∷ Plain (instr.Branch Beq 5 0 8) ∷ Plain (Jalr 0 1 0) ∷ addi 2 2 0xfffffffc ∷ store_word 2 1 0 ∷ item.Call 3 ∷ load_word 1 2 0 ∷ addi 2 2 4 ∷ Plain (Jalr 0 1 0) ∷ []
+returns_early = refl
+
+-- an operation before the test, and one behind the label: addi x7, x10, 1; bne x7, x0, 12; addi x10, x0, 5; jalr x0, 0(x1); what goes to an item of
+-- the rest goes four further on
+one_more_step :
+    function_items (λ g. 0) 1 (Immediate immediate.Add 7 10 1 ∷ One (IfZero 7 9) ∷ One (Copy (Spill 0 10)) ∷ One (Call 3) ∷ One (Jump 8) ∷ One (Label 9) ∷ One (Const 10 5) ∷ One Return ∷ One (Label 8) ∷ One Return ∷ [])
+    ≡ addi 7 10 1 ∷ Plain (instr.Branch Bne 7 0 12) ∷ addi 10 0 5 ∷ Plain (Jalr 0 1 0) ∷ addi 2 2 0xfffffff8 ∷ store_word 2 1 4 ∷ store_word 2 10 0 ∷ item.Call 3 ∷ item.Go 13 ∷ addi 10 0 5 ∷ load_word 1 2 4 ∷ addi 2 2 8 ∷ Plain (Jalr 0 1 0)
+    ∷ load_word 1 2 4 ∷ addi 2 2 8 ∷ Plain (Jalr 0 1 0) ∷ []
+one_more_step = refl
+
+-- what changes a register that the function gives back stays in the frame, with the test behind it; and so does a test that leads to more than a
+-- return, and all of a function without a frame
+saved_before : function_items (λ g. 0) 0 (One (Copy (Between 8 10)) ∷ One (IfZero 10 7) ∷ One (Call 3) ∷ One (Label 7) ∷ One Return ∷ [])
+    ≡ whole_items (λ g. 0) 0 (One (Copy (Between 8 10)) ∷ One (IfZero 10 7) ∷ One (Call 3) ∷ One (Label 7) ∷ One Return ∷ [])
+saved_before = refl
+
+saved_behind : function_items (λ g. 0) 0 (One (IfZero 10 7) ∷ One (Call 3) ∷ One (Label 7) ∷ One (Const 8 1) ∷ One Return ∷ []) ≡ whole_items (λ g. 0) 0 (One (IfZero 10 7) ∷ One (Call 3) ∷ One (Label 7) ∷ One (Const 8 1) ∷ One Return ∷ [])
+saved_behind = refl
+
+no_frame : function_items (λ g. 0) 0 (One (IfZero 10 7) ∷ One (Const 10 1) ∷ One (Label 7) ∷ One Return ∷ []) ≡ whole_items (λ g. 0) 0 (One (IfZero 10 7) ∷ One (Const 10 1) ∷ One (Label 7) ∷ One Return ∷ [])
+no_frame = refl
 
 -- ---- words and numbers within an operation
 

@@ -1,29 +1,55 @@
-use Rattle.std.proofs.Common.{◌≡◌, ◌<◌, length, sym, ap, ◌∙◌, subst}
+use Rattle.std.proofs.Common.{◌<◌, ℕ, List, sym, ◌∙◌, ap, subst}
 use Rattle.std.specs.List.{AllByRecursion}
-use Rattle.cc_select.specs.Selected.{labels}
-use Rattle.cc_emit.specs.Emission.{framed_items}
-use Rattle.cc_emit.specs.Function.{items_with}
-use Rattle.cc_emit.specs.Scratch.{nothing, addressed}
+use Rattle.cc_select.specs.declared.step.Step.{Step}
+use Rattle.cc_select.specs.Selected.{labels, IsStep}
+use Rattle.cc_emit.specs.Function.{whole_items}
+use Rattle.cc_emit.specs.internal.Ahead.{shown}
 use Rattle.cc_emit.specs.internal.Bases.{base_in}
-use Rattle.cc_emit.specs.internal.Behind.{LeadsBelow}
-use Rattle.cc_emit.proofs.Bridging.{leads_all}
+use Rattle.cc_emit.proofs.Ahead.{ahead_says, early_whole, head_handed, rest_handed, rest_from}
 use Rattle.cc_emit.proofs.emission.function_items.Goals as goal
 
-pub put_code-requires-clause-leads : goal.put_code-requires-clause-leads
-put_code-requires-clause-leads c =
+pub whole_items-requires-2-clause-labels : goal.whole_items-requires-2-clause-labels
+whole_items-requires-2-clause-labels c =
     let code = c.args.code.now in
-    let sets_pointer = c.in_ok-steps.sets_pointer in
-    let count = length c.in_ok-places.places.first.items in
-    let below : AllByRecursion (λ label. label < count) (labels code) = subst (λ n. AllByRecursion (λ label. label < n) (labels code)) (sym c.in_ok-places.ensures.labels) c.label_count-count.ensures in
-    let steps : c.as_slice-2.result.now ≡ addressed (base_in c.args.bases.now) sets_pointer nothing code = c.as_slice-2.ensures.value ∙ c.in_ok-steps.ensures.steps in
-    subst (AllByRecursion (LeadsBelow count)) (sym steps) (leads_all count c.args.slots c.requires.fit.0 (labels code) (base_in c.args.bases.now) sets_pointer nothing code below c.requires.fit.1)
+    let a = c.in-Some.ahead in
+    let count = c.label_count-count.result in
+    let is = ahead_says c.args.slots code c.in_ok-ahead.field-0 a c.in-Some.is c.in_ok-ahead.ensures.found in
+    subst (λ (steps : List Step). AllByRecursion (λ label. label < count) (labels steps)) (sym c.as_slice.ensures.value)
+    (head_handed c.args.slots count c.requires.fit.0 code (shown code a) is c.label_count-count.ensures c.requires.fit.1).labels_below
+
+pub whole_items-requires-2-clause-fit : goal.whole_items-requires-2-clause-fit
+whole_items-requires-2-clause-fit c =
+    let code = c.args.code.now in
+    let a = c.in-Some.ahead in
+    let count = c.label_count-count.result in
+    let is = ahead_says c.args.slots code c.in_ok-ahead.field-0 a c.in-Some.is c.in_ok-ahead.ensures.found in
+    subst (λ (steps : List Step). (functions : ℕ) × (all : List ℕ) × AllByRecursion (λ label. label < count) all × AllByRecursion (IsStep 0 functions all) steps) (sym c.as_slice.ensures.value)
+    (head_handed c.args.slots count c.requires.fit.0 code (shown code a) is c.label_count-count.ensures c.requires.fit.1).fit
+
+pub whole_items-requires-3-clause-labels : goal.whole_items-requires-3-clause-labels
+whole_items-requires-3-clause-labels c =
+    let code = c.args.code.now in
+    let a = c.in-Some.ahead in
+    let count = c.label_count-count.result in
+    let is = ahead_says c.args.slots code c.in_ok-ahead.field-0 a c.in-Some.is c.in_ok-ahead.ensures.found in
+    subst (λ (steps : List Step). AllByRecursion (λ label. label < count) (labels steps)) (sym (rest_from code a.taken))
+    (rest_handed c.args.slots count c.requires.fit.0 code (shown code a) is c.label_count-count.ensures c.requires.fit.1).labels_below
+
+pub whole_items-requires-3-clause-fit : goal.whole_items-requires-3-clause-fit
+whole_items-requires-3-clause-fit c =
+    let code = c.args.code.now in
+    let a = c.in-Some.ahead in
+    let count = c.label_count-count.result in
+    let is = ahead_says c.args.slots code c.in_ok-ahead.field-0 a c.in-Some.is c.in_ok-ahead.ensures.found in
+    subst (λ (steps : List Step). (functions : ℕ) × (all : List ℕ) × AllByRecursion (λ label. label < count) all × AllByRecursion (IsStep c.args.slots functions all) steps) (sym (rest_from code a.taken))
+    (rest_handed c.args.slots count c.requires.fit.0 code (shown code a) is c.label_count-count.ensures c.requires.fit.1).fit
 
 pub returns : goal.returns
 returns c =
-    let base = base_in c.args.bases.now in
     let code = c.args.code.now in
-    let frame = c.in_ok-frame.frame in
-    let sets_pointer = c.in_ok-steps.sets_pointer in
-    let steps : c.as_slice-2.result.now ≡ addressed base sets_pointer nothing code = c.as_slice-2.ensures.value ∙ c.in_ok-steps.ensures.steps in
-    c.in_ok-put_code.ensures ∙ ap (framed_items base frame) steps ∙ ap (λ f. framed_items base f (addressed base sets_pointer nothing code)) c.in_ok-frame.ensures
-    ∙ ap (λ b. items_with base b c.args.slots code) c.in_ok-steps.ensures.gains
+    let base = base_in c.args.bases.now in
+    let a = c.in-Some.ahead in
+    let is = ahead_says c.args.slots code c.in_ok-ahead.field-0 a c.in-Some.is c.in_ok-ahead.ensures.found in
+    early_whole base c.args.slots code (shown code a) c.in_ok-items.items.items c.as_slice-2.result.now c.put_behind.new.items.items is
+    (c.in_ok-items.ensures ∙ ap (whole_items base 0) c.as_slice.ensures.value)
+    (c.as_slice-2.ensures.value ∙ c.in_ok-rest.ensures ∙ ap (whole_items base c.args.slots) (rest_from code a.taken)) c.in_ok-put_behind.ensures

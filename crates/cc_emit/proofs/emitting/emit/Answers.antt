@@ -3,7 +3,7 @@ use Rattle.cc_ast.specs.Source.{source}
 use Rattle.cc_ast.specs.declared.unit.Unit as parsed
 use Rattle.cc_types.specs.Typed.{IsTyped, IsWithinLimits}
 use Rattle.cc_emit.specs.Piece.{Piece}
-use Rattle.cc_emit.proofs.Handing.{fit_handed, frame_handed, items_handed, items_selected, piece_handed}
+use Rattle.cc_emit.proofs.Handing.{fit_handed, frame_handed, frame_selected, items_handed, items_selected, piece_handed}
 use Rattle.cc_emit.proofs.Pieces.{piece_of}
 use Rattle.cc_emit.proofs.emitting.emit.Goals as goal
 
@@ -38,6 +38,12 @@ returns-clause-function c = ap (λ (p : Piece). p.function) c.new-2.ensures ∙ 
 
 pub returns-clause-ltl : goal.returns-clause-ltl
 returns-clause-ltl c = ap (λ (p : Piece). p.ltl) c.new-2.ensures ∙ c.into_parts-unit.ensures.ltl ∙ c.in_ok-selected.ensures.ltl
+
+pub returns-clause-frame : goal.returns-clause-frame
+returns-clause-frame c =
+    let p = c.in_ok-selected.selected in
+    let frame = frame_handed p _ _ c.in_ok-frame.frame c.slots-2.ensures.answer c.code-code.ensures.code c.in_ok-frame.ensures in
+    ap (λ (p : Piece). p.frame) c.new-2.ensures ∙ frame ∙ frame_selected c.args.pair p c.in_ok-selected.ensures.ltl c.in_ok-selected.ensures.code
 
 pub returns-clause-items : goal.returns-clause-items
 returns-clause-items c =

@@ -16,5 +16,4 @@ returns-in-Err-FunctionTooLarge-clause-large c = λ _.
 pub returns-in-Err-clause-large : goal.returns-in-Err-clause-large
 returns-in-Err-clause-large c = λ is.
     let p = c.args.pair in
-    nodes_long (tree_of p) p.function (code_of p) (objects_in (tree_of p)) c.requires.operations c.requires.small (above_statement 0 (code_of p))
-    (subst (λ (s : Statement). 4096 < function_nodes s) c.in-Ok.ensures.code (c.in-Err.ensures.too_large is))
+    nodes_long (tree_of p) p.function (code_of p) (objects_in (tree_of p)) c.requires.operations c.requires.small (above_statement 0 (code_of p)) (code_of c.in-Ok.made) c.in-Ok.ensures.code (c.in-Err.ensures.too_large is)

@@ -1,0 +1,7 @@
+-- What is put, and what is still to be.
+use Rattle.std.proofs.Common.{◌≡◌, ◌++◌, drop, map}
+use Rattle.cc_emit.specs.Function.{shifted}
+use Rattle.cc_emit.proofs.emission.put_behind.Given as goal
+
+abbrev pub invariant-loop-item : goal.invariant-loop-item
+invariant-loop-item l = l.items.items ++ map (shifted l.before) (drop l.item-index l.rest) ≡ l.initial.items.items ++ map (shifted l.before) l.rest
