@@ -34,7 +34,7 @@ class Maker:
     def program(self, statements):
         writer = compare.Writer(self.seed)
         writer.random = self.random
-        return (writer.begin(self.seed) + "".join(writer.statement(2) + "\n" for _ in range(statements)) + "return a;\n}\n").encode()
+        return (writer.begin(self.seed, self.random) + "".join(writer.statement(2) + "\n" for _ in range(statements)) + "return a;\n}\n").encode()
 
     def changed(self, text):
         text = bytearray(text)

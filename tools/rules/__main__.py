@@ -19,6 +19,7 @@ import map as drawn  # noqa: E402
 import pictures  # noqa: E402
 import rooms  # noqa: E402
 import trace  # noqa: E402
+import wording  # noqa: E402
 
 TOP = os.path.dirname(os.path.dirname(os.path.dirname(os.path.abspath(__file__))))
 RULES = {
@@ -39,6 +40,8 @@ RULES = {
         lists.costs,
         pictures.pictures,
         trace.traced,
+        wording.listed_words,
+        wording.long_pages,
     )
 }
 
@@ -67,13 +70,16 @@ TAKEN = "\nghost use Rattle.cc_syntax.specs.internal.Roles.{planted};\n\n"
 FUNCTION = "pub fn planted() -> u32\n    ensures { result ≡ planted }\n{\n    7\n}\n"
 MODEL = "impl Model for Planted {\n    ghost view = { λ it. planted };\n}\n"
 LONG = f"\nfn planted() -> u32\n    ensures {{ result ≡ {' + '.join(['1'] * 40)} }}\n{{\n    40\n}}\n"
+# Words that docs/STYLE.md advises against, more often than any page has them.
+MANY = 400
+PRIVATE = "It stands behind.\n" * MANY
 # A word that no source has, this one among them.
 NOWHERE = "planted" + "nowhere"
 
 
 def plants():
     """Returns them: a rule, the new texts of files, and what it then says among other things."""
-    words = changed(WORDS, ("\nuse ", "\nuse Rattle.cc_words.proofs.Laws.{planted_law}\nuse "), more="\nplanted : ℕ\nplanted = planted_law\n")
+    laws = changed(WORDS, ("\nuse ", "\nuse Rattle.cc_words.proofs.Laws.{planted_law}\nuse "), more="\nplanted : ℕ\nplanted = planted_law\n")
     code = changed(WORDS_CODE, more=f"\nghost use Rattle.cc_words.specs.Words.{{planted}};\n\n{FUNCTION}")
     arrows = "".join(f"use {it}::planted;\n" for it in ("cc_disk", "cc_hex", "cc_screen", "cc_descriptors", "cc_earlier"))
     return [
@@ -82,12 +88,13 @@ def plants():
         ("rooms", changed(WORDS, more=DEFINED), "Words: planted: no public contract rests on it"),
         ("rooms", changed(ROLES, more=DEFINED) | changed(ROLES_CODE, more=TAKEN + FUNCTION), "Roles: planted: a public contract rests on it"),
         ("rooms", changed(ROLES, more=DEFINED) | changed(ROLES_CODE, more=TAKEN + MODEL), "Roles: planted: the model of a public type rests on it"),
-        ("of_proofs", words | code, "Words: planted: a public contract rests on it, and it takes from cc_words/proofs/Laws"),
+        ("of_proofs", laws | code, "Words: planted: a public contract rests on it, and it takes from cc_words/proofs/Laws"),
         ("repetitions", changed(WORDS_CODE, more=LONG * 4), "4 contracts repeat: result ≡ 1 + 1"),
         ("documents", changed("docs/THREADS.md", more=f"`{NOWHERE}`\n"), f"docs/THREADS.md: {NOWHERE} is not there"),
         ("documents", changed("docs/THREADS.md", more="`src/planted.rt`\n"), "docs/THREADS.md: src/planted.rt is not there"),
         ("documents", changed("docs/THREADS.md", more="`cc_words`: `Planted`\n"), "docs/THREADS.md: cc_words: Planted is not there"),
         ("documents", changed("crates/cc_journal/README.md", more="`append` (`planted`)\n"), "README.md: append (planted) is not there"),
+        ("documents", changed("crates/cc_journal/README.md", more="`typed_unit` (`program`)\n"), "README.md: typed_unit (program) is not there"),
         ("drawn_map", changed("docs/ARCHITECTURE.md", ("| 1 | `cc_words` |", "| 2 | `cc_words` |")), "cc_words: layer and arrows"),
         ("drawn_map", changed("docs/ARCHITECTURE.md", ("| 1 | `cc_words` |", "| 1 | `cc_planted` |")), "cc_planted is no crate"),
         ("drawn_map", changed("crates/cc_link/src/lib.rt", more=arrows), "cc_link: more than 7 arrows"),
@@ -100,7 +107,7 @@ def plants():
         ("commands", changed("crates/cc_command_line/src/spool.rt", ("\n  list", "\n  planted")), "SUBMIT_HELP"),
         ("commands", changed("docs/FORMATS.md", ("\n| `list` |", "\n| `planted` |")), "docs/FORMATS.md"),
         ("from_help", changed("docs/cclib.1", more='.\\" planted\n'), "docs/cclib.1"),
-        ("from_help", changed("README.md", ("| Command | What it does |\n", "| Command | What it does |\n| planted | |\n")), "README.md"),
+        ("from_help", changed("docs/LANGUAGE.md", ("| Command | What it does |\n", "| Command | What it does |\n| planted | |\n")), "docs/LANGUAGE.md"),
         ("costs", changed("docs/GATE.md", ("|   52 |", "|   53 |")), "docs/GATE.md"),
         ("example", changed("docs/SERVICE.md", ("```rust\n", "```rust\n// Planted.\n")), "docs/SERVICE.md"),
         ("pictures", changed("docs/pictures/passes.svg", ("<svg ", "<svg  ")), "docs/pictures/passes.svg is not what"),
@@ -113,6 +120,17 @@ def plants():
         ("traced", changed("docs/TRACE.md", ("`cc_log`: `a_log", "`cc_log`: `planted_a_log")), "cc_log: `planted_a_log"),
         ("traced", changed("docs/FIT.md", ("`run_counted` of", "`planted` of")), "docs/FIT.md: `planted` of `cc_runs` is not there"),
         ("traced", changed("README.md", ("\n4. ", "\n5. ")), "README.md has no promise 4"),
+        ("listed_words", changed("docs/THREADS.md", more=PRIVATE), "docs/THREADS.md has"),
+        ("listed_words", {"docs/PLANTED.md": PRIVATE}, "docs/PLANTED.md has"),
+        ("listed_words", changed("crates/cc_words/README.md", more=PRIVATE), "crates/cc_words/README.md has"),
+        ("listed_words", changed(WORDS_CODE, more="// It stands behind.\n" * MANY), "crates/cc_words has"),
+        ("listed_words", changed(WORDS_CODE, more='const PLANTED: &str = "it stands behind";\n' * MANY), "crates/cc_words has"),
+        ("listed_words", changed(WORDS, more="-- It stands behind.\n" * MANY), "crates/cc_words has"),
+        ("listed_words", changed("tools/rules/map.py", more="# It stands behind.\n" * MANY), "tools has"),
+        ("listed_words", changed("tools/words.txt", more="crates/cc_planted 3\n"), "tools/words.txt has crates/cc_planted"),
+        ("long_pages", changed("docs/DISK.md", more="planted " * 50000), "the first pages have"),
+        ("long_pages", changed("CHANGELOG.md", more="planted " * 50000), "the later pages have"),
+        ("long_pages", changed("crates/cc_words/README.md", more="planted " * 50000), "the READMEs of crates have"),
     ]
 
 

@@ -70,15 +70,15 @@ def commands():
     verbs = re.findall(r'verb == b"([a-z]*)"', read("crates/cc_script/src/command.rt"))
     wrong = differ(f"{COMMANDS} and command.rt", sorted(it.split()[0] for it in listed), sorted(verbs))
     wrong += differ(f"{COMMANDS} and LIBRARY_HELP", listed[:plain], in_help("LIBRARY_HELP", "library"))
-    wrong += differ(f"{COMMANDS} and SUBMIT_HELP", [it.removesuffix(" LEN") for it in listed], in_help("SUBMIT_HELP", "spool"))
+    wrong += differ(f"{COMMANDS} and SUBMIT_HELP", [it.removesuffix(" OLDLEN NEWLEN").removesuffix(" LEN") for it in listed], in_help("SUBMIT_HELP", "spool"))
     return wrong + differ(f"{COMMANDS} and docs/FORMATS.md", listed, re.findall(r"^\| `([a-z]+(?: [A-Z]+)*)` \|", table, re.M))
 
 
 def from_help():
-    """The manual page and the table of README.md are made from the help."""
+    """The manual page and the table of docs/LANGUAGE.md are made from the help."""
     wrong = differ("docs/from-help man and docs/cclib.1", said("docs/from-help", "man"), read("docs/cclib.1"))
-    table = found(r"^(\| Command \| What it does \|\n(?:\|[^\n]*\n)*)", read("README.md"))
-    return wrong + differ("docs/from-help table and README.md", said("docs/from-help", "table"), table)
+    table = found(r"^(\| Command \| What it does \|\n(?:\|[^\n]*\n)*)", read("docs/LANGUAGE.md"))
+    return wrong + differ("docs/from-help table and docs/LANGUAGE.md", said("docs/from-help", "table"), table)
 
 
 def example():

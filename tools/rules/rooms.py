@@ -338,11 +338,12 @@ def unknown_in(path, words, pages):
         unknown += [it for it in re.findall(r"(?<![\w*])[A-Za-z]\w*(?![\w*])", quoted) if it not in words and not it.endswith("_")]
     for name, there in PAGES.findall(text):
         unknown += [f"{name}: {it}" for it in re.findall(r"\w+", there) if it not in pages.get(name, ())]
-    clauses = clause_names_of(crate)
+    clauses, is_readme = clause_names_of(crate), path.startswith(f"{TOP}/crates/")
     for calls, cited in CITED.findall(text):
         names = [it.rpartition(":")[2] for it in QUOTED.findall(calls)]
         have = set().union(*(clauses.get(it, set()) for it in names))
-        if any(it in clauses for it in names):
+        is_call = is_readme and all(it.islower() and not os.path.isdir(f"{TOP}/crates/{it}") for it in names)
+        if is_call or any(it in clauses for it in names):
             unknown += [f"{', '.join(names)} ({it})" for it in QUOTED.findall(cited) if it not in have]
     return unknown
 

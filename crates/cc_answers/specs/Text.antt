@@ -54,7 +54,7 @@ fault_names =
     ∷ (38, codes "NotALibrary") ∷ (39, codes "Estranged") ∷ (40, codes "OutOfMemory") ∷ (41, codes "WorkersGone")
     ∷ (50, codes "BadLine") ∷ (51, codes "EndOfScript") ∷ (52, codes "ScriptTooLong") ∷ (53, codes "ReadFault")
     ∷ (54, codes "WriteFault") ∷ (55, codes "Interrupted") ∷ (56, codes "FolderFault") ∷ (57, codes "FolderInUse")
-    ∷ (58, codes "NotTaken") ∷ (59, codes "UnknownFunction") ∷ (61, codes "Stopped") ∷ []
+    ∷ (58, codes "NotTaken") ∷ (59, codes "UnknownFunction") ∷ (60, codes "Changed") ∷ (61, codes "Stopped") ∷ []
 
 -- the name at this number; nothing if no fault has it
 abbrev pub name_in : List (ℕ × List ℕ) → ℕ → List ℕ

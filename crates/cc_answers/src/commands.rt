@@ -14,12 +14,13 @@ fn before(place: usize, count: usize) -> &'static [u8] {
     }
 }
 
-// The words of a command: of `submit`, which counts a source's bytes by itself, without LEN.
+// The words of a command: of `submit`, which counts the bytes after a line by itself, without LEN.
 fn shown(command: &[u8], is_line: bool) -> &[u8] {
     if is_line {
         return command;
     }
-    command.strip_suffix(b" LEN").unwrap_or(command)
+    let short = command.strip_suffix(b" OLDLEN NEWLEN").unwrap_or(command);
+    short.strip_suffix(b" LEN").unwrap_or(short)
 }
 
 // Writes the commands of a script of that dialect.

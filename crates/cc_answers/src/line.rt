@@ -60,6 +60,7 @@ pub fn name_of(number: u32) -> &'static str
         57 => "FolderInUse",
         58 => "NotTaken",
         59 => "UnknownFunction",
+        60 => "Changed",
         61 => "Stopped",
         _ => "",
     }

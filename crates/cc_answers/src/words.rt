@@ -25,6 +25,7 @@ pub fn words_of(number: u32) -> Option<&'static str> {
         52 => Some("the script has more bytes (16777216), lines or calls than it may have"),
         53 => Some("the script could not be read"),
         54 => Some("an answer could not be written"),
+        60 => Some("the unit's source is not the one that was expected: nothing is changed"),
         61 => Some("the script had been at work for long, and others waited"),
         _ => None,
     }

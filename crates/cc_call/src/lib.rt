@@ -1,11 +1,14 @@
-//! Running a unit that a library keeps.
+//! Running and measuring a unit that a library keeps.
 //!
-//! `calling` takes the unit out of a library and runs its image on input words, `lines` on the words of line after line.
-//! Hands out `unit_in`, `unit_on`, `call`, `answer_line`, `call_lines`, and the definitions that their contracts name (`specs/`).
+//! `calling` takes the unit out of a library and runs its image on input words, `lines` on the words of line after line, `measuring` says
+//! what its image takes. Hands out `unit_in`, `unit_on`, `call`, `answer_line`, `call_lines`, `size_on`, and the definitions that their
+//! contracts name (`specs/`).
 #![tactic(auto)]
 
 mod calling;
 mod lines;
+mod measuring;
 
 pub use calling::{call, unit_in, unit_on};
 pub use lines::{LineEnd, LinesEnd, answer_line, call_lines};
+pub use measuring::{StoredSize, size_on};

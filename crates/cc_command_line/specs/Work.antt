@@ -4,7 +4,7 @@ use Rattle.cc_task.specs.Task.{IsWithinLimits}
 use Rattle.cc_command_line.specs.declared.command_line.Work.{Work}
 use Rattle.cc_command_line.specs.declared.command_line.Work.TheVariants.{One, Stages, TakeOut, Keep, Library, Serve, Submit}
 use Rattle.cc_command_line.specs.declared.keeping.Keeping.{Keeping}
-use Rattle.cc_command_line.specs.declared.keeping.Keeping.TheVariants.{Call, Diff, Log, Restore, Copy}
+use Rattle.cc_command_line.specs.declared.keeping.Keeping.TheVariants.{Call, Size, Diff, Log, Restore, Copy}
 
 -- how many bytes an area may have, where one is to be made
 abbrev pub IsArea : Option ℕ → Type 0
@@ -19,6 +19,7 @@ IsWait (Some seconds) = (1 ≤ seconds) × (seconds ≤ 86400)
 -- what looks into libraries: a run is bounded, and an area within its limits
 abbrev pub IsBoundedLook : Keeping → Type 0
 IsBoundedLook (Call asked) = asked.steps ≤ 1000000000
+IsBoundedLook (Size asked) = Unit {0}
 IsBoundedLook (Diff left right) = Unit {0}
 IsBoundedLook (Log disk name) = Unit {0}
 IsBoundedLook (Restore asked) = Unit {0}

@@ -9,13 +9,15 @@ use crate::files::{
     with_files,
 };
 use crate::keeping::{
-    Keeping, call_command, call_of, copy_command, copy_of, diff_command, diff_of, log_command,
-    log_of, restore_command, restore_of,
+    COUNT, Keeping, call_command, call_of, copy_command, copy_of, count_flag, diff_command,
+    diff_of, log_command, log_of, restore_command, restore_of,
 };
 use crate::library::{Session, library_command, library_of};
 use crate::numbers::number_in;
 use crate::spool::{Server, Submitter, serve_command, serve_of, submit_command, submit_of};
-use crate::unit::{Wanted, image_command, image_of, source_command, source_of};
+use crate::unit::{
+    Wanted, image_command, image_of, size_command, size_of, source_command, source_of,
+};
 use cc_task::{Kind, MOST_STEPS, Task};
 use clap::error::ErrorKind;
 use clap::{Arg, ArgAction, ArgMatches, Command, Error};
@@ -41,14 +43,16 @@ Examples:
   cclib check main.c table.c
   cclib interpret 1000 < examples/quotient.c
   cclib run 10000 2 104 105 < examples/checksum.c
-  cclib run --checked 10000 2 104 105 < examples/checksum.c
+  cclib run --checked --count 10000 2 104 105 < examples/checksum.c
   cclib asm < examples/quotient.c
   cclib stages main < examples/quotient.c
   cclib size < examples/quotient.c
+  cclib safe < examples/quotient.c
   cclib image < examples/quotient.c > quotient.hex
   cclib library units.disk --format 65536 < examples/units.script
   cclib image units.disk sum > sum.hex
   cclib source units.disk sum
+  cclib size units.disk sum
   cclib call units.disk sum 1000 4 5
   cclib diff units.disk backup.disk
   cclib log units.disk sum
@@ -116,9 +120,16 @@ const RUN: Runner = Runner {
     example: "The program comes on standard input: cclib run 1000 < examples/quotient.c",
 };
 
+// The command `interpret`, which counts too.
+fn interpret_command<'a>(alloc: Global) -> Result<Command<'a>, AllocError> {
+    runner_command(alloc, &INTERPRET)?.arg(count_flag(alloc))
+}
+
 // The command `run`, which takes a checked image too.
 fn run_command<'a>(alloc: Global) -> Result<Command<'a>, AllocError> {
-    runner_command(alloc, &RUN)?.arg(checked_word(alloc))
+    runner_command(alloc, &RUN)?
+        .arg(checked_word(alloc))?
+        .arg(count_flag(alloc))
 }
 
 // A command that runs a program. Its numbers are read below and not by clap, which takes a sign.
@@ -207,11 +218,10 @@ fn stages_command<'a>(alloc: Global) -> Result<Command<'a>, AllocError> {
     with_file(alloc, begun)
 }
 
-fn size_command<'a>(alloc: Global) -> Result<Command<'a>, AllocError> {
-    let about =
-        "Say how much the program's image takes: its code, its globals, and a stack that is enough";
-    let help = "The program comes on standard input, or in files: cclib size -f main.c -f table.c";
-    plain_command(alloc, "size", about, help)?.arg(checked_word(alloc))
+fn safe_command<'a>(alloc: Global) -> Result<Command<'a>, AllocError> {
+    let about = "Say `safe` if the program can't go wrong, whatever it reads; else where it may";
+    let help = "The program comes on standard input, or in files: cclib safe -f main.c -f table.c";
+    plain_command(alloc, "safe", about, help)
 }
 
 // The command with one more part.
@@ -243,11 +253,12 @@ fn command<'a>(alloc: Global) -> Result<Command<'a>, AllocError> {
         .subcommand_required(true)
         .arg(quiet)?;
     let whole = with_part(whole, check_command(alloc))?;
-    let whole = with_part(whole, runner_command(alloc, &INTERPRET))?;
+    let whole = with_part(whole, interpret_command(alloc))?;
     let whole = with_part(whole, run_command(alloc))?;
     let whole = with_part(whole, asm_command(alloc))?;
     let whole = with_part(whole, stages_command(alloc))?;
     let whole = with_part(whole, size_command(alloc))?;
+    let whole = with_part(whole, safe_command(alloc))?;
     let whole = with_part(whole, image_command(alloc))?;
     let whole = with_part(whole, source_command(alloc))?;
     let whole = with_part(whole, call_command(alloc))?;
@@ -323,15 +334,24 @@ fn task_of(alloc: Global, matches: &ArgMatches<'_>) -> Result<Task, Error>
     match matches.subcommand() {
         Some(("interpret", given)) => {
             let steps = steps_of(alloc, &INTERPRET, given)?;
-            Ok(Task::Interpret(steps, input_words(alloc, &INTERPRET, given)?))
+            let words = input_words(alloc, &INTERPRET, given)?;
+            Ok(if given.get_flag(COUNT) {
+                Task::InterpretCounted(steps, words)
+            } else {
+                Task::Interpret(steps, words)
+            })
         }
         Some(("run", given)) => {
             let steps = steps_of(alloc, &RUN, given)?;
             let words = input_words(alloc, &RUN, given)?;
-            Ok(Task::Run(kind_of(given), steps, words))
+            Ok(if given.get_flag(COUNT) {
+                Task::RunCounted(kind_of(given), steps, words)
+            } else {
+                Task::Run(kind_of(given), steps, words)
+            })
         }
         Some(("asm", given)) => Ok(Task::Asm(kind_of(given))),
-        Some(("size", given)) => Ok(Task::Size(kind_of(given))),
+        Some(("safe", _)) => Ok(Task::Safe),
         _ => Ok(Task::Check),
     }
 }
@@ -354,6 +374,7 @@ fn work_of(alloc: Global, matches: &ArgMatches<'_>) -> Result<Work, Error>
 {
     match matches.subcommand() {
         Some(("stages", given)) => Ok(stages_of(alloc, given)?),
+        Some(("size", given)) => size_of(alloc, given),
         Some(("image", given)) => image_of(alloc, given),
         Some(("source", given)) => source_of(alloc, given),
         Some(("call", given)) => call_of(alloc, given),

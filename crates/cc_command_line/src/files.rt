@@ -13,7 +13,7 @@ pub(crate) const BOTH_RULE: &str = "files are given as words or by --file, and n
 pub(crate) const EMPTY_RULE: &str = "a path of no letters names no file";
 
 pub(crate) const NO_FILE_RULE: &str =
-    "--file goes with what reads a program: not with DISK and NAME, nor with a line of a script but `add` and `replace`";
+    "--file goes with what reads a program: not with DISK and NAME, nor with a line of a script but `add`, `replace` and `update`";
 
 /// A command with the option for the files of its program.
 pub(crate) fn with_file<'a>(
@@ -74,7 +74,7 @@ pub(crate) fn paths_of(alloc: Global, words: &[&str]) -> Result<Option<Vec<Strin
 
 // Whether a line of a script is followed by a source.
 fn takes_source(line: &str) -> bool {
-    line.starts_with("add ") || line.starts_with("replace ")
+    line.starts_with("add ") || line.starts_with("replace ") || line.starts_with("update ")
 }
 
 /// Whether a work reads a program, so that it may come in files.

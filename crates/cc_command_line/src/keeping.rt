@@ -1,4 +1,5 @@
-// The commands that look into libraries in files, go back in one, and copy one: `call`, `diff`, `log`, `restore` and `copy`.
+// The commands that look into libraries in files, go back in one, and copy one: `call`, `diff`, `log`, `restore` and `copy`; and what they and
+// `size` ask for.
 
 ghost use Rattle.std.specs.Prelude.{◌≤◌, IfOk, IfSome};
 ghost use Rattle.cc_command_line.specs.Work.{IsAllowed};
@@ -7,7 +8,7 @@ use crate::command_line::{STEPS_RULE, WORD_RULE, Work, words_in};
 use crate::library::{AREA_RULE, FORMAT, LEAST_AREA, MOST_AREA, PATH_RULE, option, path_of};
 use crate::numbers::number_in;
 use crate::unit::{AT_RULE, MOST_COMMANDS};
-use cc_task::MOST_STEPS;
+use cc_task::{Kind, MOST_STEPS};
 use clap::error::ErrorKind;
 use clap::{Arg, ArgAction, ArgMatches, Command, Error};
 use std::alloc::{AllocError, Global};
@@ -80,6 +81,17 @@ pub struct Restoring {
     pub number: u64,
 }
 
+/// A unit of the library in a file, of which is wanted what its image takes.
+#[derive(Drop)]
+pub struct Measuring {
+    /// The path of the file.
+    pub disk: String,
+    /// The name that the unit should have, as it was given.
+    pub name: String,
+    /// How its image should be compiled.
+    pub kind: Kind,
+}
+
 /// A library that is to be copied into a new one.
 #[derive(Drop)]
 pub struct Copying {
@@ -100,6 +112,8 @@ pub struct Copying {
 pub enum Keeping {
     /// Run a unit.
     Call(Calling),
+    /// Say what a unit takes.
+    Size(Measuring),
     /// Say where the libraries in two files differ.
     Diff(String, String),
     /// Say which commands a library has had, or those about one name.
@@ -128,7 +142,7 @@ pub(crate) fn count_flag<'a>(alloc: Global) -> Arg<'a> {
     flag(
         alloc,
         COUNT,
-        "Print the least number of instructions with that end",
+        "Print the least number of instructions, or of steps, with that end",
     )
 }
 

@@ -17,7 +17,7 @@ mod telling;
 mod unit;
 
 pub use command_line::{Invocation, Work, line, read_invocation, refused_bytes};
-pub use keeping::{Calling, Copying, Keeping, Restoring};
+pub use keeping::{Calling, Copying, Keeping, Measuring, Restoring};
 pub use library::{LEAST_AREA, MOST_AREA, MOST_WORKERS, Session};
 pub use spool::{MOST_CLIENTS, MOST_DAYS, MOST_WAIT, Server, Submitter};
 pub use telling::{NoRequest, read_or_tell, tell_bytes};

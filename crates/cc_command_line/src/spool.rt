@@ -52,13 +52,20 @@ const WAIT: &str = "wait";
 
 const WAIT_RULE: &str = "SECONDS is a decimal number from 1 to 86400";
 
+const COMMAND: &str = "COMMAND";
+
+const WAS: &str = "was";
+
+const WAS_RULE: &str =
+    "`update NAME` takes --was OLDFILE, a file with the source that is to be replaced, and no other line does";
+
 const WORD_RULE: &str = "a word of COMMAND has no space and no newline";
 
 // What a person reads below the options of `serve`.
 const SERVE_HELP: &str = "\
-A script is what `cclib library` reads; it may have the lines `image NAME` and `source NAME` too. `cclib submit FOLDER` leaves
-one in the folder and prints its answer. What is not there of the folder is made: everybody may be a client, or, where FOLDER
-has the set-group-id bit, the members of its group.
+A script is what `cclib library` reads; it may have the lines `image NAME`, `source NAME`, `audit NAME`, `update` and `call`
+too. `cclib submit FOLDER` leaves one in the folder and prints its answer. What is not there of the folder is made: everybody
+may be a client, or, where FOLDER has the set-group-id bit, the members of its group.
 
   touch FOLDER/stop    ends the server when the scripts that were begun are done
 
@@ -81,6 +88,9 @@ Without a COMMAND the script comes on standard input. A COMMAND is one line of a
   audit
   image NAME         its image as Intel HEX
   source NAME        its source, to the byte
+  audit NAME         what an audit says of it
+  update NAME        as replace, if the source that is there is that of --was OLDFILE
+  call NAME STEPS    run its image on the WORDs that follow
 
 A script that waits is taken back after three seconds in which no server is there, and nothing of it is done. One that a server
 has begun is waited for.
@@ -121,6 +131,10 @@ pub struct Submitter {
     pub folder: String,
     /// The line of a script, whose source is on standard input where it takes one. Where it is not given the script is on standard input.
     pub line: Option<String>,
+    /// The words behind the three of a line `call`, with a space between two: its input. It is given just where the line's first word is `call`.
+    pub input: Option<String>,
+    /// The path of the file with the source that a line `update` is to replace. It is given just where the line's first word is `update`.
+    pub was: Option<String>,
     /// For how many seconds it waits, whether or not a server is there, where that is given: 1 to 86,400.
     pub wait: Option<u32>,
 }
@@ -190,14 +204,21 @@ pub(crate) fn submit_command<'a>(alloc: Global) -> Result<Command<'a>, AllocErro
         "SECONDS",
         "Take the script back where no server began it in so many seconds: 1 to 86400",
     );
-    let words = Arg::new(alloc, "COMMAND")
+    let words = Arg::new(alloc, COMMAND)
         .num_args(0..)
         .help("A line of a script");
+    let was = option(
+        alloc,
+        WAS,
+        "OLDFILE",
+        "The file with the source that `update` is to replace",
+    );
     let begun = Command::new(alloc, "submit")
         .about("Leave a script for a server, wait for its answer and print it")
         .after_help(SUBMIT_HELP)
         .arg(folder)?
         .arg(wait)?
+        .arg(was)?
         .arg(words)?;
     with_file(alloc, begun)
 }
@@ -309,7 +330,7 @@ fn are_words(words: &[&str]) -> bool {
     true
 }
 
-// A line of a script: the words, with a space between two.
+// The words with a space between two.
 fn line_of(alloc: Global, words: &[&str]) -> Result<String, AllocError> {
     let mut line = String::new(alloc);
     for word in words {
@@ -321,6 +342,69 @@ fn line_of(alloc: Global, words: &[&str]) -> Result<String, AllocError> {
     Ok(line)
 }
 
+// Whether the first of some words is this one.
+fn begins_with(words: &[&str], first: &str) -> bool {
+    match words.first() {
+        Some(word) => *word == first,
+        None => false,
+    }
+}
+
+// Whether the line is one of `update`.
+fn is_update(given: &ArgMatches<'_>) -> bool {
+    match given.get_strs(COMMAND) {
+        Some(words) => begins_with(words, "update"),
+        None => false,
+    }
+}
+
+// The file with the source that `update` is to replace, which that line takes and no other one; none where it is not so.
+fn was_of(alloc: Global, given: &ArgMatches<'_>) -> Result<Option<Option<String>>, AllocError> {
+    match (given.get_str(WAS), is_update(given)) {
+        (None, false) => Ok(Some(None)),
+        (Some(path), true) if !path.is_empty() && path != "-" => {
+            Ok(Some(Some(String::from_str(alloc, path)?)))
+        }
+        _ => Ok(None),
+    }
+}
+
+// What is asked to be sent: the line, and the input of a call.
+#[derive(Drop)]
+struct Sent {
+    line: Option<String>,
+    input: Option<String>,
+}
+
+// What these words ask to be sent.
+fn sent_by(alloc: Global, words: &[&str]) -> Result<Sent, AllocError> {
+    if !begins_with(words, "call") {
+        return Ok(Sent {
+            line: Some(line_of(alloc, words)?),
+            input: None,
+        });
+    }
+    let (own, input) = words.split_at(words.len().min(3));
+    let line = line_of(alloc, own)?;
+    let input = line_of(alloc, input)?;
+    Ok(Sent {
+        line: Some(line),
+        input: Some(input),
+    })
+}
+
+// What is asked to be sent; none where a word is none of a line.
+fn sent_of(alloc: Global, given: &ArgMatches<'_>) -> Result<Option<Sent>, AllocError> {
+    match given.get_strs(COMMAND) {
+        Some(words) if are_words(words) => Ok(Some(sent_by(alloc, words)?)),
+        Some(_) => Ok(None),
+        None => Ok(Some(Sent {
+            line: None,
+            input: None,
+        })),
+    }
+}
+
 /// What `submit` asks for.
 pub(crate) fn submit_of(alloc: Global, given: &ArgMatches<'_>) -> Result<Work, Error>
     ensures { IfOk result IsAllowed }
@@ -329,10 +413,18 @@ pub(crate) fn submit_of(alloc: Global, given: &ArgMatches<'_>) -> Result<Work, E
     let Some(folder) = path_of(alloc, given, "FOLDER")? else {
         return Err(refused_submit(alloc, PATH_RULE)?);
     };
-    let line = match given.get_strs("COMMAND") {
-        Some(words) if are_words(words) => Some(line_of(alloc, words)?),
-        Some(_) => return Err(refused_submit(alloc, WORD_RULE)?),
-        None => None,
+    let Some(was) = was_of(alloc, given)? else {
+        return Err(refused_submit(alloc, WAS_RULE)?);
     };
-    Ok(Work::Submit(Submitter { folder, line, wait }))
+    let Some(sent) = sent_of(alloc, given)? else {
+        return Err(refused_submit(alloc, WORD_RULE)?);
+    };
+    let Sent { line, input } = sent;
+    Ok(Work::Submit(Submitter {
+        folder,
+        line,
+        input,
+        was,
+        wait,
+    }))
 }

@@ -15,6 +15,8 @@ pub enum NoRequest {
     /// The command line was refused, or asked for help: the program's status, 2 if it was refused, 0 if the help was printed, 1 if it could not
     /// be (54).
     Told(u8),
+    /// The version was printed, and nothing else.
+    Version,
     /// Memory ran out.
     OutOfMemory,
 }
@@ -23,7 +25,11 @@ fn tell<R: Eprint + Print>(rt: &R, error: Error) -> NoRequest {
     if error.kind() == ErrorKind::OutOfMemory {
         return NoRequest::OutOfMemory;
     }
+    let is_version = error.kind() == ErrorKind::DisplayVersion;
     let is_printed = error.print(rt).is_ok();
+    if is_version && is_printed {
+        return NoRequest::Version;
+    }
     NoRequest::Told(if error.exit_code() != 0 {
         2
     } else if is_printed {

@@ -1,10 +1,11 @@
-// The commands `image` and `source`: what is taken out of a library. `image` without a library is a task for a text.
+// The commands `image` and `source`: what is taken out of a library; and `size`. `image` and `size` without a library are tasks for a text.
 
 ghost use Rattle.std.specs.Prelude.{IfOk};
 ghost use Rattle.cc_command_line.specs.Work.{IsAllowed};
 
 use crate::command_line::{Work, checked_word, kind_of};
 use crate::files::with_file;
+use crate::keeping::{Keeping, Measuring};
 use crate::library::{PATH_RULE, option, path_of};
 use crate::numbers::number_in;
 use cc_task::{Kind, Part, Task};
@@ -26,6 +27,9 @@ pub(crate) const AT_RULE: &str = "K is the number of a line of `cclib log DISK`,
 const BOTH_RULE: &str =
     "DISK and NAME go together; without both, the program comes on standard input: cclib image < FILE";
 
+const SIZE_BOTH_RULE: &str =
+    "DISK and NAME go together; without both, the program comes on standard input: cclib size < FILE";
+
 const CHECKED_RULE: &str =
     "--checked is for a program on standard input; the image of a unit is printed as it was stored";
 
@@ -45,6 +49,14 @@ What is printed is the source that was stored, to the byte.
 
 Example:
   cclib source units.disk quotient > quotient.c";
+
+// The same of `size`.
+const SIZE_HELP: &str = "\
+Without further words the program comes on standard input, or in files:
+  cclib size -f main.c -f table.c
+
+With DISK and NAME it is a unit of a library, made again along its certificate; of one that is not confirmed so the line of
+`audit` is printed.";
 
 /// A part of a unit of the library in a file.
 #[derive(Drop)]
@@ -71,13 +83,32 @@ fn with_unit<'a>(
     let name = Arg::new(alloc, NAME)
         .required(is_required)
         .help("The name of the unit");
+    command.arg(disk)?.arg(name)
+}
+
+// The same, and the option for what a command stored.
+fn with_unit_at<'a>(
+    alloc: Global,
+    command: Command<'a>,
+    is_required: bool,
+) -> Result<Command<'a>, AllocError> {
     let at = option(
         alloc,
         AT,
         "K",
         "Print what command K of `cclib log DISK` stored, in place of what the library has now",
     );
-    command.arg(disk)?.arg(name)?.arg(at)
+    with_unit(alloc, command, is_required)?.arg(at)
+}
+
+/// The command `size` with its words.
+pub(crate) fn size_command<'a>(alloc: Global) -> Result<Command<'a>, AllocError> {
+    let begun = Command::new(alloc, "size")
+        .about("Say how much an image takes: its code, its globals, and a stack that is enough")
+        .after_help(SIZE_HELP)
+        .arg(checked_word(alloc))?;
+    let begun = with_unit(alloc, begun, false)?;
+    with_file(alloc, begun)
 }
 
 /// The command `image` with its words.
@@ -88,7 +119,7 @@ pub(crate) fn image_command<'a>(alloc: Global) -> Result<Command<'a>, AllocError
         )
         .after_help(IMAGE_HELP)
         .arg(checked_word(alloc))?;
-    let begun = with_unit(alloc, begun, false)?;
+    let begun = with_unit_at(alloc, begun, false)?;
     with_file(alloc, begun)
 }
 
@@ -97,7 +128,7 @@ pub(crate) fn source_command<'a>(alloc: Global) -> Result<Command<'a>, AllocErro
     let begun = Command::new(alloc, "source")
         .about("Print the source of a unit of a library")
         .after_help(SOURCE_HELP);
-    with_unit(alloc, begun, true)
+    with_unit_at(alloc, begun, true)
 }
 
 // The error of clap for words of `image` that break this rule.
@@ -109,6 +140,12 @@ fn refused_image(alloc: Global, rule: &'static str) -> Result<Error, AllocError>
 // The same of `source`.
 fn refused_source(alloc: Global, rule: &'static str) -> Result<Error, AllocError> {
     let mut part = source_command(alloc)?.bin_name("cclib source")?;
+    part.error(ErrorKind::ValueValidation, rule)
+}
+
+// The same of `size`.
+fn refused_size(alloc: Global, rule: &'static str) -> Result<Error, AllocError> {
+    let mut part = size_command(alloc)?.bin_name("cclib size")?;
     part.error(ErrorKind::ValueValidation, rule)
 }
 
@@ -181,4 +218,22 @@ pub(crate) fn source_of(alloc: Global, given: &ArgMatches<'_>) -> Result<Work, E
         Some(wanted) => Ok(Work::TakeOut(wanted)),
         None => Err(refused_source(alloc, PATH_RULE)?),
     }
+}
+
+/// What `size` asks for: a task for a text where it has no word, else what the image of a unit takes.
+pub(crate) fn size_of(alloc: Global, given: &ArgMatches<'_>) -> Result<Work, Error>
+    ensures { IfOk result IsAllowed }
+{
+    let kind = kind_of(given);
+    if given.get_str(DISK).is_none() {
+        return Ok(Work::One(Task::Size(kind)));
+    }
+    let Some(name) = given.get_str(NAME) else {
+        return Err(refused_size(alloc, SIZE_BOTH_RULE)?);
+    };
+    let Some(disk) = path_of(alloc, given, DISK)? else {
+        return Err(refused_size(alloc, PATH_RULE)?);
+    };
+    let name = String::from_str(alloc, name)?;
+    Ok(Work::Keep(Keeping::Size(Measuring { disk, name, kind })))
 }

@@ -1,15 +1,16 @@
 // The commands `image` and `source` with a library: a part of a unit that the library in a file keeps. The file is opened as for `library`, with
 // its lock, and nothing is written to it.
 
-ghost use Rattle.std.specs.Prelude.{◌≡◌, ◌⊎◌, MatchResult};
+ghost use Rattle.std.specs.Prelude.{◌≡◌, false, true, MatchResult};
 ghost use Rattle.std.specs.Io.KnownBytes.{Appends};
+ghost use Rattle.cc_tasks.specs.Written.{found_text};
 
 use crate::filing::disk_of;
 use cc_answers::{Telling, explain_words};
 use cc_command_line::Wanted;
 use cc_library::LibraryFault;
 use cc_screen::Screen;
-use cc_tasks::{PartFault, take_out, write_part};
+use cc_tasks::{Done, PartFault, take_out, write_part};
 use std::alloc::{AllocError, Global};
 use std::io::{self, BufWriter, IsTerminal, Print, Write};
 
@@ -51,26 +52,41 @@ pub fn explain_part<E: Write>(fault: PartFault, errors: &mut E) -> io::Result<()
     errors.flush()
 }
 
-/// Writes the bytes, or the fault's line; the status. 0 says that the bytes were appended to what the writer held, and nothing else.
+// Tells a person of the fault, if there is one; the status.
+fn told<E: Write>(found: &Result<Vec<u8>, PartFault>, errors: &mut E) -> u8
+    ensures { MatchResult found.now (λ _. result ≡ 0) (λ _. result ≡ 1) }
+{
+    match found {
+        Ok(_) => 0,
+        Err(fault) => {
+            let _ = explain_part(*fault, errors);
+            1
+        }
+    }
+}
+
+/// Writes the bytes, or the fault's line: that was appended to what the writer held and nothing else, or it could not be written.
 pub fn write_found<W: Write, E: Write>(
     found: Result<Vec<u8>, PartFault>,
     writer: &mut W,
     errors: &mut E,
-) -> u8
-    ensures { MatchResult found (λ bytes. ((result ≡ 0) × Appends (W.contents writer.old) (W.contents writer.new) bytes.items) ⊎ (result ≡ 1)) (λ _. result ≡ 1) }
+) -> Done
+    ensures written { result.is_written ≡ true → Appends (W.contents writer.old) (W.contents writer.new) (found_text found) }
+    ensures status { result.is_written ≡ true → MatchResult found (λ _. result.status ≡ 0) (λ _. result.status ≡ 1) }
+    ensures unwritten { result.is_written ≡ false → result.status ≡ 1 }
 {
     match write_part(&found, writer) {
-        Ok(()) => match found {
-            Ok(_) => 0,
-            Err(fault) => {
-                let _ = explain_part(fault, errors);
-                1
-            }
+        Ok(()) => Done {
+            status: told(&found, errors),
+            is_written: true,
         },
         Err(unwritten) => {
             let _ = explain_words(unwritten.number(), errors);
             drop(unwritten);
-            1
+            Done {
+                status: 1,
+                is_written: false,
+            }
         }
     }
 }
@@ -93,5 +109,6 @@ pub fn take_out_of_file<R: AllocGlobal + Print, E: Write + Drop>(
     let mut writer = Screen::new(buffered, files.stdout().is_terminal());
     let mut told = Telling { errors, is_quiet };
     let found = bytes_of(rt.alloc(), files, wanted, &mut told);
-    Ok(write_found(found, &mut writer, &mut told))
+    let done = write_found(found, &mut writer, &mut told);
+    Ok(done.status)
 }

@@ -60,7 +60,8 @@ pub fn take_out_of_past<R: AllocGlobal + Print, E: Write + Drop>(
     let mut told = Telling { errors, is_quiet };
     let found = bytes_of(rt.alloc(), files, wanted, number);
     explain_absent(&found, &mut told);
-    Ok(write_found(found, &mut writer, &mut told))
+    let done = write_found(found, &mut writer, &mut told);
+    Ok(done.status)
 }
 
 // Puts what a command stored back.

@@ -1,5 +1,5 @@
-// Whether a stored unit is what this compiler makes of its text along its certificate: the compiler's passes, given the allocation that is
-// read from the certificate.
+// Whether a stored unit is what this compiler makes of its text along its certificate: the compiler's passes with the allocation read
+// from the certificate in place of one that is made.
 //
 // Nothing is believed of the three parts. The unit is made anew from the text and the functions of LTL that are read, and is then the
 // stored one or not: since a function of LTL has one spelling, no byte of the certificate can be left over, or be another. What a unit that
@@ -18,18 +18,18 @@ use crate::audit_answer::Audit;
 use crate::certificate::{first_ltl, number_at};
 use crate::compiled::Compilation;
 use crate::fault::LinkFault;
-use crate::function::compile_watched_in;
+use crate::function::{emitted, prepared};
 use crate::laws::linked_units_follow;
 use crate::linking::link_all_in;
-use crate::piece_fault::PieceFault;
 use crate::text::typed_unit;
-use crate::watching::{Allocation, Unwatched};
 use cc_c_laws::Mode;
 use cc_emit::Piece;
 use cc_ltl::{Ltl, LtlFault, read_ltl};
+use cc_rtl::{RtlFault, RtlPair};
 use cc_rv32::image::Image;
 use cc_types::TypedUnit;
 use cc_unit::StoredUnit;
+use cc_validate::{ValidateFault, validate};
 use std::alloc::{AllocError, Global};
 use std::sync::Arc;
 
@@ -181,26 +181,23 @@ fn piece(
     requires { function < length (defined_names (source (arc_value unit.now))) }
 {
     match read_ltl(alloc, bytes) {
-        Ok(ltl) => piece_by(alloc, mode, unit, function, ltl),
+        Ok(ltl) => match prepared(alloc, mode, unit, function) {
+            Ok(rtl) => validated(alloc, rtl, ltl),
+            Err(RtlFault::FunctionTooLarge) => Ok(None),
+            Err(RtlFault::OutOfMemory) => Err(AllocError),
+        },
         Err(LtlFault::Damaged) => Ok(None),
         Err(LtlFault::OutOfMemory) => Err(AllocError),
     }
 }
 
-// The piece of a function by this LTL, where the validator accepts it.
-fn piece_by(
-    alloc: Global,
-    mode: Mode,
-    unit: &Arc<TypedUnit>,
-    function: usize,
-    ltl: Ltl,
-) -> Result<Option<Piece>, AllocError>
-    requires { function < length (defined_names (source (arc_value unit.now))) }
-{
-    let given = Allocation::Given(ltl);
-    match compile_watched_in(alloc, mode, unit, function, given, &mut Unwatched) {
-        Ok(piece) => Ok(Some(piece)),
-        Err(PieceFault::OutOfMemory) => Err(AllocError),
-        Err(_) => Ok(None),
+// The piece of a function in RTL by this LTL, where the validator accepts it.
+fn validated(alloc: Global, rtl: RtlPair, ltl: Ltl) -> Result<Option<Piece>, AllocError> {
+    match validate(alloc, rtl, ltl) {
+        Ok(pair) => Ok(Some(emitted(alloc, pair)?)),
+        Err(refused) => match refused.fault {
+            ValidateFault::Unvalidated { .. } => Ok(None),
+            ValidateFault::OutOfMemory => Err(AllocError),
+        },
     }
 }

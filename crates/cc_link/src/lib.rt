@@ -14,10 +14,8 @@ mod globals;
 mod laws;
 mod linking;
 mod order;
-mod passes;
 mod piece_fault;
 mod text;
-mod watching;
 mod words;
 
 pub use audit_answer::Audit;
@@ -28,7 +26,7 @@ pub use cc_unit::{Certificate, MOST_SOURCE, Source, StoredUnit};
 pub use compiled::{Compilation, CompiledUnit};
 pub use compiling::{compile, compile_functions_in, compile_in, compile_whole_in};
 pub use fault::LinkFault;
-pub use function::{compile_function, compile_function_in, compile_watched_in};
+pub use function::{compile_function, compile_function_in};
 pub use laws::{
     linked_units_agree, linked_units_are_backed, linked_units_follow, made_units_are_certified,
 };
@@ -36,4 +34,3 @@ pub use linking::{link, link_in, link_lent, link_pieces_in};
 pub use order::in_order;
 pub use piece_fault::PieceFault;
 pub use text::{TextFault, typed_unit, verdicts_are_determined};
-pub use watching::{Allocation, Allocator, Seen, Unwatched, Watch};

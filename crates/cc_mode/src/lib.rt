@@ -1,6 +1,6 @@
-//! From the Cminor of a function to its Cminor in a mode, in which a checked function has guards.
+//! From a function's tree to its RTL in a mode: by Cminor, in which a checked function has guards.
 #![tactic(auto)]
 
-mod guarding;
+mod lowering;
 
-pub use guarding::guarded_in;
+pub use lowering::rtl_in;

@@ -9,6 +9,7 @@ pub mod Beginning
 pub mod Rewriting
 pub mod Tying
 pub mod Sinces
+pub mod Blaming
 pub mod Surviving
 pub mod Putting
 pub mod Holding

@@ -1,5 +1,5 @@
 -- What the type of a book keeps, and what follows from it for whatever a crash leaves.
-use Rattle.std.specs.Prelude.{◌≡◌, ◌⊎◌, ℕ, Bool, false, IsTrue, List, [], ◌++◌}
+use Rattle.std.specs.Prelude.{◌≡◌, ◌⊎◌, ◌+◌, ◌≤◌, ℕ, Bool, false, IsTrue, List, [], ◌++◌, length}
 use Rattle.cc_disk.specs.declared.disk.Disk.{Ghosts}
 use Rattle.cc_library.specs.declared.command.LibraryCommand.{LibraryCommand}
 use Rattle.cc_library.specs.Apply.{Units, library_of}
@@ -14,9 +14,15 @@ use Rattle.cc_recorded.specs.Book.{AllAgreed, BookView, RecoversTo}
 use Rattle.cc_recorded.specs.Since.{AreSince, BookSince, HoldsFrom, IsInOrder, IsSinceOpening}
 use Rattle.cc_recorded.specs.Tie.{IsTied}
 
--- On an honest disk: the tie to the core's theorem, what a crash at any moment since each earlier call has left, and what one has left since
--- the moment that the service's parameter names, for which it had left this until the opening; and that the entries came one by one.
-pub record IsBook {Disk : Type 0} (D : Ghosts Disk) (from : ℕ) (left : List ℕ → Type 0) (b : BookSince Disk) : Type 0 where
+-- Of any disk: so many calls of the device had failed once, and since then one at least for each change that failed. So if none has failed since, no change has:
+-- then whatever a crash leaves recovers to the map alone.
+abbrev pub FailedByDevice : {Disk : Type 0} (D : Ghosts Disk) (failures : ℕ) → BookView Disk → Type 0
+FailedByDevice D failures book = failures + length book.failed ≤ D.failures book.library.disk
+
+-- The changes that failed did so with the device. On an honest disk: the tie to the core's theorem, what a crash at any moment since each earlier call has left, and
+-- what one has left since the moment that the service's parameter names, for which it had left this until the opening; and that the entries came one by one.
+pub record IsBook {Disk : Type 0} (D : Ghosts Disk) (failures from : ℕ) (left : List ℕ → Type 0) (b : BookSince Disk) : Type 0 where
+  pub blamed : FailedByDevice D failures b.book
   pub tied : IsTrue D.honest → IsTied compiling Keeps D b.book
   pub since : IsTrue D.honest → AreSince D b.book b.since
   pub opened : IsTrue D.honest → IsSinceOpening D from left b.book
@@ -61,10 +67,11 @@ pub record IsSound {Disk : Type 0} (D : Ghosts Disk) (base : Units) (from : ℕ)
 -- What is left of a service that was given up with these clients: its book lay on this disk, and each has receipts of its own calls, in their
 -- order. Where it is said that these are all its clients, every receipt of theirs stands in its history, and every entry has one; where it is
 -- said that they are not, this shows why.
-pub record IsGivenUp {Disk : Type 0} (D : Ghosts Disk) (base : Units) (from : ℕ) (left : List ℕ → Type 0) (clients : List MemberView) (are_all : Bool) (disk : Disk) : Type 0 where
+pub record IsGivenUp {Disk : Type 0} (D : Ghosts Disk) (failures : ℕ) (base : Units) (from : ℕ) (left : List ℕ → Type 0) (clients : List MemberView) (are_all : Bool) (disk : Disk) : Type 0 where
   pub book : BookView Disk
   pub disk_is : book.library.disk ≡ disk
   pub sound : IsSound D base from left book
+  pub blamed : FailedByDevice D failures book
   pub own : AreOwn clients
   pub closed : IsTrue are_all → IsClosed book.history clients
   pub why : are_all ≡ false → IsNotWhole book.history clients

@@ -1,6 +1,6 @@
 // The value of a service's lock.
 
-ghost use Rattle.std.specs.Prelude.{◌≡◌, ◌⊎◌, ℕ, List, [], ◌∷◌, ◌++◌, true, false, IsTrue, IfErr, IfOk, MatchResult, OnOk, Some, slice_get, length, map};
+ghost use Rattle.std.specs.Prelude.{◌≡◌, ◌≤◌, ◌⊎◌, ℕ, List, [], ◌∷◌, ◌++◌, true, false, IsTrue, IfErr, IfOk, MatchResult, OnOk, Some, slice_get, length, map};
 ghost use Rattle.std.specs.FinMap.{empty};
 ghost use Rattle.cc_disk.specs.Images.{OnlyReads};
 ghost use Rattle.cc_journal.specs.Format.{HoldsRecords};
@@ -17,7 +17,7 @@ ghost use Rattle.cc_recorded.specs.Answers.{IsBegun, IsLook, IsNotClosed, LookAn
 ghost use Rattle.cc_recorded.specs.Changed.{AllRecover, ChangesAtOnce, IsBookChanged, IsBookCompacted};
 ghost use Rattle.cc_recorded.specs.Compacting.{CompactingAnswers};
 ghost use Rattle.cc_recorded.specs.Opened.{IsOpened};
-ghost use Rattle.cc_recorded.specs.Promise.{IsSound};
+ghost use Rattle.cc_recorded.specs.Promise.{FailedByDevice, IsSound};
 ghost use Rattle.cc_recorded.specs.Since.{HoldsFrom, IsPast};
 ghost use Rattle.cc_recorded.specs.Tie.{IsTied};
 ghost use Rattle.cc_recorded.specs.internal.Early.{IsRefusedEarly};
@@ -68,7 +68,7 @@ impl<N: Based, D: Disk> Model for Book<N, D> {
 
     ghost view = { λ b. record { book = b.recorded; since = b.since.items } };
 
-    ghost invariant = { λ b. IsBook D.Disk N.from N.left (record { book = b.recorded; since = b.since.items }) };
+    ghost invariant = { λ b. IsBook D.Disk N.failures N.from N.left (record { book = b.recorded; since = b.since.items }) };
 }
 
 impl<N: Based, D: Disk> Book<N, D> {
@@ -84,8 +84,9 @@ impl<N: Based, D: Disk> Book<N, D> {
     ) -> Result<Book<N, D>, (LibraryFault, D)>
         // The base that the service's parameter names, where an honest disk's bytes recover to one.
         requires named { IsTrue D.honest → (units : Units) → Recovers (D.seen disk) units → units ≡ N.base }
-        // The moment that it names, and what a crash has left since then.
+        // The moment that it names, and what a crash has left since then; and how many calls had failed, or fewer.
         requires past { IsTrue D.honest → IsPast D.Disk N.from N.left disk }
+        requires failures { N.failures ≤ D.failures disk }
         requires counted { calls.total ≡ 0 }
 
         // No call has been made yet, and the base is what was recovered.
@@ -127,9 +128,10 @@ impl<N: Based, D: Disk> Book<N, D> {
         calls: ledger::Book<N>,
     ) -> Result<Book<N, D>, Library<D>>
         requires opened { IsOpened D.Disk library }
-        // The base and the moment that the service's parameter names.
+        // The base, the moment and the failures that the service's parameter names.
         requires named { IsTrue D.honest → library.units ≡ N.base }
         requires past { IsTrue D.honest → IsPast D.Disk N.from N.left library.disk }
+        requires failures { N.failures ≤ D.failures library.disk }
         requires counted { calls.total ≡ 0 }
         ensures book { IfOk result (λ b. b.book ≡ record { base = library.units; library = library; history = []; failed = [] }) }
         ensures since { IfOk result (λ b. b.since ≡ b.book ∷ []) }
@@ -155,6 +157,7 @@ impl<N: Based, D: Disk> Book<N, D> {
         requires opened { IsOpened D.Disk library }
         requires named { IsTrue D.honest → base ≡ N.base }
         requires past { IsTrue D.honest → IsPast D.Disk N.from N.left library.disk }
+        requires failures { N.failures ≤ D.failures library.disk }
         requires counted { calls.total ≡ 0 }
         ensures book { result.book ≡ record { base = base; library = library; history = []; failed = [] } }
         ensures since { result.since ≡ result.book ∷ [] }
@@ -279,6 +282,13 @@ impl<N: Based, D: Disk> Book<N, D> {
         result
     }
 
+    /// Whether the device has failed before: then every change and `compact` answer 36. It takes no memory.
+    pub fn is_closed(&self) -> bool
+        ensures { result ≡ self.now.book.library.closed }
+    {
+        self.recorded.library.is_closed()
+    }
+
     /// The disk, which no call reaches any more.
     pub fn into_disk(self) -> D
         ensures { result ≡ self.book.library.disk }
@@ -305,6 +315,7 @@ impl<N: Based, D: Disk> Book<N, D> {
     pub fn end(self, whole: Share<N>) -> Ended<D>
         requires parts { whole.parts ≡ N.parts }
         ensures sound { IsSound D.Disk N.base N.from N.left (record { base = result.base; library = result.library; history = result.history.items; failed = result.failed.items }) }
+        ensures blamed { FailedByDevice D.Disk N.failures (record { base = result.base; library = result.library; history = result.history.items; failed = result.failed.items }) }
         ensures counted { length result.history.items ≡ whole.amount }
         // It is the book's library, with what was known of it.
         ensures of_book { ◌≡◌ {A = BookView D} (record { base = result.base; library = result.library; history = result.history.items; failed = result.failed.items }) self.book }
@@ -319,6 +330,7 @@ impl<N: Based, D: Disk> Book<N, D> {
     pub fn give_up<C: HasReceipts>(self, clients: &[C]) -> (D, bool)
         ensures disk { result.0 ≡ self.book.library.disk }
         ensures sound { IsSound D.Disk N.base N.from N.left self.book }
+        ensures blamed { FailedByDevice D.Disk N.failures self.book }
         ensures own { AreOwn (map C.member clients.now) }
         // If so, every receipt of theirs stands in its history, and every entry has one; if not, why.
         ensures closed { IsTrue result.1 → IsClosed self.book.history (map C.member clients.now) }
@@ -337,6 +349,9 @@ impl<N: Based, D: Disk> Book<N, D> {
         // The history is legal, the map is the base with its changes; what a crash leaves now holds each acknowledged command, what it has
         // left since the opening a prefix of the calls, and the units in it are right.
         ensures sound { IsSound D.Disk N.base N.from N.left self.now.book }
+
+        // Each change that failed did so in a call of the device that failed since the opening.
+        ensures blamed { FailedByDevice D.Disk N.failures self.now.book }
 
         // Whatever a crash has left since the end of the opening, or since any call, holds all calls until then.
         ensures since { IsTrue D.honest → (k : ℕ) (then' : BookView D) → slice_get self.now.since k ≡ Some then' → (image : List ℕ)

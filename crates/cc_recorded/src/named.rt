@@ -11,6 +11,9 @@ pub trait Based: Ledger {
     /// The map that an honest disk's library had when the book was opened.
     ghost base: { Units };
 
+    /// How many calls of the device had failed at the opening, or fewer: each change that failed did so in one that failed later.
+    ghost failures: { ℕ };
+
     /// A moment of that disk, no later than the opening: the book tells what a crash has left since then.
     ghost from: { ℕ };
 
@@ -22,6 +25,8 @@ impl Based for Brand {
     ghost use Rattle.std.specs.FinMap.{empty};
 
     ghost base = { empty };
+
+    ghost failures = { 0 };
 
     ghost from = { 0 };
 

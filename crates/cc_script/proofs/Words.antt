@@ -1,4 +1,4 @@
--- A line's words: the first ends at the first space, and a line of more than three words asks for nothing.
+-- A line's words: the first ends at the first space, and a line of more than four words asks for nothing.
 use Rattle.std.proofs.Common.{◌≡◌, ◌≢◌, ◌≤◌, ℕ, ◌+◌, ◌<◌, ◌==◌, List, [], ◌∷◌, ◌++◌, length, take, drop, get_or, false, true, refl, sym, subst, arith}
 use Rattle.std.specs.Prelude.{All, None}
 use Rattle.std.proofs.lemmas.List.{take-append-drop, take_all}
@@ -33,13 +33,13 @@ pub uncut : (line : List ℕ) (i : ℕ) → length line ≤ i → All (λ b. (b 
 uncut line i past none =
     slice_split_none (λ b. b == 32) line (subst (λ (l : List ℕ). All (λ b. (b == 32) ≡ false) l) (take_all i line past) none)
 
--- more than three words ask for nothing
-more : (dialect : Dialect) (verb name digits : List ℕ) (rest : List (List ℕ)) → 0 < length rest → asked_in dialect (verb ∷ name ∷ digits ∷ rest) ≡ None
-more dialect verb name digits [] some = absurd (omega arith)
-more dialect verb name digits (one ∷ others) some = refl
+-- more than four words ask for nothing
+more : (dialect : Dialect) (verb name first second : List ℕ) (rest : List (List ℕ)) → 0 < length rest → asked_in dialect (verb ∷ name ∷ first ∷ second ∷ rest) ≡ None
+more dialect verb name first second [] some = absurd (omega arith)
+more dialect verb name first second (one ∷ others) some = refl
 
--- so a line with a space behind its third word asks for nothing
-pub too_many : (dialect : Dialect) (line verb name digits behind second third : List ℕ) → words line ≡ verb ∷ words second → words second ≡ name ∷ words third → words third ≡ digits ∷ words behind
-    → None ≡ asked_of dialect line
-too_many dialect line verb name digits behind second third one two three =
-    rw (one, two, three) (sym (more dialect verb name digits (words behind) (let n = length-slice_split (λ (b : ℕ). b == 32) behind in omega (arith, n))))
+-- so a line with a space after its fourth word asks for nothing
+pub too_many : (dialect : Dialect) (line verb name first fourth behind second third next : List ℕ) → words line ≡ verb ∷ words second → words second ≡ name ∷ words third → words third ≡ first ∷ words next
+    → words next ≡ fourth ∷ words behind → None ≡ asked_of dialect line
+too_many dialect line verb name first fourth behind second third next one two three four =
+    rw (one, two, three, four) (sym (more dialect verb name first fourth (words behind) (let n = length-slice_split (λ (b : ℕ). b == 32) behind in omega (arith, n))))

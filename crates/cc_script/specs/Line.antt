@@ -8,7 +8,8 @@ use Rattle.cc_script.specs.declared.command.ScriptCommand.TheVariants as command
 use Rattle.cc_script.specs.declared.command.Dialect.{Dialect}
 use Rattle.cc_script.specs.declared.command.Dialect.TheVariants.{Plain, Served}
 
--- what a script asks for: a change with a number of bytes of source behind its line, one without, or a look
+-- what a script asks for: a change with a number of bytes of source after its line, or with two such numbers, one without, or a look; or a run with a number of
+-- bytes of input after its line
 -- ORDER ScriptCommand
 pub data ScriptRequest : Type 0 where
   Add : (name : List ℕ) → (length : ℕ) → ScriptRequest
@@ -20,6 +21,9 @@ pub data ScriptRequest : Type 0 where
   Audit : ScriptRequest
   Image : (name : List ℕ) → ScriptRequest
   Source : (name : List ℕ) → ScriptRequest
+  AuditOne : (name : List ℕ) → ScriptRequest
+  Update : (name : List ℕ) → (expected length : ℕ) → ScriptRequest
+  Call : (name : List ℕ) → (steps length : ℕ) → ScriptRequest
 
 -- what a command of the code asks for
 abbrev pub asked_by : ScriptCommand → ScriptRequest
@@ -32,6 +36,9 @@ asked_by command.Compact = Compact
 asked_by command.Audit = Audit
 asked_by (command.Image name) = Image name.now
 asked_by (command.Source name) = Source name.now
+asked_by (command.AuditOne name) = AuditOne name.now
+asked_by (command.Update name expected length) = Update name.now expected length
+asked_by (command.Call name steps length) = Call name.now steps length
 
 -- ---- numbers
 
@@ -77,11 +84,12 @@ one_word verb =
 abbrev pub two_plain_words : (verb name : List ℕ) → Option ScriptRequest
 two_plain_words verb name = if bytes_eq verb (codes "withdraw") && is_word name then Some (Withdraw name) else None
 
--- a script that is left for a server has two lines more
+-- a script that is left for a server has three lines more
 abbrev pub two_served_words : (verb name : List ℕ) → Option ScriptRequest
 two_served_words verb name =
     if bytes_eq verb (codes "image") && is_word name then Some (Image name)
     else if bytes_eq verb (codes "source") && is_word name then Some (Source name)
+    else if bytes_eq verb (codes "audit") && is_word name then Some (AuditOne name)
     else two_plain_words verb name
 
 abbrev pub two_words : Dialect → (verb name : List ℕ) → Option ScriptRequest
@@ -102,10 +110,29 @@ three_words verb name digits =
     else None)
     else None
 
+-- what is asked of a name with two numbers, where both are there
+abbrev pub with_numbers : (ℕ → ℕ → ScriptRequest) → Option ℕ → Option ℕ → Option ScriptRequest
+with_numbers make (Some n) second = with_number (make n) second
+with_numbers make None second = None
+
+-- a script that is left for a server has two lines of four words
+abbrev pub four_served_words : (verb name first second : List ℕ) → Option ScriptRequest
+four_served_words verb name first second =
+    if is_word name then
+    (if bytes_eq verb (codes "update") then with_numbers (Update name) (length_in first) (length_in second)
+    else if bytes_eq verb (codes "call") then with_numbers (Call name) (steps_in first) (length_in second)
+    else None)
+    else None
+
+abbrev pub four_words : Dialect → (verb name first second : List ℕ) → Option ScriptRequest
+four_words Plain verb name first second = None
+four_words Served verb name first second = four_served_words verb name first second
+
 abbrev pub asked_in : Dialect → (words : List (List ℕ)) → Option ScriptRequest
 asked_in dialect (verb ∷ []) = one_word verb
 asked_in dialect (verb ∷ name ∷ []) = two_words dialect verb name
 asked_in dialect (verb ∷ name ∷ digits ∷ []) = three_words verb name digits
+asked_in dialect (verb ∷ name ∷ first ∷ second ∷ []) = four_words dialect verb name first second
 asked_in dialect words = None
 
 -- what a line of a script asks for, if anything

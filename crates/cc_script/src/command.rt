@@ -1,7 +1,7 @@
 // What a line of a script asks for.
 
 ghost use Rattle.std.specs.Prelude.{◌≡◌, ◌≤◌, ◌<◌, ◌+◌, ◌++◌, ◌∷◌, [], ℕ, List, Option, Some, None, IfSome, length, option_map};
-ghost use Rattle.cc_script.specs.Line.{asked_by, asked_of, number_in, one_word, two_plain_words, two_served_words, two_words, three_words, words};
+ghost use Rattle.cc_script.specs.Line.{asked_by, asked_of, four_served_words, four_words, number_in, one_word, two_plain_words, two_served_words, two_words, three_words, words};
 ghost use Rattle.cc_script.specs.internal.Cutting.{words_behind};
 
 /// The most instructions that a line may give a run.
@@ -15,7 +15,8 @@ const MOST_LENGTH: u64 = 999_999;
 pub enum Dialect {
     /// Those of a session's script.
     Plain,
-    /// Those, and `image NAME` and `source NAME`: of a script that is left for a server.
+    /// Those, and `image NAME`, `source NAME`, `audit NAME`, `update NAME OLDLEN NEWLEN` and `call NAME STEPS LEN`: of a script that is
+    /// left for a server.
     Served,
 }
 
@@ -24,23 +25,55 @@ pub enum Dialect {
 #[derive(Clone, Copy, Drop)]
 pub enum ScriptCommand<'a> {
     /// Add a unit by that name, compiled from `length` bytes of source behind the line.
-    Add { name: &'a [u8], length: usize },
+    Add {
+        name: &'a [u8],
+        length: usize,
+    },
     /// Replace the unit by that name, in the same way.
-    Replace { name: &'a [u8], length: usize },
+    Replace {
+        name: &'a [u8],
+        length: usize,
+    },
     /// Withdraw the unit by that name.
-    Withdraw { name: &'a [u8] },
+    Withdraw {
+        name: &'a [u8],
+    },
     /// List the names of all units.
     List,
     /// Run the unit by that name for at most `steps` instructions.
-    Run { name: &'a [u8], steps: u64 },
+    Run {
+        name: &'a [u8],
+        steps: u64,
+    },
     /// Write the library anew, with one record for each unit.
     Compact,
     /// Audit each unit along its certificate.
     Audit,
     /// Tell the image of the unit by that name.
-    Image { name: &'a [u8] },
+    Image {
+        name: &'a [u8],
+    },
     /// Tell the source of the unit by that name.
-    Source { name: &'a [u8] },
+    Source {
+        name: &'a [u8],
+    },
+    /// Audit the unit by that name.
+    AuditOne {
+        name: &'a [u8],
+    },
+    /// Replace the unit by that name if its source is the one of `expected` bytes behind the line, by one compiled from the `length` bytes
+    /// that come after it.
+    Update {
+        name: &'a [u8],
+        expected: usize,
+        length: usize,
+    },
+    /// Run the unit by that name for at most `steps` instructions, on the input words of `length` bytes behind the line.
+    Call {
+        name: &'a [u8],
+        steps: u64,
+        length: usize,
+    },
 }
 
 // The first word of a line, and what stands behind the space that ends it, if one does.
@@ -117,6 +150,8 @@ fn two_served_words<'a>(verb: &[u8], name: &'a [u8]) -> Option<ScriptCommand<'a>
         Some(ScriptCommand::Image { name })
     } else if verb == b"source".as_slice() && !name.is_empty() {
         Some(ScriptCommand::Source { name })
+    } else if verb == b"audit".as_slice() && !name.is_empty() {
+        Some(ScriptCommand::AuditOne { name })
     } else {
         two_plain_words(verb, name)
     }
@@ -154,6 +189,55 @@ fn three_words<'a>(verb: &[u8], name: &'a [u8], digits: &[u8]) -> Option<ScriptC
     None
 }
 
+// A command of four words of a script that is left for a server.
+fn four_served_words<'a>(
+    verb: &[u8],
+    name: &'a [u8],
+    first: &[u8],
+    second: &[u8],
+) -> Option<ScriptCommand<'a>>
+    ensures { option_map asked_by result ≡ four_served_words verb.now name.now first.now second.now }
+{
+    if name.is_empty() {
+        return None;
+    }
+    if verb == b"update".as_slice() {
+        let expected = length_in(first)?;
+        let length = length_in(second)?;
+        return Some(ScriptCommand::Update {
+            name,
+            expected,
+            length,
+        });
+    }
+    if verb == b"call".as_slice() {
+        let steps = number_in(first, 10, MOST_STEPS)?;
+        let length = length_in(second)?;
+        return Some(ScriptCommand::Call {
+            name,
+            steps,
+            length,
+        });
+    }
+    None
+}
+
+// A command of four words.
+fn four_words<'a>(
+    dialect: Dialect,
+    verb: &[u8],
+    name: &'a [u8],
+    first: &[u8],
+    second: &[u8],
+) -> Option<ScriptCommand<'a>>
+    ensures { option_map asked_by result ≡ four_words dialect verb.now name.now first.now second.now }
+{
+    match dialect {
+        Dialect::Plain => None,
+        Dialect::Served => four_served_words(verb, name, first, second),
+    }
+}
+
 /// What a line of a script asks for, which is said without its newline; none where it is no command of that dialect.
 pub fn command_of(dialect: Dialect, line: &[u8]) -> Option<ScriptCommand<'_>>
     ensures { option_map asked_by result ≡ asked_of dialect line.now }
@@ -166,9 +250,13 @@ pub fn command_of(dialect: Dialect, line: &[u8]) -> Option<ScriptCommand<'_>>
     let Some(rest) = rest else {
         return two_words(dialect, verb, name);
     };
-    let (digits, rest) = cut(rest);
+    let (first, rest) = cut(rest);
+    let Some(rest) = rest else {
+        return three_words(verb, name, first);
+    };
+    let (second, rest) = cut(rest);
     match rest {
-        None => three_words(verb, name, digits),
+        None => four_words(dialect, verb, name, first, second),
         Some(_) => None,
     }
 }

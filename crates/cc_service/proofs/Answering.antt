@@ -23,7 +23,7 @@ use Rattle.cc_service.specs.internal.Under.{IsSeen, MakesAnswers}
 use Rattle.cc_recorded.specs.declared.fault.BookFault.{BookFault}
 use Rattle.cc_recorded.specs.declared.fault.BookFault.TheVariants as book
 use Rattle.cc_service.specs.declared.fault.ServiceFault.{ServiceFault}
-use Rattle.cc_service.specs.declared.fault.ServiceFault.TheVariants.{Opening, TooManyClients, BadName, Text, Piece, WorkersGone, ImageTooLarge, Book, OutOfMemory}
+use Rattle.cc_service.specs.declared.fault.ServiceFault.TheVariants.{Opening, TooManyClients, BadName, Text, Piece, WorkersGone, ImageTooLarge, Book, OutOfMemory, Changed}
 
 -- ---- what the book answers to a look
 
@@ -41,7 +41,7 @@ module _ {D : Type 0} where
 
 -- ---- what the book answers to a change
 
-not_there : (b : Bool) (made : Units) → reply.Exists ≡ reply_of_change (if b then Ok made else Err absent) → ⊥
+pub not_there : (b : Bool) (made : Units) → reply.Exists ≡ reply_of_change (if b then Ok made else Err absent) → ⊥
 not_there true made is = cc
 not_there false made is = cc
 
@@ -80,7 +80,7 @@ module _ {D : Type 0} (failures : D → ℕ) (before : BookView D) (old : Member
 
 -- of a change that is this one, where the call asks for it
 module _ (Asks : Command → Type 0) (command : Command) (asked : Asks command) (old new : MemberView) where
-  entered_as : (answer : Reply) (receipt : Receipt) → IsEntered (λ c. c ≡ command) old answer new receipt → IsEntered Asks old answer new receipt
+  pub entered_as : (answer : Reply) (receipt : Receipt) → IsEntered (λ c. c ≡ command) old answer new receipt → IsEntered Asks old answer new receipt
   entered_as answer receipt e = record { command = command; asked = asked; answered = subst (λ (c : Command). IsAnswered old (Change c) answer new receipt) e.asked e.answered }
 
   refused_as : (answer : Reply) (receipt : Receipt) → IsEntered (λ c. (c ≡ command) × (refusal_of c ≡ answer)) old answer new receipt → IsEntered (λ c. Asks c × (refusal_of c ≡ answer)) old answer new receipt
@@ -111,6 +111,7 @@ module _ (Asks : Command → Type 0) (command : Command) (asked : Asks command) 
   put mode name source named program (Err WorkersGone) none = absurd none
   put mode name source named program (Err ImageTooLarge) none = absurd none
   put mode name source named program (Err OutOfMemory) none = absurd none
+  put mode name source named program (Err (Changed receipt)) none = none
 
 -- what the book answers is no refusal of a text
 pub past_text : (command : Command) (old new : MemberView) (result : Result Receipt ServiceFault) → MakesAnswers command old new result → IfErr result (λ fault. IsPastText fault)
@@ -124,6 +125,7 @@ past_text command old new (Err (Piece function f)) none = tt
 past_text command old new (Err WorkersGone) none = tt
 past_text command old new (Err ImageTooLarge) none = tt
 past_text command old new (Err OutOfMemory) none = tt
+past_text command old new (Err (Changed receipt)) none = tt
 
 -- why a text is not handed in is a reason for which it is not compiled
 pub not_prepared : (mode : Mode) (text : List ℕ) (fault : ServiceFault) → IsNotPrepared text fault → IsCompileRefusal mode text fault
@@ -136,6 +138,7 @@ not_prepared mode text (Opening f) none = none
 not_prepared mode text TooManyClients none = none
 not_prepared mode text BadName none = none
 not_prepared mode text (Book f) none = none
+not_prepared mode text (Changed receipt) none = none
 
 -- of a text that was not compiled
 pub not_put : (mode : Mode) (Asks : Command → Type 0) (name source : List ℕ) (old new : MemberView) → IsTrue (is_name name) → new ≡ old → (fault : ServiceFault) → IsCompileRefusal mode source fault → PutAnswers mode Asks name source old new (Err fault)
@@ -146,5 +149,6 @@ not_put mode Asks name source old new named same ImageTooLarge e = (named, e, sa
 not_put mode Asks name source old new named same OutOfMemory e = (named, same)
 not_put mode Asks name source old new named same (Book f) none = absurd none
 not_put mode Asks name source old new named same (Opening f) none = none
+not_put mode Asks name source old new named same (Changed receipt) none = none
 not_put mode Asks name source old new named same TooManyClients none = none
 not_put mode Asks name source old new named same BadName none = absurd none

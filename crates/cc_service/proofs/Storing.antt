@@ -22,7 +22,7 @@ last_at : (history : List Entry) (entry : Entry) → slice_get (history ++ entry
 last_at [] entry = refl
 last_at (first ∷ history) entry = last_at history entry
 
-newest : (history : List Entry) (entry : Entry) → entry_at (history ++ entry ∷ []) (length history + 1) ≡ Some entry
+pub newest : (history : List Entry) (entry : Entry) → entry_at (history ++ entry ∷ []) (length history + 1) ≡ Some entry
 newest history entry =
     let one : length history + 1 - 1 ≡ length history = omega arith in
     (λ i. cond (ne_eqb (length history + 1) 0 (λ e. omega (arith, e)) i) None (slice_get (history ++ entry ∷ []) (one i))) ∙ last_at history entry

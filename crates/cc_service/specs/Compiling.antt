@@ -10,7 +10,7 @@ use Rattle.cc_pool.specs.Shared.{HasSentSome, pieces_of}
 use Rattle.cc_pool.specs.declared.item.Item.{Item}
 use Rattle.cc_pool.specs.declared.fault.PoolFault.TheVariants as pool
 use Rattle.cc_service.specs.declared.fault.ServiceFault.{ServiceFault}
-use Rattle.cc_service.specs.declared.fault.ServiceFault.TheVariants.{Opening, TooManyClients, BadName, Text, Piece, WorkersGone, ImageTooLarge, Book, OutOfMemory}
+use Rattle.cc_service.specs.declared.fault.ServiceFault.TheVariants.{Opening, TooManyClients, BadName, Text, Piece, WorkersGone, ImageTooLarge, Book, OutOfMemory, Changed}
 
 -- a text that was handed in for code in a mode
 pub record Handed : Type 0 where
@@ -45,6 +45,7 @@ IsNotPrepared text BadName = ⊥
 IsNotPrepared text (Piece function f) = ⊥
 IsNotPrepared text ImageTooLarge = ⊥
 IsNotPrepared text (Book f) = ⊥
+IsNotPrepared text (Changed receipt) = ⊥
 
 -- A text that is no program's is refused as one. Only a program has another fault: 22 or 24 of the first function that has no piece in the
 -- mode; 41; 25 where linking refuses pieces of all functions so.
@@ -58,6 +59,7 @@ IsCompileRefusal mode text (Opening f) = ⊥
 IsCompileRefusal mode text TooManyClients = ⊥
 IsCompileRefusal mode text BadName = ⊥
 IsCompileRefusal mode text (Book f) = ⊥
+IsCompileRefusal mode text (Changed receipt) = ⊥
 
 -- it is no refusal of a text
 abbrev pub IsPastText : ServiceFault → Type 0
@@ -70,3 +72,4 @@ IsPastText WorkersGone = Unit {0}
 IsPastText ImageTooLarge = Unit {0}
 IsPastText (Book f) = Unit {0}
 IsPastText OutOfMemory = Unit {0}
+IsPastText (Changed receipt) = Unit {0}

@@ -9,6 +9,8 @@ pub mod Client
 pub mod Compiling
 -- what a service's calls answer, as their clients see it
 pub mod Serving
+-- what an update answers, which looks before it changes
+pub mod Updating
 -- what a change that was answered has done to the book
 pub mod Stored
 -- what serves private contracts

@@ -7,13 +7,44 @@ ghost use Rattle.cc_recorded.specs.Book.{BookView};
 ghost use Rattle.cc_recorded.specs.Changed.{AllRecover, ChangesAtOnce, IsBookChanged};
 ghost use Rattle.cc_recorded.specs.Compacting.{IsCompactedFor};
 ghost use Rattle.cc_service.specs.Serving.{IsEntered, IsTurnedDown};
+ghost use Rattle.cc_service.specs.Updating.{UpdatesBook};
+ghost use Rattle.cc_service.specs.internal.Under.{HasCompared, UpdatesSeen};
+ghost use Rattle.cc_history.specs.declared.command.Command.TheVariants.{Replace};
 
 use crate::client::Client;
+use crate::fault::ServiceFault;
 use crate::named::Named;
 use cc_disk::Disk;
-use cc_history::{Asked, Command, Receipt};
+use cc_history::{Asked, Command, Receipt, Reply};
+use cc_library::Name;
+use cc_link::CompiledUnit;
 use cc_recorded::{Book, BookFault};
 use std::alloc::Global;
+
+// What a look at a name found.
+#[derive(Clone, Copy, Drop)]
+pub(crate) enum Compared {
+    // No unit.
+    NoUnit,
+    // A unit with another source than the one that is expected.
+    Other,
+    // One with that source.
+    Same,
+}
+
+// Whether the reply of a look has a unit, and whether its source is the one that is expected.
+fn comparison_of(seen: &Receipt, expected: &[u8]) -> Compared
+    ensures { HasCompared seen.now.entry.reply expected.now result }
+{
+    match &seen.entry.entry().reply {
+        Reply::Unit(unit) => if unit.stored().source.bytes() == expected {
+            Compared::Same
+        } else {
+            Compared::Other
+        },
+        Reply::Done | Reply::Exists | Reply::Absent | Reply::Names(_) => Compared::NoUnit,
+    }
+}
 
 impl<N: Named> Client<N> {
     /// Makes a change of the book: `commit_compacting` of it where the client's changes compact, else `commit`. What becomes of the book is as
@@ -57,5 +88,59 @@ impl<N: Named> Client<N> {
         ensures sent { self.new.sent ≡ self.old.sent }
     {
         book.look(alloc, &mut self.member, asked)
+    }
+
+    /// Puts a unit in the place of that of a name, if that one's source is the one that is expected: `look`, and then `change`, with no other
+    /// call between them.
+    ///
+    /// Refusals, in this order: 36, 39, 32, 60 where the name's unit has another source, 34, 35. 40 where memory ran out. From 32 on the look
+    /// has an entry, and its receipt is the client's last.
+    pub fn update<D: Disk>(
+        &mut self,
+        alloc: Global,
+        book: &mut Book<N, D>,
+        name: Name,
+        expected: &[u8],
+        unit: CompiledUnit,
+    ) -> Result<Receipt, ServiceFault>
+        ensures answers { UpdatesBook D.Disk book.old.book self.old.member name expected.now (Replace name unit) book.new.book self.new.member result }
+        ensures sent { self.new.sent ≡ self.old.sent }
+    {
+        if book.is_closed() {
+            return Err(ServiceFault::Book(BookFault::Closed));
+        }
+        let Ok(asked) = name.clone() else {
+            return Err(ServiceFault::Book(BookFault::OutOfMemory));
+        };
+        match self.look(alloc, book, Asked::Fetch(asked)) {
+            Ok(seen) => self.update_seen(alloc, book, name, expected, unit, seen),
+            Err(fault) => Err(ServiceFault::Book(fault)),
+        }
+    }
+
+    // The same after the look.
+    pub(crate) fn update_seen<D: Disk>(
+        &mut self,
+        alloc: Global,
+        book: &mut Book<N, D>,
+        name: Name,
+        expected: &[u8],
+        unit: CompiledUnit,
+        seen: Receipt,
+    ) -> Result<Receipt, ServiceFault>
+        ensures answers { UpdatesSeen D.Disk book.old.book self.old.member expected.now (Replace name unit) seen book.new.book self.new.member result }
+        ensures sent { self.new.sent ≡ self.old.sent }
+    {
+        match comparison_of(&seen, expected) {
+            Compared::NoUnit => Err(ServiceFault::Book(BookFault::Absent(seen))),
+            Compared::Other => Err(ServiceFault::Changed(seen)),
+            Compared::Same => {
+                drop(seen);
+                match self.change(alloc, book, Command::Replace(name, unit)) {
+                    Ok(receipt) => Ok(receipt),
+                    Err(fault) => Err(ServiceFault::Book(fault)),
+                }
+            }
+        }
     }
 }

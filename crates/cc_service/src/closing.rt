@@ -4,7 +4,7 @@ ghost use Rattle.std.specs.Prelude.{◌≡◌, ◌+◌, ◌≤◌, [], IsTrue, I
 ghost use Rattle.std.specs.Vec.{vec_capacity};
 ghost use Rattle.cc_history.specs.Closing.{AreApart, AreOwn, IsClosed, ReceiptsStand, receipts_of};
 ghost use Rattle.cc_recorded.specs.Answers.{IsNotClosed};
-ghost use Rattle.cc_recorded.specs.Promise.{IsSound};
+ghost use Rattle.cc_recorded.specs.Promise.{FailedByDevice, IsSound};
 ghost use Rattle.cc_service.specs.Client.{members};
 
 use crate::client::Client;
@@ -108,6 +108,7 @@ pub(crate) fn end<N: Named, D: Disk>(
     requires apart { AreApart (members clients.items) }
     requires stand { ReceiptsStand book.book.history (members clients.items) }
     ensures sound { IsSound D.Disk N.base N.from N.left (record { base = result.0.base; library = result.0.library; history = result.0.history.items; failed = result.0.failed.items }) }
+    ensures blamed { FailedByDevice D.Disk N.failures (record { base = result.0.base; library = result.0.library; history = result.0.history.items; failed = result.0.failed.items }) }
     ensures closed { IsClosed result.0.history.items (members clients.items) }
     ensures receipts { map (λ v. v.items) result.0.receipts.items ≡ map (λ c. c.receipts) (members clients.items) }
     // The receipts of each client are of its own calls.
@@ -146,6 +147,7 @@ pub fn close<N: Named, D: Disk>(
     requires parts { rest.parts + made ≡ N.parts }
     requires amount { rest.amount ≡ 0 }
     ensures sound { IfOk result (λ r. IsSound D.Disk N.base N.from N.left (record { base = r.base; library = r.library; history = r.history.items; failed = r.failed.items })) }
+    ensures blamed { IfOk result (λ r. FailedByDevice D.Disk N.failures (record { base = r.base; library = r.library; history = r.history.items; failed = r.failed.items })) }
     ensures closed { IfOk result (λ r. IsClosed r.history.items (members clients.items)) }
     ensures all { OnOk result (length clients.items ≡ made) }
     ensures receipts { IfOk result (λ r. map (λ v. v.items) r.receipts.items ≡ map (λ c. c.receipts) (members clients.items)) }

@@ -11,12 +11,14 @@ ghost use Rattle.cc_c_laws.specs.declared.mode.Mode.TheVariants.{Plain};
 ghost use Rattle.cc_service.specs.Client.{members};
 ghost use Rattle.cc_service.specs.Compiling.{HasHandedIn, HasSentFor, IsNotPrepared, IsPastText};
 ghost use Rattle.cc_recorded.specs.Opened.{IsOpened};
-ghost use Rattle.cc_recorded.specs.Promise.{IsGivenUp, IsSound};
+ghost use Rattle.cc_recorded.specs.Promise.{FailedByDevice, IsGivenUp, IsSound};
 ghost use Rattle.cc_recorded.specs.Since.{IsPast};
 ghost use Rattle.cc_service.specs.Serving.{Adds, GetAnswers, IsNotCompacted, IsNotEnded, IsNotOpened, IsNotStarted, IsOf, IsTurnedAway, ListAnswers, PutAnswers, Puts, Replaces, WithdrawAnswers};
 ghost use Rattle.cc_service.specs.Stored.{IsStored};
 ghost use Rattle.cc_recorded.specs.Answers.{IsLook};
-ghost use Rattle.cc_service.specs.internal.Under.{IsSeen, MakesAnswers};
+ghost use Rattle.cc_service.specs.Updating.{UpdateAnswers};
+ghost use Rattle.cc_service.specs.internal.Under.{IsSeen, MakesAnswers, UpdatesBy};
+ghost use Rattle.cc_history.specs.declared.command.Command.TheVariants as commands;
 ghost use Rattle.cc_recorded.specs.declared.fault.BookFault.{BookFault};
 ghost use Rattle.cc_service.specs.declared.fault.ServiceFault.TheVariants as service;
 
@@ -103,8 +105,10 @@ impl<N: Named + Send + Sync + 'static, D: Disk> Service<N, D> {
         requires parts { N.parts ≡ 1025 }
         requires queue { fresh.queue ≡ N.queue }
         requires named { IsTrue D.honest → (units : Units) → Recovers (D.seen disk) units → units ≡ N.base }
-        // It names a moment up to now, too, and what a crash has left since then: `finish` tells what one leaves later.
+        // It names a moment up to now, too, and what a crash has left since then: `finish` tells what one leaves later. And how many calls of
+        // the device had failed, or fewer.
         requires past { IsTrue D.honest → IsPast D.Disk N.from N.left disk }
+        requires failures { N.failures ≤ D.failures disk }
         requires some { 1 ≤ workers }
         requires few { workers ≤ 8 }
         ensures recovered { IfOk result (λ _. IsTrue D.honest → Recovers (D.seen disk) N.base) }
@@ -148,13 +152,15 @@ impl<N: Named + Send + Sync + 'static, D: Disk> Service<N, D> {
     where
         R: Threads + Wait + Copy + Send + 'static,
         G: Gate + Drop + Send + Sync + 'static,
-        // The parameter names this ledger and this queue, and, of an honest disk, the library's map and a moment up to now.
+        // The parameter names this ledger and this queue, and, of an honest disk, the library's map and a moment up to now; of any disk, how
+        // many calls of the device had failed, or fewer.
         requires ledger { fresh.ledger ≡ N.name }
         requires parts { N.parts ≡ 1025 }
         requires queue { fresh.queue ≡ N.queue }
         requires opened { IsOpened D.Disk library }
         requires named { IsTrue D.honest → library.units ≡ N.base }
         requires past { IsTrue D.honest → IsPast D.Disk N.from N.left library.disk }
+        requires failures { N.failures ≤ D.failures library.disk }
         requires some { 1 ≤ workers }
         requires few { workers ≤ 8 }
         ensures refused { IfErr result (λ e. IsNotStarted e.0) }
@@ -357,6 +363,99 @@ impl<N: Named + Send + Sync + 'static, D: Disk> Service<N, D> {
         }
     }
 
+    /// Compiles a text in a mode and puts its unit in the place of that of a name, if that one's source is the one that is expected. It is
+    /// compared under the lock under which the change is made: in the history no call is between the look and the change.
+    ///
+    /// Refusals, in this order: those of `put_in` up to 25; then under the lock 36, 39, 32, 60 where the name's unit has another source, 34,
+    /// 35. 40 where memory ran out. Of these 32 and 60 have a receipt, which is that of the look; after 34, 35 and a 40 of the change the
+    /// client has that receipt too; the others leave number and receipts of the client as they were. The pass may have sent some of the
+    /// functions.
+    pub fn update_in<R: Wait>(
+        &self,
+        rt: &R,
+        alloc: Global,
+        client: &mut Client<N>,
+        mode: Mode,
+        name: &[u8],
+        expected: &[u8],
+        source: &[u8],
+    ) -> Result<Receipt, ServiceFault>
+        ensures answers { UpdateAnswers mode name.now expected.now source.now client.old.member client.new.member result }
+        ensures stored { IfOk result (λ receipt. IsStored D.Disk N.base N.from N.left receipt) }
+        ensures sent { HasSentFor source.now client.old.sent client.new.sent }
+    {
+        let Ok(name) = Name::new(name) else {
+            return Err(ServiceFault::BadName);
+        };
+        match begun(rt, alloc, &self.pool, &mut client.pass, mode, source) {
+            Ok(prepared) => self.update_counted(rt, alloc, client, name, expected, prepared),
+            Err(fault) => Err(fault),
+        }
+    }
+
+    // Does so with the unit of a text that was prepared, and counts as one that waits for it.
+    fn update_counted<R: Wait>(
+        &self,
+        rt: &R,
+        alloc: Global,
+        client: &mut Client<N>,
+        name: Name,
+        expected: &[u8],
+        prepared: Prepared<N>,
+    ) -> Result<Receipt, ServiceFault>
+        requires named { IsTrue (is_name name) }
+        ensures answers { UpdateAnswers prepared.mode name expected.now prepared.text client.old.member client.new.member result }
+        ensures stored { IfOk result (λ receipt. IsStored D.Disk N.base N.from N.left receipt) }
+        ensures sent { client.new.sent ≡ client.old.sent }
+    {
+        self.putting.fetch_add(1, Ordering::SeqCst);
+        let answer = self.update_unit(rt, alloc, client, name, expected, prepared);
+        self.putting.fetch_sub(1, Ordering::SeqCst);
+        answer
+    }
+
+    // Does so with the unit of a text that was prepared.
+    fn update_unit<R: Wait>(
+        &self,
+        rt: &R,
+        alloc: Global,
+        client: &mut Client<N>,
+        name: Name,
+        expected: &[u8],
+        prepared: Prepared<N>,
+    ) -> Result<Receipt, ServiceFault>
+        requires named { IsTrue (is_name name) }
+        ensures answers { UpdateAnswers prepared.mode name expected.now prepared.text client.old.member client.new.member result }
+        ensures stored { IfOk result (λ receipt. IsStored D.Disk N.base N.from N.left receipt) }
+        ensures sent { client.new.sent ≡ client.old.sent }
+    {
+        match prepared.unit(rt, alloc, &self.pool) {
+            Ok(unit) => self.exchange(rt, alloc, client, name, expected, unit),
+            Err(fault) => Err(fault),
+        }
+    }
+
+    // Compares and changes under the book's lock.
+    fn exchange<R: Wait>(
+        &self,
+        rt: &R,
+        alloc: Global,
+        client: &mut Client<N>,
+        name: Name,
+        expected: &[u8],
+        unit: CompiledUnit,
+    ) -> Result<Receipt, ServiceFault>
+        ensures answers { UpdatesBy (commands.Replace name unit) name expected.now client.old.member client.new.member result }
+        ensures stored { IfOk result (λ receipt. IsStored D.Disk N.base N.from N.left receipt) }
+        ensures sent { client.new.sent ≡ client.old.sent }
+    {
+        let mut book = self.book.lock(rt);
+        let answer = client.update(alloc, &mut book, name, expected, unit);
+        book.survives();
+        drop(book);
+        answer
+    }
+
     /// Whether some client waits for a unit that it puts. No clause says so. A client that is in no call itself, and hands texts in before
     /// their turn only where this is false, makes no other one wait longer.
     pub fn is_busy(&self) -> bool {
@@ -525,6 +624,9 @@ impl<N: Named + Send + Sync + 'static, D: Disk> Service<N, D> {
         // One legal history from the base leads to the library. What a crash then leaves of the disk holds each acknowledged command; what one
         // has left at any moment since the opening holds a prefix of them.
         ensures sound { IfOk result (λ r. IsSound D.Disk N.base N.from N.left (record { base = r.base; library = r.library; history = r.history.items; failed = r.failed.items })) }
+        // Each change that failed did so in a call of the device that failed since the opening: if none did, whatever a crash leaves has just the
+        // map.
+        ensures blamed { IfOk result (λ r. FailedByDevice D.Disk N.failures (record { base = r.base; library = r.library; history = r.history.items; failed = r.failed.items })) }
         // Every receipt of every client stands in that history, once and in its client's order.
         ensures closed { IfOk result (λ r. IsClosed r.history.items (members clients.items)) }
         ensures receipts { IfOk result (λ r. map (λ v. v.items) r.receipts.items ≡ map (λ c. c.receipts) (members clients.items)) }
@@ -564,7 +666,7 @@ impl<N: Named + Send + Sync + 'static, D: Disk> Service<N, D> {
     /// stands, no two have one number, and every entry of the history has a receipt. It takes no memory, so it ends a service that `finish`
     /// refuses to end, or one of whose clients is lost.
     pub fn give_up<R: Wait>(self, rt: &R, alloc: Global, clients: Vec<Client<N>>) -> (D, bool)
-        ensures { IsGivenUp D.Disk N.base N.from N.left (members clients.items) result.1 result.0 }
+        ensures { IsGivenUp D.Disk N.failures N.base N.from N.left (members clients.items) result.1 result.0 }
     {
         let Service {
             book,

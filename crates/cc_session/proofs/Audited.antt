@@ -13,7 +13,7 @@ use Rattle.cc_history.specs.History.{MemberView}
 use Rattle.cc_c_laws.specs.declared.mode.Mode.{Mode}
 use Rattle.cc_service.specs.Serving.{GetAnswers, ListAnswers}
 use Rattle.cc_service.specs.declared.fault.ServiceFault.{ServiceFault}
-use Rattle.cc_session.specs.Playing.{Audits, AuditsEach, CallsAndWrites, Talk, talk}
+use Rattle.cc_session.specs.Playing.{Audits, AuditsEach, AuditsOne, CallsAndWrites, Talk, talk}
 use Rattle.cc_session.specs.Telling.{SaysAudit, no_memory_text, refusal_text}
 use Rattle.cc_session.specs.internal.Calls.{AuditsName, DoesAndTells}
 use Rattle.cc_session.proofs.Playing.{appended}
@@ -73,3 +73,27 @@ pub audits_none : (mode : Mode) → {T : Type 0} (answer : Result T ScriptFault)
 audits_none mode (Ok done) fault old new listed told = inl (Err fault, listed, refusal_text [] fault, refl, told.1)
 audits_none mode (Err unwritten) fault old new listed told =
     (told.0, append_known old.written (refusal_text [] fault), inl (Err fault, listed, refusal_text [] fault, refl, appended old.written (refusal_text [] fault)))
+
+-- ---- one unit
+
+-- the audit of the name says something
+pub audited_one : (mode : Mode) → {T : Type 0} (answer : Result T ScriptFault) (name : List ℕ) (old new : Talk) (last : Option (List ℕ))
+    → CallsAndWrites (GetAnswers name) (SaysAudit mode name true) old (talk new.client last) → Tells last new.written (line (codes "ok")) answer → DoesAndTells (AuditsOne mode name) old new answer
+audited_one mode (Ok done) name old new last called told = (true, talk new.client last, inr (talk new.client last, called, refl), (refl, told.1))
+audited_one mode (Err fault) name old new last called told = (
+  told.0,
+  append_known last (line (codes "ok")),
+  (true, talk new.client last, inr (talk new.client last, called, refl), (refl, appended last (line (codes "ok")))),
+)
+
+-- it says nothing
+pub audited_none : (mode : Mode) → (name : List ℕ) (old new : Talk) → CallsAndWrites (GetAnswers name) (SaysAudit mode name false) old new → AuditsOne mode name old new
+audited_none mode name old new called = (false, new, inl (refl, called), refl)
+
+-- its line could not be written
+pub audited_not : (mode : Mode) → (name : List ℕ) (old new : Talk) (fault : ScriptFault) → AuditsName mode name old new (let r : Result Bool ScriptFault = Err fault in r)
+    → (fault ≡ WriteFault) × (written : Option (List ℕ)) × AuditsOne mode name old (talk new.client written)
+audited_not mode name old new fault it =
+    let says = not_audited mode name it.0 in
+    let written = append_known old.written says.0 in
+    (it.2, written, audited_none mode name old (talk new.client written) (it.0, it.1, says.0, says.1, appended old.written says.0))

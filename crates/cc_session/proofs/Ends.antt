@@ -14,7 +14,7 @@ use Rattle.cc_history.specs.Closing.{AreOwn, IsClosed, IsNotWhole}
 use Rattle.cc_history.specs.History.{MemberView}
 use Rattle.cc_service.specs.Book.{BookView}
 use Rattle.cc_service.specs.Fault.{fault_number}
-use Rattle.cc_service.specs.Promise.{IsGivenUp, IsSound}
+use Rattle.cc_service.specs.Promise.{FailedByDevice, IsGivenUp, IsSound}
 use Rattle.cc_service.specs.Since.{IsPast}
 use Rattle.cc_service.specs.Serving.{IsNotOpened, IsNotStarted}
 use Rattle.cc_service.specs.declared.fault.ServiceFault.{ServiceFault}
@@ -52,6 +52,7 @@ not_opened_on honest seen later base before after (service.Text f) same it = it
 not_opened_on honest seen later base before after (service.Piece function f) same it = it
 not_opened_on honest seen later base before after service.ImageTooLarge same it = it
 not_opened_on honest seen later base before after (service.Book f) same it = it
+not_opened_on honest seen later base before after (service.Changed receipt) same it = it
 
 -- its workers were not started
 pub not_started : (honest : Bool) (seen : List ℕ) (base : Units) (before after : ℕ) (fault : ServiceFault) → IsNotStarted fault → after ≡ before → (IsTrue honest → Recovers seen base)
@@ -65,6 +66,7 @@ not_started honest seen base before after (service.Text f) not same recovers = n
 not_started honest seen base before after (service.Piece function f) not same recovers = not
 not_started honest seen base before after service.ImageTooLarge not same recovers = not
 not_started honest seen base before after (service.Book f) not same recovers = not
+not_started honest seen base before after (service.Changed receipt) not same recovers = not
 
 -- so a session that was not opened
 pub unopened_on : (honest : Bool) (seen later : List ℕ) (before after : ℕ) (end : SessionEnd) → (IsTrue honest → later ≡ seen)
@@ -80,44 +82,45 @@ given_up_whole : (played : SessionEnd) → (given_up_after true played ≡ playe
 given_up_whole Finished = inr (refl, refl)
 given_up_whole (Fault first) = inl refl
 
-module _ {Disk : Type 0} (D : Ghosts Disk) (named : Units) (from : ℕ) (left : List ℕ → Type 0)
+module _ {Disk : Type 0} (D : Ghosts Disk) (failures : ℕ) (named : Units) (from : ℕ) (left : List ℕ → Type 0)
     (bytes : List ℕ) (begun : IsTrue D.honest → Recovers bytes named) (clients : List MemberView) (played : SessionEnd) where
   -- with all that its end says of the book
-  pub kept_by : (book : BookView Disk) (after : Disk) → after ≡ book.library.disk → IsSound D named from left book → IsClosed book.history clients → AreOwn clients
-      → IsEnded D bytes from left clients played played after
-  kept_by book after disk sound closed own =
-      inl (inl refl, record { base = named; begun = begun; book = book; disk = sym disk; sound = sound; own = own; holds = closed })
+  pub kept_by : (book : BookView Disk) (after : Disk) → after ≡ book.library.disk → IsSound D named from left book → FailedByDevice D failures book → IsClosed book.history clients → AreOwn clients
+      → IsEnded D failures bytes from left clients played played after
+  kept_by book after disk sound blamed closed own =
+      inl (inl refl, record { base = named; begun = begun; book = book; disk = sym disk; sound = sound; blamed = blamed; own = own; holds = closed })
 
   -- it was given up
-  pub given_up_by : (are_all : Bool) (after : Disk) → IsGivenUp D named from left clients are_all after → IsEnded D bytes from left clients played (given_up_after are_all played) after
+  pub given_up_by : (are_all : Bool) (after : Disk) → IsGivenUp D failures named from left clients are_all after → IsEnded D failures bytes from left clients played (given_up_after are_all played) after
   given_up_by true after it =
-      inl (given_up_whole played, record { base = named; begun = begun; book = it.book; disk = it.disk_is; sound = it.sound; own = it.own; holds = it.closed refl })
+      inl (given_up_whole played, record { base = named; begun = begun; book = it.book; disk = it.disk_is; sound = it.sound; blamed = it.blamed; own = it.own; holds = it.closed refl })
   given_up_by false after it =
-      inr (refl, record { base = named; begun = begun; book = it.book; disk = it.disk_is; sound = it.sound; own = it.own; holds = it.why refl })
+      inr (refl, record { base = named; begun = begun; book = it.book; disk = it.disk_is; sound = it.sound; blamed = it.blamed; own = it.own; holds = it.why refl })
 
 -- ---- what was read before it was opened
 
 -- what is left of a service, said of the bytes that were seen before
-left_on : {Disk : Type 0} (D : Ghosts Disk) (bytes later : List ℕ) (from : ℕ) (left : List ℕ → Type 0) (Holds : List Entry → List MemberView → Type 0) (clients : List MemberView) (after : Disk)
-    → (IsTrue D.honest → later ≡ bytes) → IsLeft D later from left Holds clients after → IsLeft D bytes from left Holds clients after
-left_on D bytes later from left Holds clients after same it =
+left_on : {Disk : Type 0} (D : Ghosts Disk) (failures : ℕ) (bytes later : List ℕ) (from : ℕ) (left : List ℕ → Type 0) (Holds : List Entry → List MemberView → Type 0) (clients : List MemberView) (after : Disk)
+    → (IsTrue D.honest → later ≡ bytes) → IsLeft D failures later from left Holds clients after → IsLeft D failures bytes from left Holds clients after
+left_on D failures bytes later from left Holds clients after same it =
     record {
       base = it.base;
       begun = λ h. subst (λ (b : List ℕ). Recovers b it.base) (same h) (it.begun h);
       book = it.book;
       disk = it.disk;
       sound = it.sound;
+      blamed = it.blamed;
       own = it.own;
       holds = it.holds;
     }
 
 -- so of one that was ended or given up
-ended_on : {Disk : Type 0} (D : Ghosts Disk) (bytes later : List ℕ) (from : ℕ) (left : List ℕ → Type 0) (clients : List MemberView) (played end : SessionEnd) (after : Disk)
-    → (IsTrue D.honest → later ≡ bytes) → IsEnded D later from left clients played end after → IsEnded D bytes from left clients played end after
-ended_on D bytes later from left clients played end after same (inl kept) =
-    inl (kept.0, left_on D bytes later from left IsClosed clients after same kept.1)
-ended_on D bytes later from left clients played end after same (inr estranged) =
-    inr (estranged.0, left_on D bytes later from left IsNotWhole clients after same estranged.1)
+ended_on : {Disk : Type 0} (D : Ghosts Disk) (failures : ℕ) (bytes later : List ℕ) (from : ℕ) (left : List ℕ → Type 0) (clients : List MemberView) (played end : SessionEnd) (after : Disk)
+    → (IsTrue D.honest → later ≡ bytes) → IsEnded D failures later from left clients played end after → IsEnded D failures bytes from left clients played end after
+ended_on D failures bytes later from left clients played end after same (inl kept) =
+    inl (kept.0, left_on D failures bytes later from left IsClosed clients after same kept.1)
+ended_on D failures bytes later from left clients played end after same (inr estranged) =
+    inr (estranged.0, left_on D failures bytes later from left IsNotWhole clients after same estranged.1)
 
 module _ {Disk : Type 0} (D : Ghosts Disk) where
   -- nothing was done
@@ -146,7 +149,13 @@ module _ {Disk : Type 0} (D : Ghosts Disk) where
         untouched,
       )
   on_first from begins Untouched HaveDone a b after end sound reads (inr ended) =
-      inr (ended.0, ended.1, ended.2, ended_on D (D.seen a) (D.seen b) from begins ended.0 ended.1 end after (λ h. (reads h).same) ended.3)
+      inr (
+        ended.0,
+        ended.1,
+        ended.2,
+        subst (λ (n : ℕ). IsEnded D n (D.seen a) from begins ended.0 ended.1 end after) sound
+            (ended_on D (D.failures b) (D.seen a) (D.seen b) from begins ended.0 ended.1 end after (λ h. (reads h).same) ended.3),
+      )
 
   -- the disk as it was at the beginning
   pub ends_on : (Untouched : Type 0) (HaveDone : List MemberView → SessionEnd → Type 0) (first a b after : Disk) (end : SessionEnd)

@@ -15,7 +15,8 @@ use Rattle.cc_service.specs.book_fault.BookFault.{BookFault}
 use Rattle.cc_service.specs.book_fault.BookFault.TheVariants as book
 use Rattle.cc_service.specs.declared.fault.ServiceFault.{ServiceFault}
 use Rattle.cc_service.specs.declared.fault.ServiceFault.TheVariants as service
-use Rattle.cc_session.specs.Playing.{Audits, AuditsEach, EndsAudit, Grows, Talk, talk}
+use Rattle.cc_service.specs.Updating.{IsNotUpdated, UpdateAnswers}
+use Rattle.cc_session.specs.Playing.{Audits, AuditsEach, AuditsOne, EndsAudit, Grows, Talk, talk}
 use Rattle.cc_session.specs.internal.Calls.{DoesAndTells}
 
 pub grows_same : (old new : MemberView) → new ≡ old → Grows old new
@@ -55,6 +56,7 @@ put_grows mode Asks name source old new (Err service.OutOfMemory) it = grows_sam
 put_grows mode Asks name source old new (Err (service.Book f)) it = turned_down Asks old new f it.2
 put_grows mode Asks name source old new (Err (service.Opening f)) it = absurd it
 put_grows mode Asks name source old new (Err service.TooManyClients) it = absurd it
+put_grows mode Asks name source old new (Err (service.Changed receipt)) it = absurd it
 
 pub withdraw_grows : (name : List ℕ) (old new : MemberView) (answer : Result Receipt ServiceFault) → WithdrawAnswers name old new answer → Grows old new
 withdraw_grows name old new (Ok receipt) it = grows_answered old (Change it.1.command) reply.Done new receipt it.1.answered
@@ -67,6 +69,7 @@ withdraw_grows name old new (Err service.ImageTooLarge) it = absurd it
 withdraw_grows name old new (Err service.OutOfMemory) it = absurd it
 withdraw_grows name old new (Err (service.Opening f)) it = absurd it
 withdraw_grows name old new (Err service.TooManyClients) it = absurd it
+withdraw_grows name old new (Err (service.Changed receipt)) it = absurd it
 
 turned_away : (old new : MemberView) (fault : BookFault) → IsTurnedAway old new fault → Grows old new
 turned_away old new (book.Estranged number found) it = grows_same old new it.1
@@ -97,6 +100,7 @@ get_grows name old new (Err service.ImageTooLarge) it = absurd it
 get_grows name old new (Err service.OutOfMemory) it = absurd it
 get_grows name old new (Err (service.Opening f)) it = absurd it
 get_grows name old new (Err service.TooManyClients) it = absurd it
+get_grows name old new (Err (service.Changed receipt)) it = absurd it
 
 pub list_grows : (old new : MemberView) (answer : Result Receipt ServiceFault) → ListAnswers old new answer → Grows old new
 list_grows old new (Ok receipt) it = grows_answered old Names receipt.entry.reply new receipt it.1
@@ -109,6 +113,7 @@ list_grows old new (Err service.ImageTooLarge) it = absurd it
 list_grows old new (Err service.OutOfMemory) it = absurd it
 list_grows old new (Err (service.Opening f)) it = absurd it
 list_grows old new (Err service.TooManyClients) it = absurd it
+list_grows old new (Err (service.Changed receipt)) it = absurd it
 
 -- ---- an audit
 
@@ -132,3 +137,37 @@ audits_grow mode old new (inr it) =
 pub audit_grows : (mode : Mode) → {T : Type 0} (answer : Result T ScriptFault) (old new : Talk) → DoesAndTells (Audits mode) old new answer → Grows old.client new.client
 audit_grows mode (Ok done) old new it = audits_grow mode old new it
 audit_grows mode (Err fault) old new it = audits_grow mode old (talk new.client it.1) it.2
+
+audits_one_grow : (mode : Mode) → (name : List ℕ) (old new : Talk) → AuditsOne mode name old new → Grows old.client new.client
+audits_one_grow mode name old new it = grows_on old.client it.1.client new.client (audited_grows mode (name ∷ []) it.0 old it.1 it.2) (ended_grows it.0 it.1 new it.3)
+
+pub audit_one_grows : (mode : Mode) → {T : Type 0} (answer : Result T ScriptFault) (name : List ℕ) (old new : Talk) → DoesAndTells (AuditsOne mode name) old new answer → Grows old.client new.client
+audit_one_grows mode (Ok done) name old new it = audits_one_grow mode name old new it
+audit_one_grows mode (Err fault) name old new it = audits_one_grow mode name old (talk new.client it.1) it.2
+
+-- ---- an update
+
+not_updated : (name expected : List ℕ) (old new : MemberView) (fault : BookFault) → IsNotUpdated name expected old new fault → Grows old new
+not_updated name expected old new (book.Absent seen) it = grows_answered old (Fetch name) reply.Absent new seen it
+not_updated name expected old new (book.Estranged number found) it = grows_same old new it.1
+not_updated name expected old new book.Full it = grows_answered old (Fetch name) (reply.Unit it.1.unit) new it.0 it.1.answered
+not_updated name expected old new book.DiskFault it = grows_answered old (Fetch name) (reply.Unit it.1.unit) new it.0 it.1.answered
+not_updated name expected old new book.Closed it = grows_same old new it
+not_updated name expected old new book.OutOfMemory (inl it) = grows_same old new it
+not_updated name expected old new book.OutOfMemory (inr it) = grows_answered old (Fetch name) (reply.Unit it.1.unit) new it.0 it.1.answered
+not_updated name expected old new (book.Exists receipt) it = absurd it
+
+pub update_grows : (mode : Mode) → (name expected source : List ℕ) (old new : MemberView) (answer : Result Receipt ServiceFault) → UpdateAnswers mode name expected source old new answer → Grows old new
+update_grows mode name expected source old new (Ok receipt) it =
+    grows_on old it.2.heard new (grows_answered old (Fetch name) (reply.Unit it.2.found.unit) it.2.heard it.2.seen it.2.found.answered)
+    (grows_answered it.2.heard (Change it.2.entered.command) reply.Done new receipt it.2.entered.answered)
+update_grows mode name expected source old new (Err service.BadName) it = grows_same old new it.1
+update_grows mode name expected source old new (Err (service.Text f)) it = grows_same old new it.2
+update_grows mode name expected source old new (Err (service.Piece function f)) it = grows_same old new it.2
+update_grows mode name expected source old new (Err service.WorkersGone) it = grows_same old new it.2
+update_grows mode name expected source old new (Err service.ImageTooLarge) it = grows_same old new it.2
+update_grows mode name expected source old new (Err service.OutOfMemory) it = grows_same old new it.1
+update_grows mode name expected source old new (Err (service.Book f)) it = not_updated name expected old new f it.2
+update_grows mode name expected source old new (Err (service.Changed seen)) it = grows_answered old (Fetch name) (reply.Unit it.2.unit) new seen it.2.answered
+update_grows mode name expected source old new (Err (service.Opening f)) it = absurd it
+update_grows mode name expected source old new (Err service.TooManyClients) it = absurd it

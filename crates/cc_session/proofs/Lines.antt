@@ -94,7 +94,7 @@ line_on mode dialect most x y m z count start old new n line few more one next o
     (between_on y m z (λ b a. IsNext b (Line n) line a) (λ b a. Obeys mode (asked_of dialect (take n line)) b a old new) (Steps mode dialect old new) next obeyed
     (λ b k a first second is does.
     let less = line_takes b (take n line) k is.0 is.1 in
-    (omega (arith, less, second), obeyed_step mode dialect b k a (take n line) old new (short n line few) is.1 does)))
+    (omega (arith, less, second), obeyed_step mode dialect b k a (take n line) old new (short n line few) is.0 is.1 does)))
 
 -- a line that is too long is skipped
 pub skip_on : (mode : Mode) → (dialect : Dialect) (most : Option ℕ) (x y m z : Ahead) (count : ℕ) (start old new : Talk) (line : List ℕ) → MayGoOn most start.client count old.client → Between x y (Played mode dialect most count start old)
@@ -294,7 +294,7 @@ line_ends mode dialect most x y m count start old new n line WriteFault few more
     (λ b. (new.client ≡ old.client) ⊎ ((a : List ℕ) × (w : Option (List ℕ)) × Obeys mode (asked_of dialect (take n line)) b a old (talk new.client w)))
     (λ b. (new.client ≡ old.client) ⊎ ((a : List ℕ) × (w : Option (List ℕ)) × IsStep mode dialect b a old (talk new.client w))) next ended (λ b k is how. elim how [
       | inl same ↦ inl same
-      | inr it ↦ inr (it.0, it.1, obeyed_step mode dialect b k it.0 (take n line) old (talk new.client it.1) (short n line few) is.1 it.2)
+      | inr it ↦ inr (it.0, it.1, obeyed_step mode dialect b k it.0 (take n line) old (talk new.client it.1) (short n line few) is.0 is.1 it.2)
     ]) in (
       tt,
       known_then x y (Played mode dialect most count start old) (λ b. (new.client ≡ old.client) ⊎ ((a : List ℕ) × (w : Option (List ℕ)) × IsStep mode dialect b a old (talk new.client w)))
@@ -390,7 +390,7 @@ in_part mode dialect most Stopped script old between new same it =
       | inl as_it_was ↦ inl (same ∙ ap (λ (t : Talk). t.client) as_it_was)
       | inr (few, light, cuts) ↦
           let step = cut_obeyed mode (asked_by_line dialect cuts.line) cuts.rest it.between between new same cuts.cut in
-          inr (few, light, cuts.rest, step.0, record { line = cuts.line; rest = cuts.rest; is_line = cuts.is_line; obeyed = step.1 })
+          inr (few, light, cuts.rest, step.0, record { some = it.left; line = cuts.line; rest = cuts.rest; is_line = cuts.is_line; obeyed = step.1 })
     ])
 
 -- the script was done as far as the fault says, and then the fault's line was written

@@ -10,7 +10,7 @@ use Rattle.cc_history.specs.declared.entry.Receipt.{Receipt}
 use Rattle.cc_history.specs.History.{MemberView}
 use Rattle.cc_c_laws.specs.declared.mode.Mode.{Mode}
 use Rattle.cc_service.specs.declared.fault.ServiceFault.{ServiceFault}
-use Rattle.cc_session.specs.Playing.{CallsAndWrites, Compacts, HasUnended, IsCutShort, Obeys, Talk, Writes, talk}
+use Rattle.cc_session.specs.Playing.{CallsAndWrites, Compacts, HasUnended, IsCompacted, IsCutShort, Obeys, Talk, Writes, talk}
 use Rattle.cc_session.specs.Telling.{done_text}
 use Rattle.cc_session.specs.internal.Calls.{CallsAndTells, DoesAndTells}
 use Rattle.cc_session.specs.internal.Steps.{IsDone, IsObeyed}
@@ -48,6 +48,12 @@ pub tells_call : {T : Type 0} (result : Result T ScriptFault) (Answers : MemberV
 tells_call (Ok done) Answers Says old new it = (it.0, it.1, it.2, it.3, it.4.1)
 tells_call (Err fault) Answers Says old new it = (it.4.0, append_known old.written it.2, (it.0, it.1, it.2, it.3, appended old.written it.2))
 
+-- what is done is more than this
+pub tells_more : {T : Type 0} (result : Result T ScriptFault) (First Second : Talk → Talk → Type 0) (old new : Talk) → ((n : Talk) → First old n → Second old n) → DoesAndTells First old new result
+    → DoesAndTells Second old new result
+tells_more (Ok done) First Second old new on it = on new it
+tells_more (Err fault) First Second old new on it = (it.0, it.1, on (talk new.client it.1) it.2)
+
 -- no call
 pub tells_only : {T : Type 0} (result : Result T ScriptFault) (client : MemberView) (old new : Option (List ℕ)) (text : List ℕ) → Tells old new text result
     → DoesAndTells (Writes text) (talk client old) (talk client new) result
@@ -55,7 +61,7 @@ tells_only (Ok done) client old new text it = (refl, it.1)
 tells_only (Err fault) client old new text it = (it.0, append_known old text, (refl, appended old text))
 
 -- a compaction
-pub tells_done : {T : Type 0} (result : Result T ScriptFault) (client : MemberView) (old new : Option (List ℕ)) (answer : Result (Unit {0}) ServiceFault) → Tells old new (done_text answer) result
+pub tells_done : {T : Type 0} (result : Result T ScriptFault) (client : MemberView) (old new : Option (List ℕ)) (answer : Result (Unit {0}) ServiceFault) → IsCompacted answer → Tells old new (done_text answer) result
     → DoesAndTells Compacts (talk client old) (talk client new) result
-tells_done (Ok done) client old new answer it = (answer, (refl, it.1))
-tells_done (Err fault) client old new answer it = (it.0, append_known old (done_text answer), (answer, (refl, appended old (done_text answer))))
+tells_done (Ok done) client old new answer is it = (answer, is, (refl, it.1))
+tells_done (Err fault) client old new answer is it = (it.0, append_known old (done_text answer), (answer, is, (refl, appended old (done_text answer))))

@@ -189,12 +189,22 @@ line_behind before prefix between rest after is plain line = record {
   ];
 }
 
+-- a line is there, where one came
+line_left : (before after line : List ℕ) (next : NextLine) → IsNext before next line after → next ≢ End → before ≢ []
+line_left before after line End is other = absurd (other refl)
+line_left before after line (Line n) is other = is.0
+line_left before after line TooLong is other = λ none.
+    let both = length-append is.0 after in
+    let whole = ap (λ (l : List ℕ). length l) (sym is.1 ∙ none) in
+    absurd (omega (arith, both, whole, is.2))
+
 -- a line of more bytes than it may have is a step that calls nothing
 pub too_long_step : (mode : Mode) → (dialect : Dialect) (before between after line : List ℕ) (old new : Talk) → IsNext before TooLong line between → ((rest : List ℕ) × IsLine between rest after)
     → Writes (script_fault_text BadLine) old new → IsStep mode dialect before after old new
 too_long_step mode dialect before between after line old new next skipped wrote =
     let long : 128 < length (next.0 ++ skipped.0) = let n = length-append next.0 skipped.0 in omega (arith, n, next.2) in
     record {
+      some = line_left before between line TooLong next (λ over. cc over);
       line = next.0 ++ skipped.0;
       rest = after;
       is_line = line_behind before next.0 between skipped.0 after next.1 next.3 skipped.1;
@@ -202,9 +212,10 @@ too_long_step mode dialect before between after line old new next skipped wrote 
     }
 
 -- a line that is obeyed is a step
-pub obeyed_step : (mode : Mode) → (dialect : Dialect) (before between after line : List ℕ) (old new : Talk) → length line ≤ 128 → IsLine before line between → Obeys mode (asked_of dialect line) between after old new
+pub obeyed_step : (mode : Mode) → (dialect : Dialect) (before between after line : List ℕ) (old new : Talk) → length line ≤ 128 → before ≢ [] → IsLine before line between → Obeys mode (asked_of dialect line) between after old new
     → IsStep mode dialect before after old new
-obeyed_step mode dialect before between after line old new short is obeyed = record {
+obeyed_step mode dialect before between after line old new short some is obeyed = record {
+  some = some;
   line = line;
   rest = between;
   is_line = is;
@@ -242,15 +253,6 @@ pub played_up_to : (mode : Mode) → (dialect : Dialect) (most : Option ℕ) (sc
     → Plays mode dialect (IsLight most first.client) script first turns rest between → NextIs mode dialect most first.client (length turns) rest between last.client
     → IsPlayedInPart mode dialect most script first last
 played_up_to mode dialect most script first turns rest between last few plays it = record { turns = turns; few = few; rest = rest; between = between; plays = plays; then_is = it }
-
--- a line is there, where one came
-line_left : (before after line : List ℕ) (next : NextLine) → IsNext before next line after → next ≢ End → before ≢ []
-line_left before after line End is other = absurd (other refl)
-line_left before after line (Line n) is other = is.0
-line_left before after line TooLong is other = λ none.
-    let both = length-append is.0 after in
-    let whole = ap (λ (l : List ℕ). length l) (sym is.1 ∙ none) in
-    absurd (omega (arith, both, whole, is.2))
 
 pub some_left : (x y : Ahead) (next : NextLine) (line : List ℕ) → Between x y (λ b a. IsNext b next line a) → next ≢ End → IfSome x.rest (λ b. b ≢ [])
 some_left x y next line it other = known_by x y (λ b a. IsNext b next line a) (λ b. b ≢ []) it (λ b a is. line_left b a line next is other)

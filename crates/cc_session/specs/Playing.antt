@@ -1,7 +1,7 @@
 -- What a script is to the client that does it: line by line a call of the service, what its answer makes of the client, and what is written of it.
-use Rattle.std.specs.Prelude.{◌≡◌, ◌≢◌, ◌⊎◌, ◌+◌, ◌<◌, ◌≤◌, ℕ, Bool, true, false, List, [], ◌∷◌, ◌++◌, All, drop, length, take, nat_le, if◌then◌else◌, Option, Some, None, IfSome, Result, Ok, Err, codes}
+use Rattle.std.specs.Prelude.{◌≡◌, ◌≢◌, ◌⊎◌, ◌+◌, ◌<◌, ◌≤◌, ℕ, Bool, true, false, List, [], ◌∷◌, ◌++◌, All, drop, length, take, nat_le, if◌then◌else◌, Option, Some, None, IfSome, Result, Ok, Err, IfErr, codes}
 use Rattle.std.specs.Io.KnownBytes.{Appends}
-use Rattle.cc_script.specs.Line.{ScriptRequest, Add, Replace, Withdraw, Names, Run, Compact, Audit, Image, Source, asked_of}
+use Rattle.cc_script.specs.Line.{ScriptRequest, Add, Replace, Withdraw, Names, Run, Compact, Audit, Image, Source, AuditOne, Update, Call, asked_of}
 use Rattle.cc_script.specs.Reading.{IsLine}
 use Rattle.cc_script.specs.declared.command.Dialect.{Dialect}
 use Rattle.cc_script.specs.declared.fault.ScriptFault.{ScriptFault}
@@ -14,10 +14,15 @@ use Rattle.cc_history.specs.declared.entry.Receipt.{Receipt}
 use Rattle.cc_history.specs.declared.reply.Reply.TheVariants as reply
 use Rattle.cc_history.specs.Held.{receipts_bytes}
 use Rattle.cc_history.specs.History.{MemberView}
+use Rattle.cc_service.specs.Serving.{IsNotCompacted}
+use Rattle.cc_service.specs.book_fault.BookFault.{BookFault}
+use Rattle.cc_service.specs.declared.fault.ServiceFault.TheVariants.{Book}
 use Rattle.cc_c_laws.specs.declared.mode.Mode.{Mode}
 use Rattle.cc_service.specs.Serving.{Adds, Replaces, GetAnswers, ListAnswers, PutAnswers, WithdrawAnswers}
+use Rattle.cc_service.specs.Updating.{UpdateAnswers}
 use Rattle.cc_service.specs.declared.fault.ServiceFault.{ServiceFault}
-use Rattle.cc_session.specs.Telling.{IsCutRun, SaysAudit, SaysChange, SaysNames, SaysRefusal, SaysRun, SaysShown, done_text, no_memory_text}
+use Rattle.cc_runs.specs.Words.{input_in}
+use Rattle.cc_session.specs.Telling.{IsCutRun, SaysAudit, SaysChange, SaysNames, SaysRefusal, SaysRun, SaysRunOn, SaysShown, done_text, no_memory_text}
 
 -- a client, and what the writer of its answers holds, if that is known
 pub record Talk : Type 0 where
@@ -36,17 +41,41 @@ CallsAndWrites Answers Says old new =
 abbrev pub Writes : (text : List ℕ) → (old new : Talk) → Type 0
 Writes text old new = (new.client ≡ old.client) × Appends old.written new.written text
 
--- The source after a line: this many bytes, then a newline or the end. The call takes them, to compile them in the mode; of more than 65,536 it takes 65,537, which are
--- too many. If there is no room for them, or if another byte follows, nothing is called; in the second case the rest of that line is skipped.
-pub record IsSent (mode : Mode) (Asks : Mode → (name source : List ℕ) → Command → Type 0) (name : List ℕ) (count : ℕ) (before after : List ℕ) (old new : Talk) : Type 0 where
+-- The bytes after a line: this many, then a newline or the end. What is done with them is done; of more than 65,536 it takes 65,537, which are too many. If there is no
+-- room for them, or if another byte follows, nothing is called; in the second case the rest of that line is skipped.
+pub record IsSentTo (Does : (bytes : List ℕ) → Talk → Talk → Type 0) (count : ℕ) (before after : List ℕ) (old new : Talk) : Type 0 where
   pub source : List ℕ
   pub rest : List ℕ
   pub prefix : before ≡ source ++ rest
   pub count_is : length source ≡ count
   pub called :
-      (IsLine rest [] after
-      × (CallsAndWrites (PutAnswers mode (Asks mode name (take 65537 source)) name (take 65537 source)) (SaysChange (take 65537 source)) old new ⊎ Writes no_memory_text old new))
+      (IsLine rest [] after × (Does (take 65537 source) old new ⊎ Writes no_memory_text old new))
       ⊎ ((behind : List ℕ) × (0 < length behind) × IsLine rest behind after × Writes (script_fault_text BadLine) old new)
+
+-- The source after a line: the call takes it, to compile it in the mode.
+abbrev pub IsSent : (mode : Mode) (Asks : Mode → (name source : List ℕ) → Command → Type 0) (name : List ℕ) (count : ℕ) (before after : List ℕ) (old new : Talk) → Type 0
+IsSent mode Asks name count before after old new =
+    IsSentTo (λ source o n. CallsAndWrites (PutAnswers mode (Asks mode name source) name source) (SaysChange source) o n) count before after old new
+
+-- Two sources after a line, each so: the name's unit is to have the first one, and is replaced by one of the second.
+pub record IsSentTwice (mode : Mode) (name : List ℕ) (expected_count count : ℕ) (before after : List ℕ) (old new : Talk) : Type 0 where
+  pub expected : List ℕ
+  pub rest : List ℕ
+  pub prefix : before ≡ expected ++ rest
+  pub count_is : length expected ≡ expected_count
+  pub called :
+      ((between : List ℕ) × IsLine rest [] between
+      × IsSentTo (λ source o n. CallsAndWrites (UpdateAnswers mode name (take 65537 expected) source) (SaysChange source) o n) count between after old new)
+      ⊎ ((behind : List ℕ) × (0 < length behind) × IsLine rest behind after × Writes (script_fault_text BadLine) old new)
+
+-- the input words of at most 65,536 bytes
+abbrev pub words_of : (bytes : List ℕ) → Option (List ℕ)
+words_of bytes = if nat_le (length bytes) 65536 then input_in bytes else None
+
+-- the name's unit is run on the words; 50 if there are none
+abbrev pub CallsOn : (name : List ℕ) (steps : ℕ) → (words : Option (List ℕ)) → (old new : Talk) → Type 0
+CallsOn name steps (Some words) old new = CallsAndWrites (GetAnswers name) (SaysRunOn words steps) old new
+CallsOn name steps None old new = Writes (script_fault_text BadLine) old new
 
 -- The units of these names are fetched and audited in the mode, one call and one line for each, in their order. Either all are found and audited; or the last
 -- is the first that is refused, or that is found but whose audit had no memory.
@@ -78,9 +107,17 @@ pub record ListsAndAudits (mode : Mode) (old new : Talk) : Type 0 where
 abbrev pub Audits : Mode → (old new : Talk) → Type 0
 Audits mode old new = CallsAndWrites ListAnswers SaysRefusal old new ⊎ ListsAndAudits mode old new
 
--- the library was written anew, or was not; whoever did so is no client, and has no receipt
+-- the unit of a name is audited
+abbrev pub AuditsOne : Mode → (name : List ℕ) (old new : Talk) → Type 0
+AuditsOne mode name old new = (all : Bool) × (last : Talk) × AuditsEach mode (name ∷ []) all old last × EndsAudit all last new
+
+-- a compaction is refused by 34, 35, 36 or 40 alone
+abbrev pub IsCompacted : Result (Unit {0}) ServiceFault → Type 0
+IsCompacted answer = IfErr answer (λ fault. (why : BookFault) × (fault ≡ Book why) × IsNotCompacted why)
+
+-- the service answered a compaction; whoever asked for it is no client, and has no receipt
 abbrev pub Compacts : (old new : Talk) → Type 0
-Compacts old new = (answer : Result (Unit {0}) ServiceFault) × Writes (done_text answer) old new
+Compacts old new = (answer : Result (Unit {0}) ServiceFault) × IsCompacted answer × Writes (done_text answer) old new
 
 -- what a line asks for is done in the mode; 50 if it asks for nothing
 -- ORDER ScriptCommand
@@ -94,14 +131,18 @@ Obeys mode (Some Compact) before after old new = (after ≡ before) × Compacts 
 Obeys mode (Some Audit) before after old new = (after ≡ before) × Audits mode old new
 Obeys mode (Some (Image name)) before after old new = (after ≡ before) × CallsAndWrites (GetAnswers name) (SaysShown part.Image) old new
 Obeys mode (Some (Source name)) before after old new = (after ≡ before) × CallsAndWrites (GetAnswers name) (SaysShown part.Source) old new
+Obeys mode (Some (AuditOne name)) before after old new = (after ≡ before) × AuditsOne mode name old new
+Obeys mode (Some (Update name expected count)) before after old new = IsSentTwice mode name expected count before after old new
+Obeys mode (Some (Call name steps count)) before after old new = IsSentTo (λ input o n. CallsOn name steps (words_of input) o n) count before after old new
 Obeys mode None before after old new = (after ≡ before) × Writes (script_fault_text BadLine) old new
 
 -- what a line of a script asks for; one of more than 128 bytes asks for nothing
 abbrev pub asked_by_line : Dialect → List ℕ → Option ScriptRequest
 asked_by_line dialect line = if nat_le (length line) 128 then asked_of dialect line else None
 
--- one line of a script of this dialect is done in the mode, with the source after it if it has one
+-- One line of a script of this dialect is done in the mode, with the source after it if it has one. There is a line only if a byte is left.
 pub record IsStep (mode : Mode) (dialect : Dialect) (before after : List ℕ) (old new : Talk) : Type 0 where
+  pub some : before ≢ []
   pub line : List ℕ
   pub rest : List ℕ
   pub is_line : IsLine before line rest
@@ -154,10 +195,21 @@ pub record IsPlayedInPart (mode : Mode) (dialect : Dialect) (most : Option ℕ) 
 
 -- ---- scripts that a fault ends
 
+-- this many bytes are there, with a newline or the end after them, and then this holds of what is left
+abbrev pub IsAfter : (count : ℕ) (Holds : List ℕ → Type 0) (rest : List ℕ) → Type 0
+IsAfter count Holds rest =
+    (source : List ℕ) × (between : List ℕ) × (behind : List ℕ) × (rest ≡ source ++ between) × (length source ≡ count) × IsLine between [] behind × Holds behind
+
+-- fewer bytes are left than two sources need: for the first, or for the second
+abbrev pub IsShortOfTwo : (expected count : ℕ) (rest : List ℕ) → Type 0
+IsShortOfTwo expected count rest = (length rest < expected) ⊎ IsAfter expected (λ behind. length behind < count) rest
+
 -- a line that asks for this needs more bytes after it than are left there
 abbrev pub IsCutShort : Option ScriptRequest → (rest : List ℕ) → Type 0
 IsCutShort (Some (Add name count)) rest = length rest < count
 IsCutShort (Some (Replace name count)) rest = length rest < count
+IsCutShort (Some (Update name expected count)) rest = IsShortOfTwo expected count rest
+IsCutShort (Some (Call name steps count)) rest = length rest < count
 IsCutShort asked rest = ⊥
 
 -- the next line is such a one: the script ends within its source
@@ -171,10 +223,16 @@ pub record EndsInSource (dialect : Dialect) (before : List ℕ) : Type 0 where
 abbrev pub IsUnended : (count : ℕ) (rest : List ℕ) → Type 0
 IsUnended count rest = (source : List ℕ) × (byte : ℕ) × (after : List ℕ) × (rest ≡ source ++ byte ∷ after) × (length source ≡ count) × (byte ≢ 10)
 
+-- so one of two sources
+abbrev pub IsUnendedOfTwo : (expected count : ℕ) (rest : List ℕ) → Type 0
+IsUnendedOfTwo expected count rest = IsUnended expected rest ⊎ IsAfter expected (IsUnended count) rest
+
 -- a line that asks for this has a source after it that no newline ends
 abbrev pub HasUnended : Option ScriptRequest → (rest : List ℕ) → Type 0
 HasUnended (Some (Add name count)) rest = IsUnended count rest
 HasUnended (Some (Replace name count)) rest = IsUnended count rest
+HasUnended (Some (Update name expected count)) rest = IsUnendedOfTwo expected count rest
+HasUnended (Some (Call name steps count)) rest = IsUnended count rest
 HasUnended asked rest = ⊥
 
 -- so is the next line

@@ -10,7 +10,7 @@ use Rattle.cc_history.specs.History.{MemberView}
 use Rattle.cc_c_laws.specs.declared.mode.Mode.{Mode}
 use Rattle.cc_service.specs.Book.{BookView}
 use Rattle.cc_service.specs.Fault.{fault_number}
-use Rattle.cc_service.specs.Promise.{IsSound}
+use Rattle.cc_service.specs.Promise.{FailedByDevice, IsSound}
 use Rattle.cc_service.specs.Serving.{IsNotOpened}
 use Rattle.cc_service.specs.declared.fault.ServiceFault.{ServiceFault}
 use Rattle.cc_script.specs.Fault as faults
@@ -49,14 +49,16 @@ HaveCalled mode script before after end clients (Fault number) =
 -- Its clients have receipts of their own calls, in their order, and this holds of the history and of them.
 -- Whatever a crash then leaves of the disk recovers to that library's map, or to that with or without the change in which the device failed: so
 -- it holds each change that was acknowledged, in order. Whatever one left since this moment it left before the opening, or it recovers to the
--- first map with the changes of the first calls, or with that failed one. Each unit in it was there before or agrees with its source.
-pub record IsLeft {Disk : Type 0} (D : Ghosts Disk) (bytes : List ℕ) (from : ℕ) (left : List ℕ → Type 0)
+-- first map with the changes of the first calls, or with that failed one. Each unit in it was there before or agrees with its source. As many calls of the
+-- device had failed at the opening: if none has failed since, no change has, and whatever a crash leaves recovers to that map alone.
+pub record IsLeft {Disk : Type 0} (D : Ghosts Disk) (failures : ℕ) (bytes : List ℕ) (from : ℕ) (left : List ℕ → Type 0)
     (Holds : (history : List Entry) (clients : List MemberView) → Type 0) (clients : List MemberView) (after : Disk) : Type 0 where
   pub base : Units
   pub begun : IsTrue D.honest → Recovers bytes base
   pub book : BookView Disk
   pub disk : book.library.disk ≡ after
   pub sound : IsSound D base from left book
+  pub blamed : FailedByDevice D failures book
   pub own : AreOwn clients
   pub holds : Holds book.history clients
 
@@ -64,16 +66,16 @@ pub record IsLeft {Disk : Type 0} (D : Ghosts Disk) (bytes : List ℕ) (from : �
 -- stand in the history, and it has no other entries. The end is how the work ended; or 40, if the work was done and there was no memory.
 -- Or it was given up because a receipt does not stand in the history, or that has more entries, or two clients have one number. Then the end is 39,
 -- however the work ended, and no other end means this.
-abbrev pub IsEnded : {Disk : Type 0} (D : Ghosts Disk) (bytes : List ℕ) (from : ℕ) (left : List ℕ → Type 0) (clients : List MemberView) (played end : SessionEnd) (after : Disk) → Type 0
-IsEnded D bytes from left clients played end after =
-    (((end ≡ played) ⊎ ((played ≡ Finished) × (end ≡ Fault 40))) × IsLeft D bytes from left IsClosed clients after)
-    ⊎ ((end ≡ Fault 39) × IsLeft D bytes from left IsNotWhole clients after)
+abbrev pub IsEnded : {Disk : Type 0} (D : Ghosts Disk) (failures : ℕ) (bytes : List ℕ) (from : ℕ) (left : List ℕ → Type 0) (clients : List MemberView) (played end : SessionEnd) (after : Disk) → Type 0
+IsEnded D failures bytes from left clients played end after =
+    (((end ≡ played) ⊎ ((played ≡ Finished) × (end ≡ Fault 40))) × IsLeft D failures bytes from left IsClosed clients after)
+    ⊎ ((end ≡ Fault 39) × IsLeft D failures bytes from left IsNotWhole clients after)
 
 -- so of clients that worked so, by how their work ended
-abbrev pub HasEnded : {Disk : Type 0} (D : Ghosts Disk) (bytes : List ℕ) (from : ℕ) (left : List ℕ → Type 0)
+abbrev pub HasEnded : {Disk : Type 0} (D : Ghosts Disk) (failures : ℕ) (bytes : List ℕ) (from : ℕ) (left : List ℕ → Type 0)
     (Worked : (clients : List MemberView) (played : SessionEnd) → Type 0) → SessionEnd → (after : Disk) → Type 0
-HasEnded D bytes from left Worked end after =
-    (clients : List MemberView) × (played : SessionEnd) × Worked clients played × IsEnded D bytes from left clients played end after
+HasEnded D failures bytes from left Worked end after =
+    (clients : List MemberView) × (played : SessionEnd) × Worked clients played × IsEnded D failures bytes from left clients played end after
 
 -- How a service ends that began with this disk, where until then a crash had left this since a moment. It was not opened, an honest disk was
 -- read at most, and `Untouched` holds; or it was ended or given up, with clients that worked so.
@@ -81,7 +83,7 @@ abbrev pub EndsSince : {Disk : Type 0} (D : Ghosts Disk) (from : ℕ) (left : Li
     (Worked : (clients : List MemberView) (played : SessionEnd) → Type 0) (before after : Disk) → SessionEnd → Type 0
 EndsSince D from left Untouched Worked before after end =
     (IsUnopened D.honest (D.seen before) (D.failures before) (D.failures after) end × (IsTrue D.honest → OnlyReads D.seen D.may_leave D.moment D.left_since before after) × Untouched)
-    ⊎ HasEnded D (D.seen before) from left Worked end after
+    ⊎ HasEnded D (D.failures before) (D.seen before) from left Worked end after
 
 -- so of one that began with this disk, and what a crash at any moment of it has left, beside what it may have left at its beginning
 abbrev pub ServiceEnds : {Disk : Type 0} (D : Ghosts Disk) (Untouched : Type 0) (Worked : (clients : List MemberView) (played : SessionEnd) → Type 0)

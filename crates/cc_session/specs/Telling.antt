@@ -57,12 +57,12 @@ abbrev pub SaysNames : Result Receipt ServiceFault → (text : List ℕ) → Typ
 SaysNames (Ok receipt) text = (names : List (List ℕ)) × (receipt.entry.reply ≡ Names names) × (text ≡ names_text names receipt.number)
 SaysNames (Err fault) text = text ≡ refusal_text [] fault
 
--- what the image of the reply's unit does within the steps
-pub record IsRunText (steps : ℕ) (reply : Reply) (text : List ℕ) : Type 0 where
+-- what the image of the reply's unit does on the input words within the steps
+pub record IsRunText (words : List ℕ) (steps : ℕ) (reply : Reply) (text : List ℕ) : Type 0 where
   pub unit : StoredUnit
   pub found : reply ≡ Unit unit
   pub run : ImageRun
-  pub ran : IsRunOf unit.image steps [] run
+  pub ran : IsRunOf unit.image steps words run
   pub text_is : text ≡ run_text run
 
 -- behind some of the steps, and fewer than all, an image is not at its end
@@ -75,10 +75,14 @@ pub record IsCutRun (steps : ℕ) (reply : Reply) : Type 0 where
   pub found : reply ≡ Unit unit
   pub cut : IsCutOff unit.image steps
 
--- of a run: what the image of the unit that was found does; or that memory ran out
+-- of a run on input words: what the image of the unit that was found does; or that memory ran out
+abbrev pub SaysRunOn : (words : List ℕ) (steps : ℕ) → Result Receipt ServiceFault → (text : List ℕ) → Type 0
+SaysRunOn words steps (Ok receipt) text = IsRunText words steps receipt.entry.reply text ⊎ (text ≡ no_memory_text)
+SaysRunOn words steps (Err fault) text = text ≡ refusal_text [] fault
+
+-- of a run on no input
 abbrev pub SaysRun : (steps : ℕ) → Result Receipt ServiceFault → (text : List ℕ) → Type 0
-SaysRun steps (Ok receipt) text = IsRunText steps receipt.entry.reply text ⊎ (text ≡ no_memory_text)
-SaysRun steps (Err fault) text = text ≡ refusal_text [] fault
+SaysRun steps = SaysRunOn [] steps
 
 -- of a part: the image or the source of the unit that was found; or that memory ran out
 abbrev pub SaysShown : Part → Result Receipt ServiceFault → (text : List ℕ) → Type 0

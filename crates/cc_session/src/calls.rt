@@ -1,13 +1,15 @@
 // The commands of a script, done by one client.
 
 ghost use Rattle.std.specs.Prelude.{◌≡◌, [], List, ℕ, Ok};
+ghost use Rattle.std.specs.Option.{option_map};
 ghost use Rattle.cc_answers.specs.Telling.{Tells};
 ghost use Rattle.cc_script.specs.Line.{asked_of};
 ghost use Rattle.cc_history.specs.History.{MemberView};
 ghost use Rattle.cc_service.specs.Serving.{GetAnswers, ListAnswers, PutAnswers, Puts, WithdrawAnswers};
-ghost use Rattle.cc_session.specs.Playing.{Audits, Compacts, Grows, IsPlayedBy, IsSent, IsUnended, talk};
-ghost use Rattle.cc_session.specs.Telling.{SaysChange, SaysNames, SaysShown};
-ghost use Rattle.cc_session.specs.internal.Calls.{AuditsName, AuditsNames, CallsAndTells, DoesAndTells, RunsAndTells, TellsAudit, TellsRun};
+ghost use Rattle.cc_service.specs.Updating.{UpdateAnswers};
+ghost use Rattle.cc_session.specs.Playing.{Audits, AuditsOne, CallsOn, Compacts, Grows, IsPlayedBy, IsSent, IsSentTo, IsSentTwice, IsShortOfTwo, IsUnended, IsUnendedOfTwo, talk, words_of};
+ghost use Rattle.cc_session.specs.Telling.{SaysChange, SaysNames, SaysRunOn, SaysShown};
+ghost use Rattle.cc_session.specs.internal.Calls.{AuditsName, AuditsNames, CallsAndTells, DoesAndTells, DoesOr, RunsAndTells, TellsAudit, TellsRun, UpdatesIf};
 ghost use Rattle.cc_session.specs.internal.Steps.{IsDone, IsHalted, IsObeyed, IsShortOf};
 
 use crate::auditing::audit_found;
@@ -18,12 +20,13 @@ use crate::reading::{Reading, Sent};
 use crate::showing::text_of;
 use crate::telling::{refuse, tell_change, tell_done};
 use cc_answers::{
-    tell_audit, tell_fault, tell_names, tell_no_memory, tell_ok, tell_run, tell_text,
+    run_image, tell_audit, tell_fault, tell_names, tell_no_memory, tell_ok, tell_run, tell_text,
 };
 use cc_disk::Disk;
 use cc_history::Receipt;
 use cc_library::Name;
 use cc_link::Mode;
+use cc_runs::words_in;
 use cc_script::{
     Dialect, LINE_BYTES, MOST_BYTES, NextLine, ScriptCommand, ScriptFault, command_of,
 };
@@ -32,6 +35,9 @@ use cc_task::Part;
 use std::alloc::Global;
 use std::io::{Read, Write};
 use std::sync::Wait;
+
+// The most bytes of input words after a line.
+const MOST_INPUT: usize = 65_536;
 
 // What plays the scripts of a service's clients, in a mode: of each so many lines at most, if there is a bound, and then while there is patience.
 #[derive(Drop)]
@@ -146,6 +152,100 @@ impl<'a, N: Named + Send + Sync + 'static, H: Wait, D: Disk, P: Patience> Player
         }
     }
 
+    // Puts a unit of this source in the place of that of a name, if that one's source is the expected one. No source of a later command is
+    // handed in meanwhile.
+    fn exchange<W: Write, E: Write>(
+        &self,
+        client: &mut Client<N>,
+        name: &[u8],
+        expected: &[u8],
+        source: &[u8],
+        answers: &mut W,
+        explanations: &mut E,
+    ) -> Result<(), ScriptFault>
+        ensures { CallsAndTells (UpdateAnswers self.now.mode name.now expected.now source.now) (SaysChange source.now)
+            (talk client.old.member (W.contents answers.old)) (talk client.new.member (W.contents answers.new)) result }
+    {
+        let answer = self.service.update_in(
+            self.rt, self.alloc, client, self.mode, name, expected, source,
+        );
+        tell_change(self.alloc, answer, source, answers, explanations)
+    }
+
+    // Does so with the source that comes next, unless there was no room for the expected one.
+    fn update_from<R: Read, W: Write, E: Write>(
+        &self,
+        client: &mut Client<N>,
+        script: &mut Reading<R>,
+        name: &[u8],
+        expected: Option<&[u8]>,
+        length: usize,
+        answers: &mut W,
+        explanations: &mut E,
+    ) -> Result<(), ScriptFault>
+        ensures done { IsDone (λ before after old new. IsSentTo (λ source o n. UpdatesIf self.now.mode name.now (option_map (λ e. e.now) expected.entry) source o n) length before after old new)
+            (IsShortOf length) (IsUnended length)
+            script.old script.new (talk client.old.member (W.contents answers.old)) (talk client.new.member (W.contents answers.new)) result }
+        ensures grows { Grows client.old.member client.new.member }
+    {
+        match script.source(self.alloc, length)? {
+            Sent::Source(source) => match expected {
+                Some(expected) => self.exchange(
+                    client,
+                    name,
+                    expected,
+                    source.as_slice(),
+                    answers,
+                    explanations,
+                ),
+                None => tell_no_memory(answers, explanations),
+            },
+            Sent::NoRoom => tell_no_memory(answers, explanations),
+            Sent::Unended => script.refuse_and_skip(answers, explanations),
+        }
+    }
+
+    // Puts a unit in the place of that of a name, if that one's source is the one that comes next; the unit's own source comes after it.
+    fn update<R: Read, W: Write, E: Write>(
+        &self,
+        client: &mut Client<N>,
+        script: &mut Reading<R>,
+        name: &[u8],
+        expected: usize,
+        length: usize,
+        answers: &mut W,
+        explanations: &mut E,
+    ) -> Result<(), ScriptFault>
+        ensures done { IsDone (λ before after old new. IsSentTwice self.now.mode name.now expected length before after old new) (IsShortOfTwo expected length) (IsUnendedOfTwo expected length)
+            script.old script.new (talk client.old.member (W.contents answers.old)) (talk client.new.member (W.contents answers.new)) result }
+        ensures grows { Grows client.old.member client.new.member }
+    {
+        match script.source(self.alloc, expected)? {
+            Sent::Source(source) => {
+                let source = source.as_slice();
+                self.update_from(
+                    client,
+                    script,
+                    name,
+                    Some(source),
+                    length,
+                    answers,
+                    explanations,
+                )
+            }
+            Sent::NoRoom => self.update_from(
+                client,
+                script,
+                name,
+                None,
+                length,
+                answers,
+                explanations,
+            ),
+            Sent::Unended => script.refuse_and_skip(answers, explanations),
+        }
+    }
+
     fn withdraw<W: Write, E: Write>(
         &self,
         client: &mut Client<N>,
@@ -209,6 +309,101 @@ impl<'a, N: Named + Send + Sync + 'static, H: Wait, D: Disk, P: Patience> Player
         match self.service.get(self.rt, self.alloc, client, name) {
             Ok(found) => self.run_found(found, steps, answers, explanations),
             Err(fault) => refuse(self.alloc, fault, &[], answers, explanations),
+        }
+    }
+
+    // Runs the image of a unit that was found on input words.
+    fn call_found<W: Write, E: Write>(
+        &self,
+        found: Found,
+        steps: u64,
+        words: &[u32],
+        answers: &mut W,
+        explanations: &mut E,
+    ) -> Result<(), ScriptFault>
+        ensures { (text : List ℕ) × SaysRunOn words.now steps (Ok found) text × Tells (W.contents answers.old) (W.contents answers.new) text result }
+    {
+        let image = &found.unit().stored().image;
+        match run_image(self.alloc, image, words, steps) {
+            Ok(run) => tell_run(&run, answers),
+            Err(_) => tell_no_memory(answers, explanations),
+        }
+    }
+
+    // Runs the image of a name's unit on input words.
+    fn call_words<W: Write, E: Write>(
+        &self,
+        client: &mut Client<N>,
+        name: &[u8],
+        steps: u64,
+        words: &[u32],
+        answers: &mut W,
+        explanations: &mut E,
+    ) -> Result<(), ScriptFault>
+        ensures { CallsAndTells (GetAnswers name.now) (SaysRunOn words.now steps) (talk client.old.member (W.contents answers.old)) (talk client.new.member (W.contents answers.new)) result }
+    {
+        match self.service.get(self.rt, self.alloc, client, name) {
+            Ok(found) => self.call_found(found, steps, words, answers, explanations),
+            Err(fault) => refuse(self.alloc, fault, &[], answers, explanations),
+        }
+    }
+
+    // Runs it on the input words that these bytes are.
+    fn call_on<W: Write, E: Write>(
+        &self,
+        client: &mut Client<N>,
+        name: &[u8],
+        steps: u64,
+        input: &[u8],
+        answers: &mut W,
+        explanations: &mut E,
+    ) -> Result<(), ScriptFault>
+        ensures done { DoesAndTells (DoesOr (CallsOn name.now steps (words_of input.now))) (talk client.old.member (W.contents answers.old)) (talk client.new.member (W.contents answers.new)) result }
+        ensures grows { Grows client.old.member client.new.member }
+    {
+        if MOST_INPUT < input.len() {
+            return tell_fault(ScriptFault::BadLine, answers, explanations);
+        }
+        match words_in(self.alloc, input) {
+            Ok(Some(words)) => self.call_words(
+                client,
+                name,
+                steps,
+                words.as_slice(),
+                answers,
+                explanations,
+            ),
+            Ok(None) => tell_fault(ScriptFault::BadLine, answers, explanations),
+            Err(_) => tell_no_memory(answers, explanations),
+        }
+    }
+
+    // Runs the image of a name's unit on the input words that come next.
+    fn call<R: Read, W: Write, E: Write>(
+        &self,
+        client: &mut Client<N>,
+        script: &mut Reading<R>,
+        name: &[u8],
+        steps: u64,
+        length: usize,
+        answers: &mut W,
+        explanations: &mut E,
+    ) -> Result<(), ScriptFault>
+        ensures done { IsDone (λ before after old new. IsSentTo (λ input o n. CallsOn name.now steps (words_of input) o n) length before after old new) (IsShortOf length) (IsUnended length)
+            script.old script.new (talk client.old.member (W.contents answers.old)) (talk client.new.member (W.contents answers.new)) result }
+        ensures grows { Grows client.old.member client.new.member }
+    {
+        match script.source(self.alloc, length)? {
+            Sent::Source(input) => self.call_on(
+                client,
+                name,
+                steps,
+                input.as_slice(),
+                answers,
+                explanations,
+            ),
+            Sent::NoRoom => tell_no_memory(answers, explanations),
+            Sent::Unended => script.refuse_and_skip(answers, explanations),
         }
     }
 
@@ -318,6 +513,23 @@ impl<'a, N: Named + Send + Sync + 'static, H: Wait, D: Disk, P: Patience> Player
         Ok(true)
     }
 
+    // Audits the unit of a name.
+    fn audit_one<W: Write, E: Write>(
+        &self,
+        client: &mut Client<N>,
+        name: &[u8],
+        answers: &mut W,
+        explanations: &mut E,
+    ) -> Result<(), ScriptFault>
+        ensures { DoesAndTells (AuditsOne self.now.mode name.now) (talk client.old.member (W.contents answers.old)) (talk client.new.member (W.contents answers.new)) result }
+    {
+        match self.audit_name(client, name, answers, explanations) {
+            Ok(true) => tell_ok(answers),
+            Ok(false) => Ok(()),
+            Err(fault) => Err(fault),
+        }
+    }
+
     // Audits all units.
     fn audit<W: Write, E: Write>(
         &self,
@@ -395,6 +607,33 @@ impl<'a, N: Named + Send + Sync + 'static, H: Wait, D: Disk, P: Patience> Player
             Some(ScriptCommand::Source { name }) => {
                 self.show(client, name, Part::Source, answers, explanations)
             }
+            Some(ScriptCommand::AuditOne { name }) => {
+                self.audit_one(client, name, answers, explanations)
+            }
+            Some(
+                ScriptCommand::Update {
+                    name,
+                    expected,
+                    length,
+                },
+            ) => {
+                self.update(
+                    client,
+                    script,
+                    name,
+                    expected,
+                    length,
+                    answers,
+                    explanations,
+                )
+            }
+            Some(
+                ScriptCommand::Call {
+                    name,
+                    steps,
+                    length,
+                },
+            ) => { self.call(client, script, name, steps, length, answers, explanations) }
             None => tell_fault(ScriptFault::BadLine, answers, explanations),
         }
     }

@@ -62,6 +62,23 @@ fn next_source(held: &[u8], from: usize) -> Option<(usize, usize)> {
                     _ => None,
                 };
             }
+            Some(
+                ScriptCommand::Update {
+                    name: _,
+                    expected,
+                    length,
+                },
+            ) => {
+                let second = next.saturating_add(expected).saturating_add(1);
+                begin = second.saturating_add(length).saturating_add(1);
+            }
+            Some(
+                ScriptCommand::Call {
+                    name: _,
+                    steps: _,
+                    length,
+                },
+            ) => begin = next.saturating_add(length).saturating_add(1),
             _ => begin = next,
         }
     }

@@ -169,7 +169,7 @@ where
     D: Disk,
     // Whatever bytes those were that recover to the map that the service's type names.
     ensures ended { (bytes : List ℕ) → (IsTrue D.honest → Recovers bytes N.base)
-        → IsEnded D.Disk bytes N.from N.left (members clients.items) played result.1 result.0 }
+        → IsEnded D.Disk N.failures bytes N.from N.left (members clients.items) played result.1 result.0 }
     // Nothing is written if it ends as the clients' work did.
     ensures still { result.1 ≡ played → W.contents answers.new ≡ W.contents answers.old }
 {
@@ -213,6 +213,7 @@ where
     requires recovered { IsTrue D.honest → Recovers (D.seen begun.library.disk) begun.library.units }
     requires named { IsTrue D.honest → begun.library.units ≡ N.base }
     requires past { IsTrue D.honest → IsPast D.Disk N.from N.left begun.library.disk }
+    requires failures { N.failures ≡ D.failures begun.library.disk }
     requires some { 1 ≤ workers }
     requires few { workers ≤ 8 }
     requires fresh { script.old.left ≡ 16777216 }

@@ -301,7 +301,7 @@ where
     requires clients { (room.clients.items ≡ []) × (vec_len spools ≤ vec_capacity room.clients) }
     requires spools { (room.spools.items ≡ []) × (vec_len spools ≤ vec_capacity room.spools) }
     // Whatever bytes those were that recover to the map that the service's type names.
-    ensures { (bytes : List ℕ) → (IsTrue D.honest → Recovers bytes N.base) → HasEnded D.Disk bytes N.from N.left
+    ensures { (bytes : List ℕ) → (IsTrue D.honest → Recovers bytes N.base) → HasEnded D.Disk N.failures bytes N.from N.left
         (HaveServed mode (map (given_by S.taken S.ended) spools.items) (map (given_by S.taken S.ended) result.spools.items)) result.end result.disk }
 {
     let meter = Meter::new(bounds);
@@ -363,6 +363,7 @@ where
     requires recovered { IsTrue D.honest → Recovers (D.seen begun.library.disk) begun.library.units }
     requires named { IsTrue D.honest → begun.library.units ≡ N.base }
     requires past { IsTrue D.honest → IsPast D.Disk N.from N.left begun.library.disk }
+    requires failures { N.failures ≡ D.failures begun.library.disk }
     requires some { 1 ≤ workers }
     requires few { workers ≤ 8 }
     ensures { let before = map (given_by S.taken S.ended) spools.items in let after = map (given_by S.taken S.ended) result.spools.items in

@@ -28,7 +28,8 @@ fn stands_of(fault: &ServiceFault) -> Stands<'_>
         | ServiceFault::WorkersGone
         | ServiceFault::ImageTooLarge
         | ServiceFault::Book(_)
-        | ServiceFault::OutOfMemory => Stands::Nowhere,
+        | ServiceFault::OutOfMemory
+        | ServiceFault::Changed(_) => Stands::Nowhere,
     }
 }
 

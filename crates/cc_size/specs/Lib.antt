@@ -1,5 +1,3 @@
--- cycles of calls
-pub mod Cycles
 -- what the functions of a unit take, and its image
 pub mod Size
 -- that so much is enough

@@ -10,7 +10,6 @@ ghost use Rattle.cc_size.specs.Size.{IsSize};
 ghost use Rattle.cc_size.specs.Sized.{IsSizedIn};
 
 use crate::needs::needs;
-use crate::recursion::recursions;
 use crate::size::{Sized, UnitSize};
 use crate::tables::{entry, frames, ones, sizes};
 use cc_emit::Piece;
@@ -59,12 +58,10 @@ fn measured(
         stacks.as_slice(),
         calls.as_slice(),
     )?;
-    let recursions = recursions(alloc, ordered.as_slice())?;
     Ok(UnitSize {
         functions,
         code: image.code.words().len(),
         globals: 4 * image.globals.words().len(),
-        recursions,
         calls: entry(calls.as_slice(), main),
         stack: entry(stacks.as_slice(), main),
     })

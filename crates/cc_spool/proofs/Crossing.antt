@@ -30,7 +30,7 @@ job_send R W s t = search (sendable, crosses) depth 20
 pub spool_send : (R W : RattleType) → IsSend R → IsSend W → IsSend (MemorySpool.the_row R W)
 spool_send R W s t =
     recorded_send _ _ _ (MemorySpool.the_type R W).to_one (struct_send (shape (MemorySpool.the_type R W))
-    (search (sendable, crosses) depth 20, (let a = answered_send W t in search (sendable, crosses) depth 20, (history_send (Tuple (R ∷ W ∷ [])) (job_send R W s t), (history_send (Answered.the_row W) (answered_send W t), (search (sendable, crosses) depth 20, (search (sendable, crosses) depth 20, tt)))))))
+    (search (sendable, crosses) depth 20, (let a = answered_send W t in search (sendable, crosses) depth 20, (history_send (Tuple (R ∷ W ∷ [])) (job_send R W s t), (history_send (Answered.the_row W) (answered_send W t), (search (sendable, crosses) depth 20, (search (sendable, crosses) depth 20, (search (sendable, crosses) depth 20, tt))))))))
 
 found_send : IsSend Found.the_row
 found_send = search (sendable, crosses) depth 20
@@ -50,4 +50,4 @@ queue_send = struct_send (shape Queue.the_type) (let l = layout_send in search (
 pub folder_send : IsSend FolderSpool.the_row
 folder_send =
     recorded_send _ _ _ FolderSpool.the_type.to_one (struct_send (shape FolderSpool.the_type)
-    (queue_send, (search (sendable, crosses) depth 20, (history_send (Option.the_row u32) end_send, (search (sendable, crosses) depth 20, tt)))))
+    (queue_send, (search (sendable, crosses) depth 20, (history_send (Option.the_row u32) end_send, (search (sendable, crosses) depth 20, (search (sendable, crosses) depth 20, tt))))))

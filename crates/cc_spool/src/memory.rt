@@ -19,13 +19,15 @@ pub struct Answered<W: Drop> {
 }
 
 /// A spool in memory, for tests and for runs that need no folder: the scripts of a list, each behind a reader, with the writer of its
-/// answer. It is over when all are taken.
+/// answer. It gives one at a time, and is over when all are taken.
 #[derive(Drop)]
 pub struct MemorySpool<R: Drop, W: Drop> {
     waiting: VecDeque<(R, W)>,
     answered: Vec<Answered<W>>,
     taken: History<(R, W)>,
     ended: History<Answered<W>>,
+    // Whether a script was taken whose answer was not handed over yet.
+    in_hand: bool,
     // What it answers of the script that is being done.
     is_long: bool,
     is_awaited: bool,
@@ -40,6 +42,7 @@ impl<R: Read + Drop + Send, W: Write + Drop + Send> MemorySpool<R, W> {
         ensures ended { IfOk result (λ spool. spool.ended.items ≡ []) }
         ensures none { IfOk result (λ spool. spool.answered.items ≡ []) }
         ensures room { IfOk result (λ spool. vec_len scripts ≤ vec_capacity spool.answered) }
+        ensures idle { IfOk result (λ spool. spool.in_hand ≡ false) }
     {
         let answered = Vec::with_capacity(alloc, scripts.len())?;
         Ok(MemorySpool {
@@ -47,6 +50,7 @@ impl<R: Read + Drop + Send, W: Write + Drop + Send> MemorySpool<R, W> {
             answered,
             taken: History::new(),
             ended: History::new(),
+            in_hand: false,
             is_long: false,
             is_awaited: false,
         })
@@ -58,6 +62,7 @@ impl<R: Read + Drop + Send, W: Write + Drop + Send> MemorySpool<R, W> {
         ensures answered { self.new.answered ≡ self.old.answered }
         ensures taken { self.new.taken ≡ self.old.taken }
         ensures ended { self.new.ended ≡ self.old.ended }
+        ensures idle { self.new.in_hand ≡ self.old.in_hand }
         ensures long { self.new.is_long ≡ is_long }
         ensures awaited { self.new.is_awaited ≡ is_awaited }
     {
@@ -82,6 +87,8 @@ impl<R: Read + Drop + Send, W: Write + Drop + Send> Spool for MemorySpool<R, W> 
 
     ghost ended = { λ s. map (λ a. delivered_as (W.contents a.answer) a.fault) s.ended.items };
 
+    ghost idle = { λ s. s.in_hand ≡ false };
+
     // All its scripts were taken.
     ghost over = { λ s. s.waiting.items ≡ [] };
 
@@ -89,6 +96,7 @@ impl<R: Read + Drop + Send, W: Write + Drop + Send> Spool for MemorySpool<R, W> 
         ensures said { result ≡ true → self.new.waiting.items ≡ [] }
         ensures taken { map (λ job. taken_as (R.remaining job.0) (W.contents job.1)) self.new.taken.items ≡ map (λ job. taken_as (R.remaining job.0) (W.contents job.1)) self.old.taken.items }
         ensures ended { map (λ a. delivered_as (W.contents a.answer) a.fault) self.new.ended.items ≡ map (λ a. delivered_as (W.contents a.answer) a.fault) self.old.ended.items }
+        ensures idle { self.new.in_hand ≡ false → self.old.in_hand ≡ false }
         ensures same { self.new ≡ self.old }
         ensures more { result ≡ false → self.old.waiting.items ≢ [] }
     {
@@ -101,11 +109,17 @@ impl<R: Read + Drop + Send, W: Write + Drop + Send> Spool for MemorySpool<R, W> 
         ensures none { IfNone result (map (λ job. taken_as (R.remaining job.0) (W.contents job.1)) self.new.taken.items ≡ map (λ job. taken_as (R.remaining job.0) (W.contents job.1)) self.old.taken.items) }
         ensures ended { map (λ a. delivered_as (W.contents a.answer) a.fault) self.new.ended.items ≡ map (λ a. delivered_as (W.contents a.answer) a.fault) self.old.ended.items }
         ensures first { IfSome result (λ job. self.old.waiting.items ≡ job ∷ self.new.waiting.items) }
-        ensures over { IfNone result (self.old.waiting.items ≡ []) }
+        ensures over { IfNone result (self.old.in_hand ≡ false → self.old.waiting.items ≡ []) }
+        ensures turn { IfSome result (λ _. (self.old.in_hand ≡ false) × (self.new.in_hand ≢ false)) }
+        ensures idle { IfNone result (self.new.in_hand ≡ false → self.old.in_hand ≡ false) }
         ensures answered { self.new.answered ≡ self.old.answered }
     {
+        if self.in_hand {
+            return None;
+        }
         let job = self.waiting.pop_front()?;
         self.taken = self.taken.and(&job);
+        self.in_hand = true;
         Some(job)
     }
 
@@ -126,6 +140,7 @@ impl<R: Read + Drop + Send, W: Write + Drop + Send> Spool for MemorySpool<R, W> 
         ensures ended { map (λ a. delivered_as (W.contents a.answer) a.fault) self.new.ended.items
             ≡ map (λ a. delivered_as (W.contents a.answer) a.fault) self.old.ended.items ++ delivered_as (W.contents answer) fault ∷ [] }
         ensures waiting { self.new.waiting ≡ self.old.waiting }
+        ensures idle { self.new.in_hand ≡ false }
         ensures answered { vec_len self.old.answered < vec_capacity self.old.answered
             → self.new.answered.items ≡ self.old.answered.items ++ record { answer = answer; fault = fault } ∷ [] }
         ensures capacity { vec_capacity self.old.answered ≤ vec_capacity self.new.answered }
@@ -133,6 +148,7 @@ impl<R: Read + Drop + Send, W: Write + Drop + Send> Spool for MemorySpool<R, W> 
         drop(script);
         let answered = Answered { answer, fault };
         self.ended = self.ended.and(&answered);
+        self.in_hand = false;
         // There is room for as many answers as there were scripts. One more than that is dropped where memory is refused.
         let _ = self.answered.push(answered);
     }

@@ -7,8 +7,8 @@ use std::io::{Read, Write};
 
 /// Where the scripts of one client come from, and where their answers go.
 ///
-/// The client asks whether more is to be taken, takes a script, writes its answer, hands the answer over, and asks again. Each method
-/// returns after a moment: `next` waits where no script is there, for 64 ms at most, and the others do not wait.
+/// The client asks whether more is to be taken, takes a script, writes its answer, hands the answer over, and asks again. It has one script in
+/// hand at most: `next` gives none before the answer of the last one was handed over. Each method returns after a moment: `next` waits where no script is there, for 64 ms at most, and the others do not wait.
 pub trait Spool {
     /// What a script is read from.
     type Script: Read + Drop + Send;
@@ -23,19 +23,26 @@ pub trait Spool {
     /// ended its script, 51 to 54 or 61, if one did.
     ghost ended: { Self → List Delivered };
 
+    /// No script is in hand: the answer of the last one that was taken was handed over.
+    ghost idle: { Self → Type 0 };
+
     /// It has said that no more is to be taken.
     ghost over: { Self → Type 0 };
 
     /// Whether no more is to be taken.
     fn is_over(&mut self) -> bool
         ensures said { result ≡ true → over self.new }
+        ensures idle { idle self.new → idle self.old }
         ensures taken { taken self.new ≡ taken self.old }
         ensures ended { ended self.new ≡ ended self.old };
 
-    /// The next script, and what its answer is to be written to; none where none came within 64 ms.
+    /// The next script, and what its answer is to be written to; none where none came within 64 ms, or one is in hand.
     fn next(&mut self) -> Option<(Self::Script, Self::Answer)>
         ensures taken { IfSome result (λ job. taken self.new ≡ taken self.old ++ taken_as (Self.Script.remaining job.0) (Self.Answer.contents job.1) ∷ []) }
         ensures none { IfNone result (taken self.new ≡ taken self.old) }
+        // One after the other: none is in hand before, and this one is then.
+        ensures turn { IfSome result (λ _. idle self.old × (¬ idle self.new)) }
+        ensures idle { IfNone result (idle self.new → idle self.old) }
         ensures ended { ended self.new ≡ ended self.old };
 
     /// Whether the script that is being done has been at work for as long as a script may while others wait. It is asked after each line,

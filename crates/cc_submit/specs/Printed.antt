@@ -1,7 +1,7 @@
 -- What is printed of the answer to a script that was sent, and the status.
 use Rattle.std.specs.Prelude.{◌≡◌, ◌⊎◌, ◌||◌, ℕ, Bool, true, false, IsTrue, List, [], ◌∷◌, ◌++◌, Option, Some, None, codes}
 use Rattle.std.specs.Io.KnownBytes.{Appends}
-use Rattle.cc_script.specs.Line.{ScriptRequest, Add, Replace, Withdraw, Names, Run, Compact, Audit, Image, Source, asked_of}
+use Rattle.cc_script.specs.Line.{ScriptRequest, Add, Replace, Withdraw, Names, Run, Compact, Audit, Image, Source, AuditOne, Update, Call, asked_of}
 use Rattle.cc_script.specs.declared.command.Dialect.TheVariants.{Served}
 use Rattle.cc_spool.specs.Answer.{framed}
 use Rattle.cc_spool.specs.Parts.{TellsFault}
@@ -11,18 +11,26 @@ use Rattle.cc_submit.specs.declared.submitting.Ended.{Ended}
 
 -- ---- what is sent
 
--- a line that has a source after it
-abbrev pub has_source : Option ScriptRequest → Bool
-has_source None = false
-has_source (Some (Add name length)) = true
-has_source (Some (Replace name length)) = true
-has_source (Some (Withdraw name)) = false
-has_source (Some Names) = false
-has_source (Some (Run name steps)) = false
-has_source (Some Compact) = false
-has_source (Some Audit) = false
-has_source (Some (Image name)) = false
-has_source (Some (Source name)) = false
+-- a line that has a source after it, or input words
+abbrev pub has_bytes : Option ScriptRequest → Bool
+has_bytes None = false
+has_bytes (Some (Add name length)) = true
+has_bytes (Some (Replace name length)) = true
+has_bytes (Some (Withdraw name)) = false
+has_bytes (Some Names) = false
+has_bytes (Some (Run name steps)) = false
+has_bytes (Some Compact) = false
+has_bytes (Some Audit) = false
+has_bytes (Some (Image name)) = false
+has_bytes (Some (Source name)) = false
+has_bytes (Some (AuditOne name)) = false
+has_bytes (Some (Update name expected length)) = false
+has_bytes (Some (Call name steps length)) = true
+
+-- one that has two sources after it
+abbrev pub has_two_sources : Option ScriptRequest → Bool
+has_two_sources (Some (Update name expected length)) = true
+has_two_sources asked = false
 
 -- a line that is a whole command
 abbrev pub is_whole : Option ScriptRequest → Bool
@@ -36,16 +44,20 @@ is_whole (Some Compact) = true
 is_whole (Some Audit) = true
 is_whole (Some (Image name)) = true
 is_whole (Some (Source name)) = true
+is_whole (Some (AuditOne name)) = true
+is_whole (Some (Update name expected length)) = false
+is_whole (Some (Call name steps length)) = false
 
 -- a line whose answer is a source
 abbrev pub asks_source : Option ScriptRequest → Bool
 asks_source (Some (Source name)) = true
 asks_source asked = false
 
--- A line is a command if it is whole, or is one once the number of a source's bytes comes after it. None is a script from standard input.
+-- A line is a command if it is whole, or is one once the number of bytes comes after it that follow it, or two such numbers. None is a script from standard input.
 abbrev pub is_command : (line : Option (List ℕ)) → Bool
 is_command None = true
-is_command (Some line) = is_whole (asked_of Served line) || has_source (asked_of Served (line ++ codes " 0"))
+is_command (Some line) =
+    is_whole (asked_of Served line) || (has_bytes (asked_of Served (line ++ codes " 0")) || has_two_sources (asked_of Served (line ++ codes " 0 0")))
 
 -- the line, if one is sent and not a script from standard input, asks for a source
 abbrev pub fetches : (line : Option (List ℕ)) → Bool

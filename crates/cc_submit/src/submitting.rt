@@ -1,11 +1,11 @@
 // A script that is left for a server, and what became of it.
 
-ghost use Rattle.std.specs.Prelude.{◌≡◌, ◌++◌, ◌∷◌, [], IfOk, codes, string_bytes};
+ghost use Rattle.std.specs.Prelude.{◌≡◌, ◌++◌, ◌∷◌, [], false, IfOk, OnErr, codes, string_bytes};
 ghost use Rattle.std.specs.Option.{option_map};
 ghost use Rattle.cc_script.specs.Line.{asked_of};
 ghost use Rattle.cc_spool.specs.Submitted.{HasWrittenIfOk};
 ghost use Rattle.cc_script.specs.declared.command.Dialect.TheVariants.{Served};
-ghost use Rattle.cc_submit.specs.Printed.{Prints, PrintsWell, Says, SaysRefused, Submits, asks_source, fetches, has_source, is_command, is_whole};
+ghost use Rattle.cc_submit.specs.Printed.{Prints, PrintsWell, Says, SaysRefused, Submits, asks_source, fetches, has_bytes, has_two_sources, is_command, is_whole};
 ghost use Rattle.cc_submit.specs.internal.Finished.{Ends, Finishes, FinishesFault, FinishesSource, FinishesWell, came_of, status_of};
 ghost use Rattle.cc_submit.specs.internal.Sent.{is_fetch};
 
@@ -52,20 +52,34 @@ enum Sent<'a> {
     Line(Vec<u8>),
     // The same, whose answer is a source.
     Fetch(Vec<u8>),
-    // A line with its source, how many bytes the line has, and where the source comes from.
+    // A line with its source, how many bytes come before that, and where the source comes from.
     Source(Vec<u8>, usize, Origin<'a>),
 }
 
-// Whether a line takes a source: it is one with a length behind it.
-fn takes_source(alloc: Global, line: &str) -> Result<bool, AllocError>
-    ensures { IfOk result (λ takes. takes ≡ has_source (asked_of Served (line.now ++ 32 ∷ 48 ∷ []))) }
+// Whether a line takes a source, or input words: it is one with a length behind it.
+fn takes_bytes(alloc: Global, line: &str) -> Result<bool, AllocError>
+    ensures { IfOk result (λ takes. takes ≡ has_bytes (asked_of Served (line.now ++ 32 ∷ 48 ∷ []))) }
 {
     let mut with_length = Vec::new(alloc);
     with_length.extend_from_slice(line.as_bytes())?;
     with_length.extend_from_slice(b" 0")?;
     Ok(match command_of(Dialect::Served, with_length.as_slice()) {
         Some(ScriptCommand::Add { name: _, length: _ })
-        | Some(ScriptCommand::Replace { name: _, length: _ }) => true,
+        | Some(ScriptCommand::Replace { name: _, length: _ })
+        | Some(ScriptCommand::Call { .. }) => true,
+        _ => false,
+    })
+}
+
+// Whether a line takes two sources: it is one with two lengths behind it.
+fn takes_two_sources(alloc: Global, line: &str) -> Result<bool, AllocError>
+    ensures { IfOk result (λ takes. takes ≡ has_two_sources (asked_of Served (line.now ++ 32 ∷ 48 ∷ 32 ∷ 48 ∷ []))) }
+{
+    let mut with_lengths = Vec::new(alloc);
+    with_lengths.extend_from_slice(line.as_bytes())?;
+    with_lengths.extend_from_slice(b" 0 0")?;
+    Ok(match command_of(Dialect::Served, with_lengths.as_slice()) {
+        Some(ScriptCommand::Update { .. }) => true,
         _ => false,
     })
 }
@@ -77,12 +91,15 @@ fn is_whole(line: &str) -> bool
     match command_of(Dialect::Served, line.as_bytes()) {
         Some(ScriptCommand::Add { name: _, length: _ })
         | Some(ScriptCommand::Replace { name: _, length: _ })
+        | Some(ScriptCommand::Update { .. })
+        | Some(ScriptCommand::Call { .. })
         | None => false,
         Some(_) => true,
     }
 }
 
-// Whether it is a script from standard input, or a line that is a command, with how many bytes of a source come after it if it takes one.
+// Whether it is a script from standard input, or a line that is a command, with how many bytes of sources or of input words come after it if it
+// takes them.
 fn is_command(alloc: Global, line: Option<&str>) -> Result<bool, AllocError>
     ensures { IfOk result (λ is. is ≡ is_command (option_map (λ l. l.now) line.entry)) }
 {
@@ -92,7 +109,10 @@ fn is_command(alloc: Global, line: Option<&str>) -> Result<bool, AllocError>
     if is_whole(line) {
         return Ok(true);
     }
-    takes_source(alloc, line)
+    if takes_bytes(alloc, line)? {
+        return Ok(true);
+    }
+    takes_two_sources(alloc, line)
 }
 
 // Whether the answer to a line is a source.
@@ -137,11 +157,67 @@ fn source_on_input<R: Input>(rt: &R, alloc: Global) -> io::Result<Vec<u8>> {
     Ok(source)
 }
 
-// What is sent of a line that is a command.
+// What is sent of a line with input words.
+fn words_after<'a>(alloc: Global, line: &str, words: &str) -> io::Result<Sent<'a>>
+    ensures { IfOk result (λ sent. is_fetch sent ≡ false) }
+{
+    let text = format!(in alloc; "{line} {}\n{words}\n", words.len())?;
+    let mut bytes = Vec::new(alloc);
+    bytes.extend_from_slice(text.as_bytes())?;
+    Ok(Sent::Line(bytes))
+}
+
+// What is sent of a line with a source.
+fn source_after<'a, R: Input>(
+    rt: &R,
+    alloc: Global,
+    line: &str,
+    origin: Origin<'a>,
+) -> io::Result<Sent<'a>>
+    ensures { IfOk result (λ sent. is_fetch sent ≡ false) }
+{
+    let mut bytes = Vec::new(alloc);
+    let source = source(rt, alloc, origin)?;
+    let text = format!(in alloc; "{line} {}\n", source.len())?;
+    bytes.extend_from_slice(text.as_bytes())?;
+    let begin = bytes.len();
+    bytes.extend_from_slice(source.as_slice())?;
+    bytes.push(b'\n')?;
+    Ok(Sent::Source(bytes, begin, origin))
+}
+
+// What is sent of a line with the source that is expected, if there is one, and a source.
+fn sources_after<'a, R: Input>(
+    rt: &R,
+    alloc: Global,
+    line: &str,
+    expected: Option<&[u8]>,
+    origin: Origin<'a>,
+) -> io::Result<Sent<'a>>
+    ensures { IfOk result (λ sent. is_fetch sent ≡ false) }
+{
+    let Some(expected) = expected else {
+        return Err(io::Error::from(io::ErrorKind::InvalidInput));
+    };
+    let mut bytes = Vec::new(alloc);
+    let source = source(rt, alloc, origin)?;
+    let text = format!(in alloc; "{line} {} {}\n", expected.len(), source.len())?;
+    bytes.extend_from_slice(text.as_bytes())?;
+    bytes.extend_from_slice(expected)?;
+    bytes.push(b'\n')?;
+    let begin = bytes.len();
+    bytes.extend_from_slice(source.as_slice())?;
+    bytes.push(b'\n')?;
+    Ok(Sent::Source(bytes, begin, origin))
+}
+
+// What is sent of a line that is a command, with its input words or the source that it expects, if it has one of these.
 fn sent_of<'a, R: Input>(
     rt: &R,
     alloc: Global,
     line: Option<&str>,
+    words: Option<&str>,
+    expected: Option<&[u8]>,
     origin: Origin<'a>,
 ) -> io::Result<Sent<'a>>
     ensures fetch { IfOk result (λ sent. is_fetch sent ≡ fetches (option_map (λ l. l.now) line.entry)) }
@@ -155,14 +231,14 @@ fn sent_of<'a, R: Input>(
         bytes.push(b'\n')?;
         return Ok(Sent::Fetch(bytes));
     }
-    if takes_source(alloc, line)? {
-        let source = source(rt, alloc, origin)?;
-        let text = format!(in alloc; "{line} {}\n", source.len())?;
-        bytes.extend_from_slice(text.as_bytes())?;
-        let begin = bytes.len();
-        bytes.extend_from_slice(source.as_slice())?;
-        bytes.push(b'\n')?;
-        return Ok(Sent::Source(bytes, begin, origin));
+    if takes_two_sources(alloc, line)? {
+        return sources_after(rt, alloc, line, expected, origin);
+    }
+    if takes_bytes(alloc, line)? {
+        return match words {
+            Some(words) => words_after(alloc, line, words),
+            None => source_after(rt, alloc, line, origin),
+        };
     }
     bytes.extend_from_slice(line.as_bytes())?;
     bytes.push(b'\n')?;
@@ -519,18 +595,21 @@ fn leave<R: AllocGlobal + Input, W: Write, E: Write + Drop>(
 
 /// Leaves a script for the server of a folder, and writes its answer; what came of it and the status: 0 if an answer came, was written whole
 /// and tells no fault, 2 if the line is no command, else 1. Of an answer that is a source its bytes alone are written. The source of a line that
-/// takes one is in the texts, or on standard input. The error is lack of memory before it began.
+/// takes one is in the texts, or on standard input; that which an update expects is given, else it is one that can't be read. The error is lack
+/// of memory before it began.
 pub fn submit_to<R: AllocGlobal + Input, W: Write, E: Write + Drop>(
     rt: &R,
     layout: &FolderLayout,
     process: u32,
     asked: &Submitter,
+    expected: Option<&[u8]>,
     origin: Origin<'_>,
     persons: Persons,
     writer: &mut W,
     told: &mut Telling<E>,
 ) -> Result<Ended, AllocError>
-    ensures { IfOk result (λ ended. Submits (option_map string_bytes asked.now.line) (W.contents writer.old) (W.contents writer.new) ended) }
+    ensures submits { IfOk result (λ ended. Submits (option_map string_bytes asked.now.line) (W.contents writer.old) (W.contents writer.new) ended) }
+    ensures unwritten { OnErr result (W.contents writer.new ≡ W.contents writer.old) }
 {
     let line = match &asked.line {
         Some(line) => Some(line.as_str()),
@@ -544,7 +623,11 @@ pub fn submit_to<R: AllocGlobal + Input, W: Write, E: Write + Drop>(
             is_written: true,
         });
     }
-    let sent = match sent_of(rt, rt.alloc(), line, origin) {
+    let words = match &asked.input {
+        Some(words) => Some(words.as_str()),
+        None => None,
+    };
+    let sent = match sent_of(rt, rt.alloc(), line, words, expected, origin) {
         Ok(sent) => sent,
         Err(why) if why.kind() == io::ErrorKind::OutOfMemory => return Err(AllocError),
         Err(_) => {
@@ -593,12 +676,28 @@ pub fn submit_script<R: AllocGlobal + Input + Print, E: Write + Drop>(
     } else {
         Origin::Texts(texts.as_slice())
     };
+    let mut before = Vec::new(alloc);
+    if let Some(name) = &asked.was {
+        before.push(name.clone()?)?;
+    }
+    let before = before.as_slice();
+    let Some(found) = read_or_refuse(rt, files, before, &mut writer, &mut told)? else {
+        return Ok(1);
+    };
+    let mut was = join(alloc, found.as_slice())?;
+    was.truncate(MOST_SOURCE);
+    let expected = if found.is_empty() {
+        None
+    } else {
+        Some(was.as_slice())
+    };
     let layout = FolderLayout::new(*files, alloc, asked.folder.as_str())?;
     let ended = submit_to(
         rt,
         &layout,
         process,
         asked,
+        expected,
         origin,
         persons,
         &mut writer,

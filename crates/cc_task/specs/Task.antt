@@ -1,7 +1,7 @@
 -- What the program may be asked to do with a text.
 use Rattle.std.specs.Prelude.{◌≤◌, ℕ}
 use Rattle.cc_task.specs.declared.task.Task.{Task}
-use Rattle.cc_task.specs.declared.task.Task.TheVariants.{Check, Interpret, Run, Asm, Image, Size}
+use Rattle.cc_task.specs.declared.task.Task.TheVariants.{Check, Interpret, Run, InterpretCounted, RunCounted, Asm, Image, Size, Safe}
 
 -- how many steps a run may take, or instructions
 abbrev pub most_steps : ℕ
@@ -11,6 +11,9 @@ abbrev pub IsWithinLimits : Task → Type 0
 IsWithinLimits Check = Unit {0}
 IsWithinLimits (Interpret steps words) = steps ≤ most_steps
 IsWithinLimits (Run kind steps words) = steps ≤ most_steps
+IsWithinLimits (InterpretCounted steps words) = steps ≤ most_steps
+IsWithinLimits (RunCounted kind steps words) = steps ≤ most_steps
 IsWithinLimits (Asm kind) = Unit {0}
 IsWithinLimits (Image kind) = Unit {0}
 IsWithinLimits (Size kind) = Unit {0}
+IsWithinLimits Safe = Unit {0}

@@ -21,10 +21,16 @@ pub enum Task {
     Interpret(u64, Vec<u32>),
     /// Compile the program and run its image for at most this many instructions on these input words.
     Run(Kind, u64, Vec<u32>),
+    /// As `Interpret`, and count the steps.
+    InterpretCounted(u64, Vec<u32>),
+    /// As `Run`, and count the instructions.
+    RunCounted(Kind, u64, Vec<u32>),
     /// Compile the program and list its image.
     Asm(Kind),
     /// Compile the program and write its image as Intel HEX.
     Image(Kind),
     /// Compile the program and say what its image takes.
     Size(Kind),
+    /// Say whether the program can't go wrong.
+    Safe,
 }

@@ -1,9 +1,6 @@
 -- What the program answers of a text.
-use Rattle.std.specs.Prelude.{ℕ, ◌≡◌, ◌+◌, ◌*◌, List, length, take, slice_get, Some, sum_by}
-use Rattle.std.specs.Arc.{arc_value}
-use Rattle.cc_ast.specs.Source.{source}
+use Rattle.std.specs.Prelude.{ℕ, ◌≡◌, true, List, []}
 use Rattle.cc_ast.specs.Tree.{Source}
-use Rattle.cc_types.specs.Typed.{defined_names}
 use Rattle.cc_c_laws.specs.Meaning.{source_behavior}
 use Rattle.cc_c_laws.specs.declared.mode.Mode.{Mode}
 use Rattle.cc_c_laws.specs.declared.mode.Mode.TheVariants as mode
@@ -17,16 +14,16 @@ use Rattle.cc_link.specs.Agree.{Agree, AgreeIn}
 use Rattle.cc_link.specs.Compile.{IsBuildRefusalIn}
 use Rattle.cc_link.specs.Text.{IsProgramText, IsTextRefusal}
 use Rattle.cc_link.specs.declared.build_fault.BuildFault.TheVariants as build
-use Rattle.cc_size.specs.Sized.{IsSizedIn}
-use Rattle.cc_size.specs.declared.size.FunctionSize.{FunctionSize}
+use Rattle.cc_findings.specs.Measured.{Measures}
+use Rattle.cc_runs.specs.Count.{IsCounted}
+use Rattle.cc_safe.specs.Safe.{IsSafe}
+use Rattle.cc_steps.specs.Count.{IsStepCount}
 use Rattle.cc_task.specs.declared.task.Kind.{Kind}
 use Rattle.cc_task.specs.declared.task.Kind.TheVariants.{Plain, Checked}
 use Rattle.cc_task.specs.declared.task.Task.{Task}
-use Rattle.cc_task.specs.declared.task.Task.TheVariants.{Check, Interpret, Run, Asm, Image as ImageTask, Size}
+use Rattle.cc_task.specs.declared.task.Task.TheVariants.{Check, Interpret, Run, InterpretCounted, RunCounted, Asm, Image as ImageTask, Size, Safe}
 use Rattle.cc_tasks.specs.declared.answer.Answer.{Answer}
-use Rattle.cc_tasks.specs.declared.answer.Answer.TheVariants.{Accepted, Ran, Executed, Listed, Image as InHex, Sized as Measured}
-use Rattle.cc_tasks.specs.declared.sizing.Measure.{Measure}
-use Rattle.cc_tasks.specs.declared.sizing.SizedFunction.{SizedFunction}
+use Rattle.cc_tasks.specs.declared.answer.Answer.TheVariants.{Accepted, Ran, Executed, RanCounted, ExecutedCounted, Listed, Image as InHex, Sized as Measured, Judged}
 use Rattle.cc_tasks.specs.declared.fault.Fault.{Fault}
 use Rattle.cc_tasks.specs.declared.fault.Fault.TheVariants.{Text, Meaning, Piece, Link, UnknownFunction, OutOfMemory, Read, Write}
 
@@ -46,23 +43,26 @@ abbrev pub IsRan : (steps : ℕ) → (words text : List ℕ) → Answer → Type
 IsRan steps words text (Ran o) = (p : ProgramOf text) × (outcome_tree o ≡ source_behavior p.program words steps)
 IsRan steps words text answer = ⊥
 
--- the mode of an image, and of a task
+-- the mode of an image
 abbrev pub mode_of : Kind → Mode
 mode_of Plain = mode.Plain
 mode_of Checked = mode.Checked
-
-abbrev pub mode_for : Task → Mode
-mode_for Check = mode.Plain
-mode_for (Interpret steps words) = mode.Plain
-mode_for (Run kind steps words) = mode_of kind
-mode_for (Asm kind) = mode_of kind
-mode_for (ImageTask kind) = mode_of kind
-mode_for (Size kind) = mode_of kind
 
 -- what `run` answers: what an image does that agrees with the text, and follows what its program shows in the mode
 abbrev pub IsExecuted : Mode → (steps : ℕ) → (words text : List ℕ) → Answer → Type 0
 IsExecuted m steps words text (Executed done) = (image : Image) × Agree text image × AgreeIn m text image × IsRunOf image steps words done
 IsExecuted m steps words text answer = ⊥
+
+-- what `interpret --count` answers: what the program does within the steps, and the least number of steps with that end
+abbrev pub IsRanCounted : (steps : ℕ) → (words text : List ℕ) → Answer → Type 0
+IsRanCounted steps words text (RanCounted done) =
+    (p : ProgramOf text) × (outcome_tree done.outcome ≡ source_behavior p.program words steps) × IsStepCount p.program steps words done.steps
+IsRanCounted steps words text answer = ⊥
+
+-- what `run --count` answers: what such an image does, and the least number of instructions with that end
+abbrev pub IsExecutedCounted : Mode → (steps : ℕ) → (words text : List ℕ) → Answer → Type 0
+IsExecutedCounted m steps words text (ExecutedCounted done) = (image : Image) × Agree text image × AgreeIn m text image × IsCounted image true steps words done
+IsExecutedCounted m steps words text answer = ⊥
 
 -- what `asm` answers: the listing of such an image
 abbrev pub IsListed : Mode → (text : List ℕ) → Answer → Type 0
@@ -80,46 +80,58 @@ abbrev pub IsImage : Mode → (text : List ℕ) → Answer → Type 0
 IsImage m text (InHex lines) = (image : Image) × Agree text image × AgreeIn m text image × IsHex lines.items image
 IsImage m text answer = ⊥
 
--- the first function is behind the three words that call main and exit, and each other one is behind the one before
-abbrev pub place_by : List FunctionSize → (f : ℕ) → ℕ
-place_by sizes f = 0x1000c + 4 * sum_by (λ (size : FunctionSize). size.words) (take f sizes)
-
--- function f of a program's image: its name, where it is, and what it takes
-pub record IsFunction (program : Source) (sizes : List FunctionSize) (f : ℕ) (it : SizedFunction) : Type 0 where
-  pub name : slice_get (defined_names program) f ≡ Some it.name.items
-  pub size : slice_get sizes f ≡ Some it.size
-  pub address : it.address ≡ place_by sizes f
-
--- all functions of the image, in the order of their definitions
-pub record AreFunctions (program : Source) (sizes : List FunctionSize) (functions : List SizedFunction) : Type 0 where
-  pub count : length functions ≡ length sizes
-  pub each : (f : ℕ) (one : SizedFunction) → slice_get functions f ≡ Some one → IsFunction program sizes f one
-
--- what `size` answers: what an image takes that follows what the text's program shows in the mode, and of each function where it is
-pub record Measures (m : Mode) (text : List ℕ) (it : Measure) : Type 0 where
-  pub sized : IsSizedIn m text it.sized
-  pub functions : AreFunctions (source (arc_value it.sized.made.typed)) it.sized.size.functions.items it.functions.items
-
+-- what `size` answers: what such an image takes
 abbrev pub IsMeasured : Mode → (text : List ℕ) → Answer → Type 0
 IsMeasured m text (Measured it) = Measures m text it
 IsMeasured m text answer = ⊥
+
+-- what `safe` answers: if nothing may go wrong, that the program goes wrong for no cause, on no input and at no bound
+abbrev pub IsJudged : (text : List ℕ) → Answer → Type 0
+IsJudged text (Judged lines) = (p : ProgramOf text) × (lines.items ≡ [] → IsSafe p.program)
+IsJudged text answer = ⊥
 
 -- the answer to a task for a text
 abbrev pub Answers : Task → (text : List ℕ) → Answer → Type 0
 Answers Check text answer = IsAccepted text answer
 Answers (Interpret steps words) text answer = IsRan steps words.items text answer
 Answers (Run kind steps words) text answer = IsExecuted (mode_of kind) steps words.items text answer
+Answers (InterpretCounted steps words) text answer = IsRanCounted steps words.items text answer
+Answers (RunCounted kind steps words) text answer = IsExecutedCounted (mode_of kind) steps words.items text answer
 Answers (Asm kind) text answer = IsListed (mode_of kind) text answer
 Answers (ImageTask kind) text answer = IsImage (mode_of kind) text answer
 Answers (Size kind) text answer = IsMeasured (mode_of kind) text answer
+Answers Safe text answer = IsJudged text answer
 
--- why a text gets no answer: it is no program's, it has no image in the mode, or memory was refused
-abbrev pub IsRefused : Mode → List ℕ → Fault → Type 0
-IsRefused m text (Text f) = IsTextRefusal text f
-IsRefused m text (Meaning f) = Unit {0}
-IsRefused m text (Piece f) = IsBuildRefusalIn m text (build.Piece f)
-IsRefused m text (Link f) = IsBuildRefusalIn m text (build.Link f)
-IsRefused m text UnknownFunction = ⊥
-IsRefused m text OutOfMemory = Unit {0}
-IsRefused m text Read = ⊥
-IsRefused m text Write = ⊥
+-- why a text gets no answer for which no image is made: it is no program's, or memory was refused
+abbrev pub HasNoProgram : (text : List ℕ) → Fault → Type 0
+HasNoProgram text (Text f) = IsTextRefusal text f
+HasNoProgram text (Meaning f) = Unit {0}
+HasNoProgram text (Piece f) = ⊥
+HasNoProgram text (Link f) = ⊥
+HasNoProgram text UnknownFunction = ⊥
+HasNoProgram text OutOfMemory = Unit {0}
+HasNoProgram text Read = ⊥
+HasNoProgram text Write = ⊥
+
+-- why it gets none for which an image is made: it is no program's, it has no image in the mode, or memory was refused
+abbrev pub HasNoImage : Mode → (text : List ℕ) → Fault → Type 0
+HasNoImage m text (Text f) = IsTextRefusal text f
+HasNoImage m text (Meaning f) = ⊥
+HasNoImage m text (Piece f) = IsBuildRefusalIn m text (build.Piece f)
+HasNoImage m text (Link f) = IsBuildRefusalIn m text (build.Link f)
+HasNoImage m text UnknownFunction = ⊥
+HasNoImage m text OutOfMemory = Unit {0}
+HasNoImage m text Read = ⊥
+HasNoImage m text Write = ⊥
+
+-- why a text gets no answer to a task
+abbrev pub IsRefused : Task → (text : List ℕ) → Fault → Type 0
+IsRefused Check text fault = HasNoProgram text fault
+IsRefused (Interpret steps words) text fault = HasNoProgram text fault
+IsRefused (Run kind steps words) text fault = HasNoImage (mode_of kind) text fault
+IsRefused (InterpretCounted steps words) text fault = HasNoProgram text fault
+IsRefused (RunCounted kind steps words) text fault = HasNoImage (mode_of kind) text fault
+IsRefused (Asm kind) text fault = HasNoImage (mode_of kind) text fault
+IsRefused (ImageTask kind) text fault = HasNoImage (mode_of kind) text fault
+IsRefused (Size kind) text fault = HasNoImage (mode_of kind) text fault
+IsRefused Safe text fault = HasNoProgram text fault

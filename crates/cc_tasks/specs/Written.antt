@@ -1,41 +1,30 @@
 -- What the program writes of a text, byte for byte, and what it has then done.
-use Rattle.std.specs.Prelude.{◌≡◌, ◌⊎◌, ℕ, List, [], ◌++◌, Option, Result, Ok, Err, Vec, codes}
+use Rattle.std.specs.Prelude.{◌≡◌, ◌⊎◌, ℕ, Bool, true, false, List, [], ◌∷◌, ◌++◌, Option, Result, Ok, Err, Vec, codes}
 use Rattle.std.specs.declared.alloc.Global.{Global}
 use Rattle.std.specs.Fmt.{decimal}
-use Rattle.std.specs.List.{flat_map}
 use Rattle.std.specs.Io.KnownBytes.{Appends}
-use Rattle.cc_c_laws.specs.declared.cause.Cause.{Cause}
-use Rattle.cc_c_laws.specs.declared.mode.Mode.{Mode}
-use Rattle.cc_c_laws.specs.declared.cause.Cause.TheVariants.{Division, Shift, Index, Depth}
 use Rattle.cc_meaning.specs.declared.outcome.Stop.{Stop}
 use Rattle.cc_meaning.specs.declared.outcome.Stop.TheVariants.{Going, Ended, Wrong}
 use Rattle.cc_meaning.specs.declared.outcome.Outcome.{Outcome}
-use Rattle.cc_rv32.specs.Listing.{hexadecimal, signed_text}
+use Rattle.cc_rv32.specs.Listing.{signed_text}
 use Rattle.cc_link.specs.Text.{text_fault_place}
 use Rattle.cc_sources.specs.Reading.{IsTextOf}
 use Rattle.cc_answers.specs.Text.{line, words_text, run_text, fault_line, place_text, function_text}
-use Rattle.cc_size.specs.declared.size.UnitSize.{UnitSize}
+use Rattle.cc_findings.specs.Written.{cause_name, judged_text, measure_text}
+use Rattle.cc_findings.specs.declared.judging.Unsure.{Unsure}
+use Rattle.cc_runs.specs.Written.{counted_text}
+use Rattle.cc_steps.specs.declared.count.CountedOutcome.{CountedOutcome}
 use Rattle.cc_task.specs.declared.task.Task.{Task}
-use Rattle.cc_tasks.specs.Answer.{Answers, IsRefused, mode_for}
+use Rattle.cc_tasks.specs.Answer.{Answers, IsRefused}
 use Rattle.cc_tasks.specs.Fault.{fault_number}
 use Rattle.cc_tasks.specs.Part.{part_fault_number}
 use Rattle.cc_tasks.specs.declared.answer.Answer.{Answer}
-use Rattle.cc_tasks.specs.declared.answer.Answer.TheVariants.{Accepted, Ran, Executed, Listed, Image, Sized}
-use Rattle.cc_tasks.specs.declared.sizing.CyclicCall.{CyclicCall}
-use Rattle.cc_tasks.specs.declared.sizing.Measure.{Measure}
-use Rattle.cc_tasks.specs.declared.sizing.SizedFunction.{SizedFunction}
+use Rattle.cc_tasks.specs.declared.answer.Answer.TheVariants.{Accepted, Ran, Executed, RanCounted, ExecutedCounted, Listed, Image, Sized, Judged}
 use Rattle.cc_tasks.specs.declared.fault.Fault.{Fault}
 use Rattle.cc_tasks.specs.declared.part.PartFault.{PartFault}
 use Rattle.cc_tasks.specs.declared.fault.Fault.TheVariants.{Text, Meaning, Piece, Link, UnknownFunction, OutOfMemory, Read, Write}
 
 -- ---- the text of an answer
-
--- why a program goes wrong
-abbrev pub cause_name : Cause → List ℕ
-cause_name Division = codes "Division"
-cause_name Shift = codes "Shift"
-cause_name Index = codes "Index"
-cause_name Depth = codes "Depth"
 
 -- how a program stops
 abbrev pub stop_text : Stop → List ℕ
@@ -47,41 +36,32 @@ stop_text (Wrong c) = line (codes "wrong " ++ cause_name c)
 abbrev pub outcome_text : Outcome → List ℕ
 outcome_text o = words_text o.output ++ stop_text o.stop
 
--- a function of an image: its name and its place; its words; its frame and the longest chain of calls from it
-abbrev pub name_text : List ℕ → List ℕ
-name_text name = name ++ codes " "
+-- the same, and the line of its steps
+abbrev pub steps_text : ℕ → List ℕ
+steps_text steps = line (codes "steps " ++ decimal steps)
 
-abbrev pub place_of_text : (name : List ℕ) (address : ℕ) → List ℕ
-place_of_text name address = name_text name ++ hexadecimal 8 address
-
-abbrev pub words_of_text : ℕ → List ℕ
-words_of_text words = codes " " ++ decimal words ++ codes " words "
-
-abbrev pub frame_text : (frame calls : ℕ) → List ℕ
-frame_text frame calls = line (codes "frame " ++ decimal frame ++ codes " calls " ++ decimal calls)
-
-abbrev pub function_size_text : SizedFunction → List ℕ
-function_size_text it = place_of_text it.name.items it.address ++ words_of_text it.size.words ++ frame_text it.size.frame it.size.calls
-
--- what the whole takes
-abbrev pub whole_size_text : UnitSize → List ℕ
-whole_size_text size = codes "code " ++ decimal size.code ++ codes "\nglobals " ++ decimal size.globals ++ codes "\nopen " ++ decimal size.calls ++ codes "\nstack " ++ decimal size.stack ++ codes "\n"
-
--- a call that is part of a cycle
-abbrev pub cycle_text : CyclicCall → List ℕ
-cycle_text it = codes "recursion " ++ name_text it.caller.items ++ line it.called.items
-
--- each function, then the whole, then the calls that are part of a cycle
-abbrev pub measure_text : Measure → List ℕ
-measure_text it = flat_map function_size_text it.functions.items ++ whole_size_text it.sized.size ++ flat_map cycle_text it.cycles.items
+abbrev pub counted_outcome_text : CountedOutcome → List ℕ
+counted_outcome_text done = outcome_text done.outcome ++ steps_text done.steps
 
 abbrev pub answer_text : Answer → List ℕ
 answer_text Accepted = line (codes "ok")
 answer_text (Ran outcome) = outcome_text outcome
 answer_text (Executed run) = run_text run
+answer_text (RanCounted done) = counted_outcome_text done
+answer_text (ExecutedCounted run) = counted_text run
 answer_text (Listed lines) = lines.items
 answer_text (Image lines) = lines.items
 answer_text (Sized it) = measure_text it
+answer_text (Judged lines) = judged_text lines.items
+
+-- the status of an answer: 1 if something may go wrong
+abbrev pub judged_status : List Unsure → ℕ
+judged_status [] = 0
+judged_status (it ∷ rest) = 1
+
+abbrev pub answer_status : Answer → ℕ
+answer_status (Judged lines) = judged_status lines.items
+answer_status answer = 0
 
 -- ---- the line of a fault
 
@@ -116,19 +96,20 @@ pub record IsAnswered (task : Task) (input old new : Option (List ℕ)) : Type 0
   pub answers : Answers task text answer
   pub written : Appends old new (answer_text answer)
 
--- the reader's text has this fault in the mode, and the fault's line was written
-pub record IsTurnedDown (mode : Mode) (input old new : Option (List ℕ)) (fault : Fault) : Type 0 where
+-- the reader's text has this fault at the task, and the fault's line was written
+pub record IsTurnedDown (task : Task) (input old new : Option (List ℕ)) (fault : Fault) : Type 0 where
   pub text : List ℕ
   pub read : IsTextOf input text
-  pub refused : IsRefused mode text fault
+  pub refused : IsRefused task text fault
   pub written : Appends old new (fault_text text fault)
 
--- Why there is no answer: something could not be written, 54, and nothing is known of what was; or the text could not be read, 53, and its line was
--- written; or the text has this fault.
-abbrev pub HasNoAnswer : Mode → (input old new : Option (List ℕ)) → Fault → Type 0
-HasNoAnswer mode input old new fault = (fault ≡ Write) ⊎ (((fault ≡ Read) × Appends old new (fault_text [] Read)) ⊎ IsTurnedDown mode input old new fault)
+-- the text could not be read, 53, and its line was written; or the text has this fault
+abbrev pub IsToldFault : Task → (input old new : Option (List ℕ)) → Fault → Type 0
+IsToldFault task input old new fault = ((fault ≡ Read) × Appends old new (fault_text [] Read)) ⊎ IsTurnedDown task input old new fault
 
--- a task was done with this status: 0 for an answer, 1 for a fault
-abbrev pub IsPerformed : Task → (input old new : Option (List ℕ)) → (status : ℕ) → Type 0
-IsPerformed task input old new status =
-    ((status ≡ 0) × IsAnswered task input old new) ⊎ ((status ≡ 1) × ((fault : Fault) × HasNoAnswer (mode_for task) input old new fault))
+-- A task was done with this status, and all that was to be written is: the status is that of its answer, and 1 for a fault. Or something could not be
+-- written, 54: the status is 1, and nothing is known of what was.
+abbrev pub IsPerformed : Task → (input old new : Option (List ℕ)) → (status : ℕ) (written : Bool) → Type 0
+IsPerformed task input old new status true =
+    ((it : IsAnswered task input old new) × (status ≡ answer_status it.answer)) ⊎ ((status ≡ 1) × ((fault : Fault) × IsToldFault task input old new fault))
+IsPerformed task input old new status false = status ≡ 1

@@ -2,19 +2,20 @@
 
 ghost use Rattle.std.specs.Prelude.{◌≡◌, ℕ, List, IfOk, IfErr};
 ghost use Rattle.cc_c_laws.specs.declared.mode.Mode.{Mode};
-ghost use Rattle.cc_c_laws.specs.declared.mode.Mode.TheVariants.{Plain};
 ghost use Rattle.cc_link.specs.Agree.{Agree, AgreeIn};
 ghost use Rattle.cc_link.specs.Compile.{IsBuildRefusalIn};
-ghost use Rattle.cc_tasks.specs.Answer.{IsAccepted, IsRan, IsExecuted, IsListed, IsImage, IsMeasured, Answers, IsRefused, mode_of, mode_for};
+ghost use Rattle.cc_tasks.specs.Answer.{IsAccepted, IsRan, IsExecuted, IsListed, IsImage, IsJudged, IsMeasured, Answers, HasNoImage, HasNoProgram, IsRefused, mode_of};
 
+use super::counting::{executed_counted, ran_counted};
 use super::fault::Fault;
-use super::sizing::{Measure, measured};
 use cc_answers::{ImageRun, run_image};
+use cc_findings::{Measure, Unsure, judge, measured};
 use cc_hex::image::write;
 use cc_link::{BuildFault, CompiledUnit, Mode, compile_in, typed_unit};
 use cc_meaning::{Outcome, interpret};
 use cc_rv32::listing::list;
 use cc_size::size_in;
+use cc_steps::{CountedOutcome, CountedRun};
 use cc_task::{Kind, Task};
 use std::alloc::Global;
 
@@ -27,18 +28,24 @@ pub enum Answer {
     Ran(Outcome),
     /// What the program's image has written, and what its run has come to.
     Executed(ImageRun),
+    /// What the program does, and in how many steps.
+    RanCounted(CountedOutcome),
+    /// What the program's image has written and come to, and in how many instructions.
+    ExecutedCounted(CountedRun),
     /// The listing of the program's image.
     Listed(Vec<u8>),
     /// The program's image as Intel HEX.
     Image(Vec<u8>),
     /// What the program's image takes.
     Sized(Measure),
+    /// What may go wrong in the program, where it is not said that nothing may.
+    Judged(Vec<Unsure>),
 }
 
 // That the text is a program.
 fn accepted(alloc: Global, text: &[u8]) -> Result<Answer, Fault>
     ensures answer { IfOk result (λ answer. IsAccepted text.now answer) }
-    ensures refused { IfErr result (λ fault. IsRefused Plain text.now fault) }
+    ensures refused { IfErr result (λ fault. HasNoProgram text.now fault) }
 {
     let _program = match typed_unit(alloc, text) {
         Ok(program) => program,
@@ -50,7 +57,7 @@ fn accepted(alloc: Global, text: &[u8]) -> Result<Answer, Fault>
 // What the program does on the input words. 40 where memory was refused as it ran.
 fn ran(alloc: Global, text: &[u8], words: &[u32], steps: u64) -> Result<Answer, Fault>
     ensures answer { IfOk result (λ answer. IsRan steps words.now text.now answer) }
-    ensures refused { IfErr result (λ fault. IsRefused Plain text.now fault) }
+    ensures refused { IfErr result (λ fault. HasNoProgram text.now fault) }
 {
     match typed_unit(alloc, text) {
         Ok(program) => match interpret(alloc, &program, words, steps) {
@@ -73,7 +80,7 @@ pub fn mode_of(kind: Kind) -> Mode
 
 // The program's fault for one of compiling.
 fn fault_of_build(fault: BuildFault) -> Fault
-    ensures { (mode : Mode) (text : List ℕ) → IsBuildRefusalIn mode text fault → IsRefused mode text result }
+    ensures { (mode : Mode) (text : List ℕ) → IsBuildRefusalIn mode text fault → HasNoImage mode text result }
 {
     match fault {
         BuildFault::Text(fault) => Fault::Text(fault),
@@ -82,11 +89,11 @@ fn fault_of_build(fault: BuildFault) -> Fault
     }
 }
 
-// The compiled unit of a text in a mode.
-fn compiled(alloc: Global, mode: Mode, text: &[u8]) -> Result<CompiledUnit, Fault>
+/// The compiled unit of a text in a mode.
+pub(crate) fn compiled(alloc: Global, mode: Mode, text: &[u8]) -> Result<CompiledUnit, Fault>
     ensures agrees { IfOk result (λ unit. Agree text.now unit.image) }
     ensures follows { IfOk result (λ unit. AgreeIn mode text.now unit.image) }
-    ensures refused { IfErr result (λ fault. IsRefused mode text.now fault) }
+    ensures refused { IfErr result (λ fault. HasNoImage mode text.now fault) }
 {
     match compile_in(alloc, mode, text) {
         Ok(unit) => Ok(unit),
@@ -103,7 +110,7 @@ fn executed(
     steps: u64,
 ) -> Result<Answer, Fault>
     ensures answer { IfOk result (λ answer. IsExecuted mode steps words.now text.now answer) }
-    ensures refused { IfErr result (λ fault. IsRefused mode text.now fault) }
+    ensures refused { IfErr result (λ fault. HasNoImage mode text.now fault) }
 {
     let unit = match compiled(alloc, mode, text) {
         Ok(unit) => unit,
@@ -118,7 +125,7 @@ fn executed(
 // The listing of the program's image.
 fn listed(alloc: Global, mode: Mode, text: &[u8]) -> Result<Answer, Fault>
     ensures answer { IfOk result (λ answer. IsListed mode text.now answer) }
-    ensures refused { IfErr result (λ fault. IsRefused mode text.now fault) }
+    ensures refused { IfErr result (λ fault. HasNoImage mode text.now fault) }
 {
     match compiled(alloc, mode, text) {
         Err(fault) => Err(fault),
@@ -132,7 +139,7 @@ fn listed(alloc: Global, mode: Mode, text: &[u8]) -> Result<Answer, Fault>
 // The program's image as Intel HEX.
 fn in_hex(alloc: Global, mode: Mode, text: &[u8]) -> Result<Answer, Fault>
     ensures answer { IfOk result (λ answer. IsImage mode text.now answer) }
-    ensures refused { IfErr result (λ fault. IsRefused mode text.now fault) }
+    ensures refused { IfErr result (λ fault. HasNoImage mode text.now fault) }
 {
     match compiled(alloc, mode, text) {
         Err(fault) => Err(fault),
@@ -146,7 +153,7 @@ fn in_hex(alloc: Global, mode: Mode, text: &[u8]) -> Result<Answer, Fault>
 // What the program's image takes.
 fn sized(alloc: Global, mode: Mode, text: &[u8]) -> Result<Answer, Fault>
     ensures answer { IfOk result (λ answer. IsMeasured mode text.now answer) }
-    ensures refused { IfErr result (λ fault. IsRefused mode text.now fault) }
+    ensures refused { IfErr result (λ fault. HasNoImage mode text.now fault) }
 {
     let sized = match size_in(alloc, mode, text) {
         Ok(sized) => sized,
@@ -158,6 +165,21 @@ fn sized(alloc: Global, mode: Mode, text: &[u8]) -> Result<Answer, Fault>
     }
 }
 
+// What may go wrong in the program.
+fn judged(alloc: Global, text: &[u8]) -> Result<Answer, Fault>
+    ensures answer { IfOk result (λ answer. IsJudged text.now answer) }
+    ensures refused { IfErr result (λ fault. HasNoProgram text.now fault) }
+{
+    let program = match typed_unit(alloc, text) {
+        Ok(program) => program,
+        Err(fault) => return Err(Fault::Text(fault)),
+    };
+    match judge(alloc, text, &program) {
+        Ok(lines) => Ok(Answer::Judged(lines)),
+        Err(_) => Err(Fault::OutOfMemory),
+    }
+}
+
 /// The answer to a task for a text: `check` and `interpret` by its tree, `run`, `asm`, `image` and `size` by its image, which agrees with it and follows
 /// what the program shows in its mode.
 ///
@@ -165,7 +187,7 @@ fn sized(alloc: Global, mode: Mode, text: &[u8]) -> Result<Answer, Fault>
 /// refused.
 pub fn answer_for(alloc: Global, task: &Task, text: &[u8]) -> Result<Answer, Fault>
     ensures answer { IfOk result (λ answer. Answers task.now text.now answer) }
-    ensures refused { IfErr result (λ fault. IsRefused (mode_for task.now) text.now fault) }
+    ensures refused { IfErr result (λ fault. IsRefused task.now text.now fault) }
 {
     match task {
         Task::Check => accepted(alloc, text),
@@ -173,8 +195,13 @@ pub fn answer_for(alloc: Global, task: &Task, text: &[u8]) -> Result<Answer, Fau
         Task::Run(kind, steps, words) => {
             executed(alloc, mode_of(*kind), text, words.as_slice(), *steps)
         }
+        Task::InterpretCounted(steps, words) => ran_counted(alloc, text, words.as_slice(), *steps),
+        Task::RunCounted(kind, steps, words) => {
+            executed_counted(alloc, mode_of(*kind), text, words.as_slice(), *steps)
+        }
         Task::Asm(kind) => listed(alloc, mode_of(*kind), text),
         Task::Image(kind) => in_hex(alloc, mode_of(*kind), text),
         Task::Size(kind) => sized(alloc, mode_of(*kind), text),
+        Task::Safe => judged(alloc, text),
     }
 }

@@ -20,6 +20,8 @@ pub(crate) enum Matter {
     Wrong(Cause),
     /// Whether an image that goes on has stopped in place.
     Going,
+    /// Nothing; the program may go wrong.
+    Unsure,
 }
 
 /// What is told beside the answer to a text.
@@ -92,13 +94,17 @@ pub fn explanation_of_program(alloc: Global, text: &[u8]) -> Explanation {
 /// done once more for that. Nothing where memory for it runs out.
 pub fn explanation_of_wrong(alloc: Global, task: &Task, text: &[u8], cause: Cause) -> Explanation {
     match task {
-        Task::Interpret(steps, words) => {
+        Task::Interpret(steps, words) | Task::InterpretCounted(steps, words) => {
             let told = of_wrong(alloc, text, words.as_slice(), *steps, cause);
             Explanation::first(alloc, told)
         }
-        Task::Check | Task::Run(_, _, _) | Task::Asm(_) | Task::Image(_) | Task::Size(_) => {
-            Explanation::words(alloc, None)
-        }
+        Task::Check
+        | Task::Run(_, _, _)
+        | Task::RunCounted(_, _, _)
+        | Task::Asm(_)
+        | Task::Image(_)
+        | Task::Size(_)
+        | Task::Safe => Explanation::words(alloc, None),
     }
 }
 
@@ -122,16 +128,33 @@ fn stopping_cause(alloc: Global, text: &[u8], words: &[u32], steps: u64) -> Opti
 /// What is told of a run of an image that goes on: of a checked one where it has stopped in place, if the program goes wrong within as many
 /// steps, 100,000,000 at most; else what is warned of in the text. The program is interpreted for that.
 pub fn explanation_of_going(alloc: Global, task: &Task, text: &[u8]) -> Explanation {
-    let Task::Run(Kind::Checked, steps, words) = task else {
+    let (steps, words) = match task {
+        Task::Run(Kind::Checked, steps, words) | Task::RunCounted(Kind::Checked, steps, words) => {
+            (*steps, words.as_slice())
+        }
+        _ => return explanation_of_program(alloc, text),
+    };
+    let Some(cause) = stopping_cause(alloc, text, words, steps) else {
         return explanation_of_program(alloc, text);
     };
-    let Some(cause) = stopping_cause(alloc, text, words.as_slice(), *steps) else {
-        return explanation_of_program(alloc, text);
-    };
-    let told = of_wrong(alloc, text, words.as_slice(), *steps, cause);
+    let told = of_wrong(alloc, text, words, steps, cause);
     let mut explanation = Explanation::first(alloc, told);
-    explanation.words = Some("the image has stopped in place, since the program goes wrong:");
+    explanation.words = Some("the image stops in place, since the program goes wrong:");
     explanation
+}
+
+/// What is told of what an answer to a task for a text leaves to be explained.
+pub(crate) fn explanation_of_matter(
+    alloc: Global,
+    task: &Task,
+    text: &[u8],
+    matter: Matter,
+) -> Explanation {
+    match matter {
+        Matter::Text | Matter::Unsure => explanation_of_program(alloc, text),
+        Matter::Wrong(cause) => explanation_of_wrong(alloc, task, text, cause),
+        Matter::Going => explanation_of_going(alloc, task, text),
+    }
 }
 
 // Writes each of some diagnostics.

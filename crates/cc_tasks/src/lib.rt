@@ -1,19 +1,18 @@
 //! The work of the program: a task, done over any reader and writer.
 //!
-//! `source` reads the text, `answer` has the answer to a task for a text, `work` does a task, `stages` shows what the compiler makes of a
-//! text, `texts` does both for texts that are given one after the other, `part` takes a part of a unit out of a library, `fault` has every refusal with its line, `explain` and `unknown` what a person is
-//! told beside it. Which tasks there are is the matter of `cc_task`, what a text means that of the crates of the language.
+//! `source` reads the text, `answer` has the answer to a task for a text, `counting` that with a count, `work` does a task, `stages` shows what
+//! the compiler makes of a text, `texts` does both for texts that are given one after the other, `part` takes a part of a unit out of a
+//! library, `fault` has every refusal with its line, `explain` and `unknown` what a person is told beside it. Which tasks there are is the matter of `cc_task`, what a text means that of the crates of the language.
 //! What is written and told of an answer and of a fault is that of `cc_answers`.
-//! Hands out `answer_for`, `perform`, `perform_and_explain`, the same of stages, `part_in`, `take_out`, their types, and the definitions
+//! Hands out `answer_for`, `carry_out`, `perform`, `perform_and_explain`, the same of stages, `part_in`, `take_out`, their types, and the definitions
 //! that the contracts name (`specs/`).
 #![tactic(auto)]
 
 mod answer;
+mod counting;
 mod explain;
 mod fault;
 mod part;
-mod recursion;
-mod sizing;
 mod source;
 mod stages;
 mod texts;
@@ -27,10 +26,12 @@ pub use explain::{
 };
 pub use fault::Fault;
 pub use part::{PartFault, explain_absent, part_in, part_of, take_out, write_part};
-pub use sizing::{CyclicCall, Measure, SizedFunction};
 pub use stages::{perform_and_explain_stages, perform_stages};
 pub use texts::{
-    perform_and_explain_stages_of_texts, perform_stages_of_texts, perform_texts,
+    carry_out_texts, perform_and_explain_stages_of_texts, perform_stages_of_texts, perform_texts,
     perform_texts_and_explain, read_or_refuse,
 };
-pub use work::{perform, perform_and_explain, write_stop};
+pub use work::{
+    Done, carry_out, explanation_of_answer, perform, perform_and_explain, status_of_answer,
+    write_answer, write_stop,
+};

@@ -1,6 +1,6 @@
 // Doing a task for texts that are given one after the other.
 
-ghost use Rattle.std.specs.Prelude.{◌≤◌, [], Some, IsErrAnd};
+ghost use Rattle.std.specs.Prelude.{◌≡◌, ◌≤◌, Bool, [], Some, IfOk, IfSome, IsErrAnd};
 ghost use Rattle.cc_sources.specs.Joined.{joined};
 ghost use Rattle.cc_tasks.specs.Written.{IsPerformed};
 ghost use Rattle.cc_tasks.specs.internal.Working.{IsDoneFor, RefusesBy};
@@ -8,7 +8,7 @@ ghost use Rattle.cc_tasks.specs.declared.fault.Fault.TheVariants.{OutOfMemory};
 
 use super::fault::Fault;
 use super::stages::{explain_stages, try_stages};
-use super::work::{Performed, explain, refused, status, try_perform};
+use super::work::{Done, Performed, ended, explain, refused, status, try_perform};
 use cc_sources::{NamedText, NoText, NoTexts, Origin, join, read_texts, tell_unread};
 use cc_task::{Kind, Task};
 use std::alloc::{AllocError, Global};
@@ -35,7 +35,10 @@ pub fn read_or_refuse<R: AllocGlobal + Input, F: Files, W: Write, E: Write>(
     names: &[String],
     writer: &mut W,
     told: &mut E,
-) -> Result<Option<Vec<NamedText>>, AllocError> {
+) -> Result<Option<Vec<NamedText>>, AllocError>
+    // Where there are texts nothing is written.
+    ensures { IfOk result (λ texts. IfSome texts (λ _. W.contents writer.new ≡ W.contents writer.old)) }
+{
     match read_texts(rt, files, rt.alloc(), names) {
         Ok(texts) => Ok(Some(texts)),
         Err(NoTexts { number, why }) => match why {
@@ -73,36 +76,47 @@ fn try_texts<W: Write>(alloc: Global, task: &Task, texts: &[NamedText], writer: 
     }
 }
 
-/// Does a task as `perform` does, for the text that texts make: one after the other, with a newline between two if the first lacks it.
-#[tactic(auto, using(crate::proofs::Working::performed))]
+/// Does a task as `carry_out` does, for the text that texts make: one after the other, with a newline between two if the first lacks it.
+pub fn carry_out_texts<H: AllocGlobal, W: Write>(
+    rt: &H,
+    task: Task,
+    texts: &[NamedText],
+    writer: &mut W,
+) -> Done
+    ensures { IsPerformed task (Some (joined texts.now)) (W.contents writer.old) (W.contents writer.new) result.status result.is_written }
+{
+    let performed = try_texts(rt.alloc(), &task, texts, writer);
+    ended(performed)
+}
+
+/// Does a task as `carry_out_texts` does; the status.
 pub fn perform_texts<H: AllocGlobal, W: Write>(
     rt: &H,
     task: Task,
     texts: &[NamedText],
     writer: &mut W,
 ) -> u8
-    ensures { IsPerformed task (Some (joined texts.now)) (W.contents writer.old) (W.contents writer.new) result }
+    ensures { (written : Bool) × IsPerformed task (Some (joined texts.now)) (W.contents writer.old) (W.contents writer.new) result written }
 {
-    let performed = try_texts(rt.alloc(), &task, texts, writer);
-    status(performed)
+    let done = carry_out_texts(rt, task, texts, writer);
+    done.status
 }
 
-/// Does a task as `perform_texts` does, and writes to `explanations` what `perform_and_explain` does, with the name of the text that a place
+/// Does a task as `carry_out_texts` does, and writes to `explanations` what `perform_and_explain` does, with the name of the text that a place
 /// lies in, and line and column there.
-#[tactic(auto, using(crate::proofs::Working::performed))]
 pub fn perform_texts_and_explain<H: AllocGlobal, W: Write, E: Write>(
     rt: &H,
     task: Task,
     texts: &[NamedText],
     writer: &mut W,
     explanations: &mut E,
-) -> u8
-    ensures { IsPerformed task (Some (joined texts.now)) (W.contents writer.old) (W.contents writer.new) result }
+) -> Done
+    ensures { IsPerformed task (Some (joined texts.now)) (W.contents writer.old) (W.contents writer.new) result.status result.is_written }
 {
     let performed = try_texts(rt.alloc(), &task, texts, writer);
     let origin = Origin::Texts(texts);
     explain(rt.alloc(), &task, &performed, origin, explanations);
-    status(performed)
+    ended(performed)
 }
 
 // Shows the functions of the text that texts make.

@@ -1,38 +1,27 @@
 // Doing a task over any reader and writer.
 
-ghost use Rattle.std.specs.Prelude.{◌≡◌, IfOk, IfErr, OnOk};
+ghost use Rattle.std.specs.Prelude.{◌≡◌, ◌≤◌, Bool, IfOk, IfErr, OnOk};
 ghost use Rattle.std.specs.Io.KnownBytes.{Appends};
-ghost use Rattle.cc_c_laws.specs.declared.mode.Mode.{Mode};
+ghost use Rattle.cc_task.specs.declared.task.Task.{Task};
 ghost use Rattle.cc_sources.specs.Reading.{IsTextOf};
-ghost use Rattle.cc_tasks.specs.Written.{answer_text, cause_name, outcome_text, stop_text, HasNoAnswer, IsPerformed, Writes};
-ghost use Rattle.cc_tasks.specs.internal.Working.{Flushes, IsDoneFor, RefusesBy, TellsOf, status_of};
+ghost use Rattle.cc_tasks.specs.Written.{answer_status, answer_text, counted_outcome_text, outcome_text, steps_text, stop_text, IsPerformed, Writes};
+ghost use Rattle.cc_tasks.specs.internal.Working.{Flushes, HasNoAnswer, IsDoneFor, RefusesBy, TellsOf, is_told, matter_status, status_of, written_of};
 
 use super::answer::{Answer, answer_for};
 use super::explain::{
-    Matter, explanation_of_fault, explanation_of_going, explanation_of_program,
-    explanation_of_wrong, write_explanation,
+    Explanation, Matter, explanation_of_fault, explanation_of_matter, write_explanation,
 };
 use super::fault::Fault;
-use super::sizing::write_measure;
 use super::source::read_source;
-use cc_answers::{write_run, write_words};
-use cc_meaning::{Cause, Outcome, Stop};
+use cc_answers::{ImageRun, write_run, write_words};
+use cc_findings::{cause_name, write_judged, write_measure};
+use cc_meaning::{Outcome, Stop};
 use cc_rv32::outcome::MachineOutcome;
 use cc_sources::Origin;
+use cc_steps::{CountedOutcome, write_counted_run};
 use cc_task::Task;
 use std::alloc::Global;
 use std::io::{self, Read, Write};
-
-fn cause_name(cause: Cause) -> &'static str
-    ensures { result.now ≡ cause_name cause }
-{
-    match cause {
-        Cause::Division => "Division",
-        Cause::Shift => "Shift",
-        Cause::Index => "Index",
-        Cause::Depth => "Depth",
-    }
-}
 
 /// Writes how a run of the interpreter stops.
 pub fn write_stop<W: Write>(stop: Stop, writer: &mut W) -> io::Result<()>
@@ -53,17 +42,35 @@ fn write_outcome<W: Write>(outcome: &Outcome, writer: &mut W) -> io::Result<()>
     write_stop(outcome.stop, writer)
 }
 
-// Writes an answer.
-fn write_answer<W: Write>(answer: &Answer, writer: &mut W) -> io::Result<()>
+// Writes the line of a number of steps.
+fn write_steps<W: Write>(steps: u64, writer: &mut W) -> io::Result<()>
+    ensures { OnOk result (Appends (W.contents writer.old) (W.contents writer.new) (steps_text steps)) }
+{
+    writeln!(writer, "steps {steps}")
+}
+
+#[tactic(auto, using(cc_answers::proofs::Writing::written_on))]
+fn write_counted_outcome<W: Write>(done: &CountedOutcome, writer: &mut W) -> io::Result<()>
+    ensures { OnOk result (Appends (W.contents writer.old) (W.contents writer.new) (counted_outcome_text done.now)) }
+{
+    write_outcome(&done.outcome, writer)?;
+    write_steps(done.steps, writer)
+}
+
+/// Writes an answer: the lines that `perform` writes of it.
+pub fn write_answer<W: Write>(answer: &Answer, writer: &mut W) -> io::Result<()>
     ensures { OnOk result (Appends (W.contents writer.old) (W.contents writer.new) (answer_text answer.now)) }
 {
     match answer {
         Answer::Accepted => writeln!(writer, "ok"),
         Answer::Ran(outcome) => write_outcome(outcome, writer),
         Answer::Executed(run) => write_run(run, writer),
+        Answer::RanCounted(done) => write_counted_outcome(done, writer),
+        Answer::ExecutedCounted(run) => write_counted_run(run, writer),
         Answer::Listed(lines) => writer.write_all(lines.as_slice()),
         Answer::Image(lines) => writer.write_all(lines.as_slice()),
         Answer::Sized(it) => write_measure(it, writer),
+        Answer::Judged(lines) => write_judged(lines.as_slice(), writer),
     }
 }
 
@@ -80,18 +87,41 @@ pub(crate) fn flushed<W: Write>(write: io::Result<()>, writer: &mut W) -> Result
     }
 }
 
+// What a run of the interpreter leaves to be explained.
+fn matter_of_outcome(outcome: &Outcome) -> Matter
+    ensures { matter_status result ≡ 0 }
+{
+    match outcome.stop {
+        Stop::Wrong(cause) => Matter::Wrong(cause),
+        Stop::Going | Stop::Ended(_) => Matter::Text,
+    }
+}
+
+// What a run of an image leaves to be explained.
+fn matter_of_run(run: &ImageRun) -> Matter
+    ensures { matter_status result ≡ 0 }
+{
+    match run.outcome {
+        MachineOutcome::Going => Matter::Going,
+        MachineOutcome::Exited(_) | MachineOutcome::Trapped => Matter::Text,
+    }
+}
+
 // What an answer leaves to be explained.
-fn matter_of(answer: &Answer) -> Matter {
+fn matter_of(answer: &Answer) -> Matter
+    ensures { matter_status result ≡ answer_status answer.now }
+{
     match answer {
-        Answer::Ran(outcome) => match outcome.stop {
-            Stop::Wrong(cause) => Matter::Wrong(cause),
-            Stop::Going | Stop::Ended(_) => Matter::Text,
-        },
-        Answer::Executed(run) => match run.outcome {
-            MachineOutcome::Going => Matter::Going,
-            MachineOutcome::Exited(_) | MachineOutcome::Trapped => Matter::Text,
-        },
-        Answer::Accepted | Answer::Listed(_) | Answer::Image(_) | Answer::Sized(_) => Matter::Text,
+        Answer::Ran(outcome) => matter_of_outcome(outcome),
+        Answer::RanCounted(done) => matter_of_outcome(&done.outcome),
+        Answer::Executed(run) => matter_of_run(run),
+        Answer::ExecutedCounted(done) => matter_of_run(&done.run),
+        Answer::Judged(lines) if !lines.is_empty() => Matter::Unsure,
+        Answer::Accepted
+        | Answer::Listed(_)
+        | Answer::Image(_)
+        | Answer::Sized(_)
+        | Answer::Judged(_) => Matter::Text,
     }
 }
 
@@ -113,7 +143,8 @@ pub(crate) fn refused<W: Write>(fault: Fault, text: &[u8], writer: &mut W) -> Fa
 // Writes an answer. The result is what it leaves to be explained.
 #[tactic(auto, using(crate::proofs::Working::written))]
 fn tell_answer<W: Write>(answer: &Answer, writer: &mut W) -> Result<Matter, Fault>
-    ensures { Writes (W.contents writer.old) (W.contents writer.new) (answer_text answer.now) result }
+    ensures written { Writes (W.contents writer.old) (W.contents writer.new) (answer_text answer.now) result }
+    ensures matter { IfOk result (λ matter. matter_status matter ≡ answer_status answer.now) }
 {
     let write = write_answer(answer, writer);
     match flushed(write, writer) {
@@ -148,7 +179,7 @@ pub(crate) fn read_text<R: Read, W: Write>(
 ) -> Result<Vec<u8>, Fault>
     ensures text { IfOk result (λ text. IsTextOf (R.remaining reader.old) text.items) }
     ensures kept { OnOk result (W.contents writer.new ≡ W.contents writer.old) }
-    ensures unread { IfErr result (λ fault. (mode : Mode) → HasNoAnswer mode (R.remaining reader.old) (W.contents writer.old) (W.contents writer.new) fault) }
+    ensures unread { IfErr result (λ fault. (task : Task) → HasNoAnswer task (R.remaining reader.old) (W.contents writer.old) (W.contents writer.new) fault) }
 {
     match read_source(alloc, reader) {
         Ok(text) => Ok(text),
@@ -188,58 +219,140 @@ pub(crate) fn explain<W: Write>(
 ) {
     let text = performed.text.as_slice();
     let explanation = match &performed.told {
-        Ok(Matter::Text) => explanation_of_program(alloc, text),
-        Ok(Matter::Wrong(cause)) => explanation_of_wrong(alloc, task, text, *cause),
-        Ok(Matter::Going) => explanation_of_going(alloc, task, text),
+        Ok(matter) => explanation_of_matter(alloc, task, text, *matter),
         Err(fault) => explanation_of_fault(alloc, text, fault),
     };
     let _ = write_explanation(alloc, text, origin, &explanation, writer);
     let _ = writer.flush();
 }
 
+/// What is told of an answer to a task for a text, as `perform_and_explain` tells it.
+pub fn explanation_of_answer(
+    alloc: Global,
+    task: &Task,
+    text: &[u8],
+    answer: &Answer,
+) -> Explanation {
+    explanation_of_matter(alloc, task, text, matter_of(answer))
+}
+
+// The status of an answer that leaves this to be explained.
+fn status_of_matter(matter: Matter) -> u8
+    ensures answer { result ≡ matter_status matter }
+    ensures bound { result ≤ 1 }
+{
+    match matter {
+        Matter::Text | Matter::Wrong(_) | Matter::Going => 0,
+        Matter::Unsure => 1,
+    }
+}
+
+/// The status with which a task ends that has this answer.
+pub fn status_of_answer(answer: &Answer) -> u8
+    ensures answer { result ≡ answer_status answer.now }
+    ensures bound { result ≤ 1 }
+{
+    status_of_matter(matter_of(answer))
+}
+
 /// The status of a task that was done.
 pub(crate) fn status(performed: Performed) -> u8
-    ensures { result ≡ status_of performed.told }
+    ensures answer { result ≡ status_of performed.told }
+    ensures bound { result ≤ 1 }
 {
     match &performed.told {
-        Ok(_) => 0,
+        Ok(matter) => status_of_matter(*matter),
         Err(_) => 1,
+    }
+}
+
+/// How a task ended.
+#[derive(Clone, Copy, Debug, Drop, PartialEq, Eq)]
+pub struct Done {
+    /// The status: that of the answer, and 1 for a fault.
+    pub status: u8,
+    /// Whether all that was to be written is. If it is not, that is 54, and the status is 1.
+    pub is_written: bool,
+}
+
+// Whether a fault is told by its line.
+fn is_told(fault: &Fault) -> bool
+    ensures { result ≡ is_told fault.now }
+{
+    match fault {
+        Fault::Write => false,
+        Fault::Text(_)
+        | Fault::Meaning(_)
+        | Fault::Piece(_)
+        | Fault::Link(_)
+        | Fault::UnknownFunction
+        | Fault::OutOfMemory
+        | Fault::Read => true,
+    }
+}
+
+/// How a task ended that was done.
+pub(crate) fn ended(performed: Performed) -> Done
+    ensures status { result.status ≡ status_of performed.told }
+    ensures written { result.is_written ≡ written_of performed.told }
+{
+    match &performed.told {
+        Ok(matter) => Done {
+            status: status_of_matter(*matter),
+            is_written: true,
+        },
+        Err(fault) => Done {
+            status: 1,
+            is_written: is_told(fault),
+        },
     }
 }
 
 /// Does a task: reads the text from `reader`, and writes the answer or the fault's line to `writer`.
 ///
-/// The status is 0 for an answer and 1 for a fault. A read that fails is fault 53; a write that fails is fault 54, of
-/// which no line is written.
-#[tactic(auto, using(crate::proofs::Working::performed))]
+/// The status is 0 for an answer, but 1 for one of `safe` that the program may go wrong, and 1 for a fault. A read that fails is fault 53; a
+/// write that fails is fault 54, of which no line is written.
+pub fn carry_out<H: AllocGlobal, R: Read, W: Write>(
+    rt: &H,
+    task: Task,
+    reader: &mut R,
+    writer: &mut W,
+) -> Done
+    ensures { IsPerformed task (R.remaining reader.old) (W.contents writer.old) (W.contents writer.new) result.status result.is_written }
+{
+    let performed = try_perform(rt.alloc(), &task, reader, writer);
+    ended(performed)
+}
+
+/// Does a task as `carry_out` does; the status.
 pub fn perform<H: AllocGlobal, R: Read, W: Write>(
     rt: &H,
     task: Task,
     reader: &mut R,
     writer: &mut W,
 ) -> u8
-    ensures { IsPerformed task (R.remaining reader.old) (W.contents writer.old) (W.contents writer.new) result }
+    // Of a status alone it is not known whether all is written.
+    ensures { (written : Bool) × IsPerformed task (R.remaining reader.old) (W.contents writer.old) (W.contents writer.new) result written }
 {
-    let performed = try_perform(rt.alloc(), &task, reader, writer);
-    status(performed)
+    let done = carry_out(rt, task, reader, writer);
+    done.status
 }
 
-/// Does a task as `perform` does, and writes to `explanations` what helps a person with a fault or with a run that went wrong: the
+/// Does a task as `carry_out` does, and writes to `explanations` what helps a person with a fault or with a run that went wrong: the
 /// place, as editors read it, what was found there and what was expected, and the line of the text; so of a checked image that has stopped
 /// in place; of another program what is warned of.
 /// Of a write to `writer` that fails it says so. Where memory for an explanation runs out, or it can not be written, there is none; the
 /// status is the same.
-#[tactic(auto, using(crate::proofs::Working::performed))]
 pub fn perform_and_explain<H: AllocGlobal, R: Read, W: Write, E: Write>(
     rt: &H,
     task: Task,
     reader: &mut R,
     writer: &mut W,
     explanations: &mut E,
-) -> u8
-    ensures { IsPerformed task (R.remaining reader.old) (W.contents writer.old) (W.contents writer.new) result }
+) -> Done
+    ensures { IsPerformed task (R.remaining reader.old) (W.contents writer.old) (W.contents writer.new) result.status result.is_written }
 {
     let performed = try_perform(rt.alloc(), &task, reader, writer);
     explain(rt.alloc(), &task, &performed, Origin::Input, explanations);
-    status(performed)
+    ended(performed)
 }

@@ -1,8 +1,10 @@
-//! A writer of answers that knows whether a line of them is a fault.
+//! Writers of answers: one that knows whether a line of them is a fault, and one that says on a terminal how many lines there are.
 //!
-//! It stands on nothing. `watch` has the writer.
+//! It stands on nothing. `watch` has the one, `progress` the other.
 #![tactic(auto)]
 
+mod progress;
 mod watch;
 
+pub use progress::AnswerProgress;
 pub use watch::FaultWatch;

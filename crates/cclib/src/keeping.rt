@@ -5,7 +5,8 @@ ghost use Rattle.cc_command_line.specs.Work.{IsBoundedLook};
 use cc_command_line::{Keeping, Wanted};
 use cc_filing::take_out_of_file;
 use cc_keeping::{
-    call_in_file, copy_file, diff_files, log_of_file, restore_in_file, take_out_of_past,
+    call_in_file, copy_file, diff_files, log_of_file, restore_in_file, size_in_file,
+    take_out_of_past,
 };
 use std::alloc::AllocError;
 use std::io::{Input, Print, Write};
@@ -37,6 +38,7 @@ pub fn look_into<R: AllocGlobal + Input + Print, E: Write + Drop>(
 {
     match asked {
         Keeping::Call(asked) => call_in_file(rt, files, asked, is_quiet, errors),
+        Keeping::Size(asked) => size_in_file(rt, files, asked, is_quiet, errors),
         Keeping::Diff(left, right) => {
             diff_files(rt, files, left.as_str(), right.as_str(), is_quiet, errors)
         }

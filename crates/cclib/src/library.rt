@@ -7,9 +7,10 @@ use cc_command_line::Session;
 use cc_filing::{disk_of, no_disk, tell_wide_disk};
 use cc_session::{Gate, SessionEnd, session_and_explain_in};
 use cc_tasks::mode_of;
-use cc_watch::FaultWatch;
+use cc_watch::{AnswerProgress, FaultWatch};
 use std::alloc::AllocError;
-use std::io::{self, BufWriter, Input, Print, Write};
+use std::io::{self, BufWriter, Input, IsTerminal, Print, Write};
+use std::rt::Clock;
 use std::sync::Wait;
 use std::thread::Threads;
 
@@ -38,6 +39,11 @@ fn status(end: SessionEnd) -> u8 {
     }
 }
 
+// Whether answers go where nobody sees how far they are.
+fn is_out_of_sight(files: &HostRuntime) -> bool {
+    !files.stdout().is_terminal()
+}
+
 /// Does the script on standard input over the library in a file; the status. The error is lack of memory before it began.
 pub fn library_session<R, E: Write + Drop>(
     rt: &R,
@@ -47,7 +53,18 @@ pub fn library_session<R, E: Write + Drop>(
     errors: E,
 ) -> Result<u8, AllocError>
 where
-    R: AllocGlobal + Input + Print + Eprint + Threads + Wait + Copy + Send + Sync + 'static,
+    R: AllocGlobal
+        + Clock
+        + Input
+        + Print
+        + Eprint
+        + Threads
+        + Wait
+        + Copy
+        + Drop
+        + Send
+        + Sync
+        + 'static,
     requires some { 1 ≤ asked.now.workers }
     requires few { asked.now.workers ≤ 8 }
 {
@@ -57,7 +74,13 @@ where
     ) else {
         return Err(AllocError);
     };
-    let mut writer = FaultWatch::new(buffered);
+    let is_shown = persons.is_watched && !persons.is_quiet;
+    let screen = if is_shown && is_out_of_sight(files) {
+        Some(files.stderr())
+    } else {
+        None
+    };
+    let mut writer = AnswerProgress::new(FaultWatch::new(buffered), *rt, screen);
     let mut told = Telling {
         errors,
         is_quiet: persons.is_quiet,
@@ -71,10 +94,7 @@ where
     if persons.is_typed {
         let _ = greet(&mut told);
     }
-    let progress = Progress {
-        rt: *rt,
-        is_shown: persons.is_watched && !persons.is_quiet,
-    };
+    let progress = Progress { rt: *rt, is_shown };
     let (disk, end) = session_and_explain_in(
         rt,
         rt.alloc(),
@@ -87,6 +107,7 @@ where
         progress,
     );
     drop(disk);
-    let is_refused = asked.is_strict && writer.has_fault();
+    writer.clear();
+    let is_refused = asked.is_strict && writer.writer().has_fault();
     Ok(if is_refused { 1 } else { status(end) })
 }

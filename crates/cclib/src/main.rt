@@ -2,7 +2,7 @@
 //! How a command line is read is the matter of `cc_command_line`, how a task is done that of `cc_tasks`, a script that of `cc_session`, the
 //! file of a library and what is taken out of one that of `cc_filing`, what looks into libraries that of `cc_keeping`, a server's client that of
 //! `cc_submit`. `keeping` looks into libraries, `library` has a session over a file, `serving` a server, `stack` what the stack needs, `texts`
-//! a program that comes in files.
+//! a program that comes in files, `version` of which sources the program is.
 #![tactic(auto)]
 
 mod keeping;
@@ -10,6 +10,7 @@ mod library;
 mod serving;
 mod stack;
 mod texts;
+mod version;
 
 ghost use Rattle.cc_command_line.specs.Work.{IsAllowed};
 
@@ -18,7 +19,7 @@ use cc_command_line::{Invocation, NoRequest, Work, read_or_tell, tell_bytes};
 use cc_descriptors::{System, take_free};
 use cc_submit::submit_script;
 use cc_task::{Kind, Task};
-use cc_tasks::{Fault, perform, perform_and_explain, perform_and_explain_stages, perform_stages};
+use cc_tasks::{Fault, carry_out, perform_and_explain, perform_and_explain_stages, perform_stages};
 use keeping::{look_into, take_out};
 use library::library_session;
 use serving::serve_folder;
@@ -31,6 +32,7 @@ use std::rt::{Clock, Env, Files};
 use std::sync::Wait;
 use std::thread::Threads;
 use texts::{start_stages_of_texts, start_texts};
+use version::print_sources;
 
 /// Does what the command line asks; the status is 0 for an answer, 1 for a fault, 2 for a refused command line.
 ///
@@ -76,10 +78,12 @@ fn start<R: AllocGlobal + Input + Print, E: Write + Drop>(
         return Err(AllocError);
     };
     if is_quiet {
-        return Ok(perform(rt, task, &mut rt.reader(), &mut writer));
+        let done = carry_out(rt, task, &mut rt.reader(), &mut writer);
+        return Ok(done.status);
     }
     let mut reader = rt.reader();
-    Ok(perform_and_explain(rt, task, &mut reader, &mut writer, &mut errors))
+    let done = perform_and_explain(rt, task, &mut reader, &mut writer, &mut errors);
+    Ok(done.status)
 }
 
 // Shows what the compiler makes of a text; the error is lack of memory before it began.
@@ -128,9 +132,10 @@ fn start_stages_of_input<R: AllocGlobal + Input + Print, E: Write + Drop>(
 }
 
 // The status where there is no work; the error is lack of memory.
-fn status_of(nothing: NoRequest) -> Result<u8, AllocError> {
+fn status_of<R: Print>(rt: &R, files: &HostRuntime, nothing: NoRequest) -> Result<u8, AllocError> {
     match nothing {
         NoRequest::Told(status) => Ok(status),
+        NoRequest::Version => Ok(print_sources(rt, files)),
         NoRequest::OutOfMemory => Err(AllocError),
     }
 }
@@ -162,7 +167,7 @@ where
     let words = match std::env::args(rt) {
         Ok(words) => words,
         Err(error) if error.kind() == io::ErrorKind::InvalidData => {
-            return status_of(tell_bytes(rt, rt.alloc()));
+            return status_of(rt, files, tell_bytes(rt, rt.alloc()));
         }
         Err(_) => return Err(AllocError),
     };
@@ -175,7 +180,7 @@ where
         files: names,
     } = match asked {
         Ok(request) => request,
-        Err(nothing) => return status_of(nothing),
+        Err(nothing) => return status_of(rt, files, nothing),
     };
     persons.is_quiet = is_quiet;
     if goes_deep(&work) && reserve_stack(rt.alloc()).is_err() {

@@ -3,7 +3,7 @@
 use cc_answers::Telling;
 use cc_task::{Kind, Task};
 use cc_tasks::{
-    perform_and_explain_stages_of_texts, perform_stages_of_texts, perform_texts,
+    carry_out_texts, perform_and_explain_stages_of_texts, perform_stages_of_texts,
     perform_texts_and_explain, read_or_refuse,
 };
 use std::alloc::AllocError;
@@ -39,9 +39,11 @@ pub fn start_texts<R: AllocGlobal + Input + Print, E: Write + Drop>(
     };
     let texts = texts.as_slice();
     if is_quiet {
-        return Ok(perform_texts(rt, task, texts, &mut writer));
+        let done = carry_out_texts(rt, task, texts, &mut writer);
+        return Ok(done.status);
     }
-    Ok(perform_texts_and_explain(rt, task, texts, &mut writer, &mut told))
+    let done = perform_texts_and_explain(rt, task, texts, &mut writer, &mut told);
+    Ok(done.status)
 }
 
 /// Shows what the compiler makes of the program in these files; the status. The error is lack of memory before it began.

@@ -1,4 +1,4 @@
-//! Tests of what looks into libraries and copies them, over disks in memory: units that are run, where two libraries differ, what their commands
+//! Tests of what looks into libraries and copies them, over disks in memory: units that are run and measured, where two libraries differ, what their commands
 //! were, what goes back, what a copy has, and which command lines ask for it. The units are made by hand. Expected lines were worked by hand
 //! from the rules of the machine and of the documents.
 #![tactic(auto)]
@@ -13,6 +13,8 @@ mod differences;
 mod helpers;
 #[cfg(test)]
 mod logs;
+#[cfg(test)]
+mod measures;
 #[cfg(test)]
 mod watches;
 #[cfg(test)]

@@ -1,6 +1,7 @@
 // The command lines of what looks into libraries, goes back in one, and copies one.
 
 use cc_command_line::{Keeping, Wanted, Work, line};
+use cc_task::Kind;
 use std::alloc::Global;
 
 // What a command line asks for, as one text.
@@ -15,6 +16,10 @@ fn asked(alloc: Global, words: &'static [&'static str]) -> Option<String> {
                 "call {} {} {} {count} {} {}",
                 it.disk, it.name, it.steps, it.is_lines, it.is_counted
             )
+        }
+        Work::Keep(Keeping::Size(it)) => {
+            let is_checked = it.kind == Kind::Checked;
+            format!(in alloc; "size {} {} {is_checked}", it.disk, it.name)
         }
         Work::Keep(Keeping::Diff(left, right)) => format!(in alloc; "diff {left} {right}"),
         Work::Keep(Keeping::Log(disk, Some(name))) => format!(in alloc; "log {disk} {name}"),
@@ -46,7 +51,7 @@ fn asked(alloc: Global, words: &'static [&'static str]) -> Option<String> {
     text.ok()
 }
 
-static ASKED: [(&[&str], &str); 12] = [
+static ASKED: [(&[&str], &str); 14] = [
     (&["cclib", "library", "d", "--strict"], "library d 2 true"),
     (
         &["cclib", "call", "d", "n", "7"],
@@ -60,6 +65,8 @@ static ASKED: [(&[&str], &str); 12] = [
         &["cclib", "call", "--lines", "d", "n", "1000000000"],
         "call d n 1000000000 0 true false",
     ),
+    (&["cclib", "size", "d", "n"], "size d n false"),
+    (&["cclib", "size", "--checked", "d", "n"], "size d n true"),
     (&["cclib", "diff", "a", "b"], "diff a b"),
     (&["cclib", "log", "d"], "log d"),
     (&["cclib", "log", "d", "n"], "log d n"),
@@ -99,12 +106,16 @@ fn what_is_asked_for(rt: HostRuntime) {
     }
 }
 
-static REFUSED: [&[&str]; 14] = [
+static REFUSED: [&[&str]; 18] = [
     &["cclib", "call", "d", "n"],
     &["cclib", "call", "d", "n", "1000000001"],
     &["cclib", "call", "d", "n", "1", "-1"],
     &["cclib", "call", "d", "n", "1", "1", "--lines"],
     &["cclib", "call", "", "n", "1"],
+    &["cclib", "size", "d"],
+    &["cclib", "size", "", "n"],
+    &["cclib", "size", "d", "n", "-f", "a.c"],
+    &["cclib", "size", "d", "n", "--at", "1"],
     &["cclib", "diff", "a"],
     &["cclib", "diff", "a", ""],
     &["cclib", "log"],

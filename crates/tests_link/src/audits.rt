@@ -1,14 +1,16 @@
 // What an audit says of units as they were made, and of units that were changed.
 
 use super::orders::add_pieces;
-use cc_emit::Piece;
-use cc_link::{
-    Allocation, Audit, CompiledUnit, Mode, StoredUnit, Unwatched, audit, compile,
-    compile_watched_in, link, typed_unit,
-};
+use super::padded::rtl_of;
+use cc_colour::spill_all;
+use cc_emit::{Piece, emit};
+use cc_linear::linearise;
+use cc_link::{Audit, CompiledUnit, StoredUnit, audit, compile, link, typed_unit};
+use cc_live::{drop_dead, liveness};
 use cc_ltl::{read_ltl, write_ltl};
 use cc_rv32::image::{Code, Globals, Image};
 use cc_types::TypedUnit;
+use cc_validate::{Refused, validate};
 use std::alloc::Global;
 use std::sync::Arc;
 use std::test::Fail;
@@ -258,20 +260,20 @@ fn other_texts(rt: HostRuntime) -> Result<(), Fail> {
     passes(right)
 }
 
-// The piece of a function whose LTL has a slot for each value.
+// The piece of a function whose LTL has a slot for each value, behind the pass that makes nops of dead nodes.
 fn spilled_piece(alloc: Global, unit: &Arc<TypedUnit>, function: usize) -> Result<Piece, Fail> {
-    if function >= unit.functions() {
-        return Err(Fail::from("no such function"));
+    let mut pair = rtl_of(alloc, unit, function)?;
+    let live = liveness(alloc, pair.code())?;
+    drop_dead(alloc, &mut pair, &live)?;
+    drop(live);
+    let ltl = spill_all(alloc, pair.code())?;
+    match validate(alloc, pair, ltl) {
+        Ok(pair) => Ok(emit(alloc, linearise(alloc, pair)?)?),
+        Err(Refused { pair, fault }) => {
+            drop(pair);
+            Err(Fail::from(fault))
+        }
     }
-    let nobody = &mut Unwatched;
-    Ok(compile_watched_in(
-        alloc,
-        Mode::Plain,
-        unit,
-        function,
-        Allocation::Spilled,
-        nobody,
-    )?)
 }
 
 // A text linked from such pieces.

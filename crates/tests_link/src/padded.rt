@@ -9,7 +9,6 @@ use cc_linear::linearise;
 use cc_link::{CompiledUnit, LinkFault, link};
 use cc_ltl::{Block, Ltl, Move, Moves, Register};
 use cc_rtl::{RtlPair, to_rtl};
-use cc_select::select;
 use cc_types::TypedUnit;
 use cc_validate::{LtlPair, Refused, validate};
 use std::alloc::Global;
@@ -68,8 +67,8 @@ fn padded_ltl(alloc: Global, ltl: &Ltl, paddings: &[Padding]) -> Result<Ltl, Fai
     }
 }
 
-// The RTL of one function.
-fn rtl_of(alloc: Global, unit: &Arc<TypedUnit>, function: usize) -> Result<RtlPair, Fail> {
+/// The RTL of one function.
+pub fn rtl_of(alloc: Global, unit: &Arc<TypedUnit>, function: usize) -> Result<RtlPair, Fail> {
     if function >= unit.functions() {
         return Err(Fail::from("no such function"));
     }
@@ -111,8 +110,8 @@ fn padded_piece(
     paddings: &[Padding],
 ) -> Result<Piece, Fail> {
     let pair = allocated(alloc, unit, function, paddings)?;
-    let selected = select(alloc, linearise(alloc, pair)?)?;
-    Ok(emit(alloc, selected)?)
+    let linear = linearise(alloc, pair)?;
+    Ok(emit(alloc, linear)?)
 }
 
 /// A unit whose last function is so padded, linked.

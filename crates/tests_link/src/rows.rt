@@ -16,7 +16,7 @@ pub const WORDS: &[u32] = &[
 ];
 
 /// Functions that return before they have a frame: by a test of a word, of two, of a word and a constant, with an operation before it, and
-/// one behind the label.
+/// one after the label.
 const RETURNING: &str = "int g(int x){return x*3;}int a(int x,int y){if(!x)return y;return g(y)+x;}\
     int b(int x,int y){if(x<y)return x+1;return g(x)-g(y);}\
     int c(unsigned x,unsigned y){if(x>=7u)return 3;return g(y)+c(x+1u,y);}\

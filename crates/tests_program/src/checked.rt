@@ -150,7 +150,7 @@ static EXPLAINED: [(&str, &str, &str); 3] = [
     (
         "int a[3],n=3;int main(void){write_word(a[2]);write_word(a[n]);}",
         "0\ngoing\n",
-        "cclib: the image has stopped in place, since the program goes wrong:\n-:1:57: index 3 is outside a[3], in main\n    1 | int a[3],n=3;int main(void){write_word(a[2]);write_word(a[n]);}\n      |                                                         ^\n",
+        "cclib: the image stops in place, since the program goes wrong:\n-:1:57: index 3 is outside a[3], in main\n    1 | int a[3],n=3;int main(void){write_word(a[2]);write_word(a[n]);}\n      |                                                         ^\n",
     ),
 ];
 
@@ -160,8 +160,11 @@ fn explains<H: AllocGlobal>(rt: &H, text: &str, lines: &str, told: &str) -> bool
     let mut reader = text.as_bytes();
     let mut written = Vec::new(rt.alloc());
     let mut explained = Vec::new(rt.alloc());
-    let status = perform_and_explain(rt, task, &mut reader, &mut written, &mut explained);
-    status == 0 && written.as_slice() == lines.as_bytes() && explained.as_slice() == told.as_bytes()
+    let done = perform_and_explain(rt, task, &mut reader, &mut written, &mut explained);
+    done.status == 0
+        && done.is_written
+        && written.as_slice() == lines.as_bytes()
+        && explained.as_slice() == told.as_bytes()
 }
 
 #[test]

@@ -56,8 +56,9 @@ fn explains<H: AllocGlobal>(rt: &H, task: Task, text: &str, lines: &str, told: &
     let mut reader = text.as_bytes();
     let mut written = Vec::new(rt.alloc());
     let mut explained = Vec::new(rt.alloc());
-    let status = perform_and_explain(rt, task, &mut reader, &mut written, &mut explained);
-    status == u8::from(lines.starts_with("fault"))
+    let done = perform_and_explain(rt, task, &mut reader, &mut written, &mut explained);
+    done.is_written
+        && done.status == u8::from(lines.starts_with("fault"))
         && written.as_slice() == lines.as_bytes()
         && explained.as_slice() == told.as_bytes()
 }
@@ -95,7 +96,7 @@ fn explains_a_large_function<H: AllocGlobal>(rt: &H) -> bool {
     let mut reader = text.as_slice();
     let mut written = Vec::new(rt.alloc());
     let mut explained = Vec::new(rt.alloc());
-    let status = perform_and_explain(
+    let done = perform_and_explain(
         rt,
         Task::Asm(Kind::Plain),
         &mut reader,
@@ -106,7 +107,7 @@ fn explains_a_large_function<H: AllocGlobal>(rt: &H) -> bool {
         .as_slice()
         .starts_with(b"-:1:5: 'main' is too large to be compiled".as_slice());
     drop(text);
-    status == 1 && told
+    done.status == 1 && done.is_written && told
 }
 
 #[test]

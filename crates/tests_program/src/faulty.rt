@@ -32,8 +32,10 @@ fn says_that_a_write_failed<H: AllocGlobal>(rt: &H) -> bool {
     let mut reader = b"int main(void){}".as_slice();
     let mut writer = Refuses;
     let mut told = Vec::new(rt.alloc());
-    let status = perform_and_explain(rt, Task::Check, &mut reader, &mut writer, &mut told);
-    status == 1 && told.as_slice() == b"cclib: the answer could not be written\n".as_slice()
+    let done = perform_and_explain(rt, Task::Check, &mut reader, &mut writer, &mut told);
+    done.status == 1
+        && !done.is_written
+        && told.as_slice() == b"cclib: the answer could not be written\n".as_slice()
 }
 
 #[test]
@@ -46,8 +48,10 @@ fn is_done_without_explanation<H: AllocGlobal>(rt: &H) -> bool {
     let mut reader = b"x".as_slice();
     let mut written = Vec::new(rt.alloc());
     let mut told = Refuses;
-    let status = perform_and_explain(rt, Task::Check, &mut reader, &mut written, &mut told);
-    status == 1 && written.as_slice() == b"fault 5 Unexpected at 1:1\n".as_slice()
+    let done = perform_and_explain(rt, Task::Check, &mut reader, &mut written, &mut told);
+    done.status == 1
+        && done.is_written
+        && written.as_slice() == b"fault 5 Unexpected at 1:1\n".as_slice()
 }
 
 #[test]

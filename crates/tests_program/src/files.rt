@@ -140,8 +140,9 @@ fn explains<H: AllocGlobal>(rt: &H, given: &[(&str, &str)], lines: &str, told: &
     let mut written = Vec::new(rt.alloc());
     let mut explained = Vec::new(rt.alloc());
     let texts = texts.as_slice();
-    let status = perform_texts_and_explain(rt, Task::Check, texts, &mut written, &mut explained);
-    status == u8::from(lines.starts_with("fault"))
+    let done = perform_texts_and_explain(rt, Task::Check, texts, &mut written, &mut explained);
+    done.is_written
+        && done.status == u8::from(lines.starts_with("fault"))
         && written.as_slice() == lines.as_bytes()
         && explained.as_slice() == told.as_bytes()
 }
@@ -168,7 +169,7 @@ fn answers_long<H: AllocGlobal>(rt: &H, spaces: usize, wanted: &[u8], told: &[u8
     let mut written = Vec::new(rt.alloc());
     let mut explained = Vec::new(rt.alloc());
     let texts = texts.as_slice();
-    let _status = perform_texts_and_explain(rt, Task::Check, texts, &mut written, &mut explained);
+    let _done = perform_texts_and_explain(rt, Task::Check, texts, &mut written, &mut explained);
     written.as_slice() == wanted && explained.as_slice() == told
 }
 

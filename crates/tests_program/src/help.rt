@@ -17,7 +17,8 @@ Commands:
   run        Compile the program and run its image: print the words that it writes, and how it ends
   asm        Compile the program and list its image
   stages     Show what the compiler makes of each function, stage by stage
-  size       Say how much the program's image takes: its code, its globals, and a stack that is enough
+  size       Say how much an image takes: its code, its globals, and a stack that is enough
+  safe       Say `safe` if the program can't go wrong, whatever it reads; else where it may
   image      Compile the program and print its image as Intel HEX, or print that of a unit of a library
   source     Print the source of a unit of a library
   call       Run a unit of a library on input words
@@ -40,14 +41,16 @@ Examples:
   cclib check main.c table.c
   cclib interpret 1000 < examples/quotient.c
   cclib run 10000 2 104 105 < examples/checksum.c
-  cclib run --checked 10000 2 104 105 < examples/checksum.c
+  cclib run --checked --count 10000 2 104 105 < examples/checksum.c
   cclib asm < examples/quotient.c
   cclib stages main < examples/quotient.c
   cclib size < examples/quotient.c
+  cclib safe < examples/quotient.c
   cclib image < examples/quotient.c > quotient.hex
   cclib library units.disk --format 65536 < examples/units.script
   cclib image units.disk sum > sum.hex
   cclib source units.disk sum
+  cclib size units.disk sum
   cclib call units.disk sum 1000 4 5
   cclib diff units.disk backup.disk
   cclib log units.disk sum

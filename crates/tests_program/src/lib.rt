@@ -1,10 +1,12 @@
 //! Tests of the program's work: texts at their limits, texts that are refused, small programs, images as text, stages, what is taken out of a
-//! library, command lines, what is explained, and readers and writers that fail, over readers, writers and disks in memory. Expected lines
+//! library, command lines, what is explained, counts, and readers and writers that fail, over readers, writers and disks in memory. Expected lines
 //! come from the language's rules, worked by hand.
 #![tactic(auto)]
 
 #[cfg(test)]
 mod checked;
+#[cfg(test)]
+mod counts;
 #[cfg(test)]
 mod descriptors;
 #[cfg(test)]
@@ -29,6 +31,8 @@ mod parts;
 mod programs;
 #[cfg(test)]
 mod refusals;
+#[cfg(test)]
+mod safety;
 #[cfg(test)]
 mod screens;
 #[cfg(test)]

@@ -172,9 +172,17 @@ fn asks_for_client(
     seconds: Option<u32>,
 ) -> bool {
     match line(alloc, words) {
-        Ok(Work::Submit(Submitter { folder, line, wait })) => {
-            folder.as_str() == "spool" && is_line(&line, wanted) && wait == seconds
-        }
+        Ok(
+            Work::Submit(
+                Submitter {
+                    folder,
+                    line,
+                    input: None,
+                    was: None,
+                    wait,
+                },
+            ),
+        ) => folder.as_str() == "spool" && is_line(&line, wanted) && wait == seconds,
         other => {
             drop(other);
             false
@@ -189,7 +197,88 @@ fn clients(rt: HostRuntime) {
     }
 }
 
-static REFUSED: [&[&str]; 18] = [
+// Command lines of clients of the folder `spool` whose line has more than itself: the line, its input, and the file with what it is to replace.
+static LARGER: [(&[&str], &str, Option<&str>, Option<&str>); 5] = [
+    (
+        &["cclib", "submit", "spool", "call", "a", "1000"],
+        "call a 1000",
+        Some(""),
+        None,
+    ),
+    (
+        &["cclib", "submit", "spool", "call", "a", "1000", "7", "8"],
+        "call a 1000",
+        Some("7 8"),
+        None,
+    ),
+    (
+        &["cclib", "submit", "spool", "call", "a"],
+        "call a",
+        Some(""),
+        None,
+    ),
+    (
+        &["cclib", "submit", "spool", "update", "a", "--was", "old.c"],
+        "update a",
+        None,
+        Some("old.c"),
+    ),
+    (
+        &[
+            "cclib",
+            "submit",
+            "--was=old.c",
+            "spool",
+            "update",
+            "a",
+            "-f",
+            "new.c",
+        ],
+        "update a",
+        None,
+        Some("old.c"),
+    ),
+];
+
+fn asks_for_more(
+    alloc: Global,
+    words: &'static [&'static str],
+    wanted: &str,
+    behind: Option<&str>,
+    file: Option<&str>,
+) -> bool {
+    match line(alloc, words) {
+        Ok(
+            Work::Submit(
+                Submitter {
+                    folder,
+                    line,
+                    input,
+                    was,
+                    wait: None,
+                },
+            ),
+        ) => {
+            folder.as_str() == "spool"
+                && is_line(&line, Some(wanted))
+                && is_line(&input, behind)
+                && is_line(&was, file)
+        }
+        other => {
+            drop(other);
+            false
+        }
+    }
+}
+
+#[test]
+fn larger_lines(rt: HostRuntime) {
+    for (words, wanted, behind, file) in LARGER.iter() {
+        assert!(rt; asks_for_more(rt.alloc(), words, wanted, *behind, *file));
+    }
+}
+
+static REFUSED: [&[&str]; 22] = [
     &["cclib", "serve"],
     &["cclib", "serve", "a.disk"],
     &["cclib", "serve", "a.disk", "spool", "more"],
@@ -208,6 +297,10 @@ static REFUSED: [&[&str]; 18] = [
     &["cclib", "submit", "spool", "--wait", "86401"],
     &["cclib", "submit", "spool", "add", "a b"],
     &["cclib", "submit", "spool", "add", "a\nlist"],
+    &["cclib", "submit", "spool", "update", "a"],
+    &["cclib", "submit", "spool", "update", "a", "--was", ""],
+    &["cclib", "submit", "spool", "update", "a", "--was", "-"],
+    &["cclib", "submit", "spool", "add", "a", "--was", "old.c"],
 ];
 
 #[test]

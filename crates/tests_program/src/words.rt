@@ -105,6 +105,42 @@ fn tasks(rt: HostRuntime) {
     assert!(rt; asks_for_listing(rt.alloc(), &["cclib", "asm"]));
 }
 
+// What a command line asks to be counted: whether of an image, whether that is a checked one, the bound, and how many words the input has.
+fn asks_to_count(
+    alloc: Global,
+    words: &'static [&'static str],
+) -> Option<(bool, bool, u64, usize)> {
+    match line(alloc, words) {
+        Ok(Work::One(Task::InterpretCounted(steps, given))) => {
+            let count = given.len();
+            drop(given);
+            Some((false, false, steps, count))
+        }
+        Ok(Work::One(Task::RunCounted(kind, steps, given))) => {
+            let count = given.len();
+            drop(given);
+            Some((true, kind == Kind::Checked, steps, count))
+        }
+        other => {
+            drop(other);
+            None
+        }
+    }
+}
+
+#[test]
+fn counted_runs(rt: HostRuntime) {
+    let alloc = rt.alloc();
+    let asked = asks_to_count(alloc, &["cclib", "interpret", "--count", "5", "7"]);
+    assert!(rt; asked == Some((false, false, 5, 1)));
+    let asked = asks_to_count(alloc, &["cclib", "run", "9", "--count"]);
+    assert!(rt; asked == Some((true, false, 9, 0)));
+    let asked = asks_to_count(alloc, &["cclib", "run", "--checked", "9", "--count"]);
+    assert!(rt; asked == Some((true, true, 9, 0)));
+    assert!(rt; is_refused(alloc, &["cclib", "check", "--count"]));
+    assert!(rt; is_refused(alloc, &["cclib", "run", "--count", "1000000001"]));
+}
+
 fn asks_for_checked_run(alloc: Global, words: &'static [&'static str]) -> bool {
     matches!(
         line(alloc, words),
@@ -144,6 +180,9 @@ fn checked_images(rt: HostRuntime) {
             }))
         )
     );
+    let asked = line(alloc, &["cclib", "safe"]);
+    assert!(rt; matches!(asked, Ok(Work::One(Task::Safe))));
+    assert!(rt; is_refused(alloc, &["cclib", "safe", "--checked"]));
     let asked = line(alloc, &["cclib", "size"]);
     assert!(rt; matches!(asked, Ok(Work::One(Task::Size(Kind::Plain)))));
     let asked = line(alloc, &["cclib", "image", "--checked"]);

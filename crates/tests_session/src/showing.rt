@@ -24,8 +24,8 @@ const HEX: &str = "\
 :0C00000007000000FEFFFFFF02010000EF\n\
 :00000001FF\n";
 
-// Whether a script of a spool is answered by these lines, up to the fault that ends it, where one does. Its answer has this much room.
-fn is_served<H>(
+/// Whether a script of a spool is answered by these lines, up to the fault that ends it, where one does. Its answer has this much room.
+pub fn is_served<H>(
     rt: &H,
     alloc: Global,
     script: &[u8],

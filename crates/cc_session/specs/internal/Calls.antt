@@ -1,5 +1,5 @@
 -- What a command of a script does and writes.
-use Rattle.std.specs.Prelude.{◌≡◌, ℕ, Bool, true, false, List, [], Option, Some, None, Result, Ok, Err}
+use Rattle.std.specs.Prelude.{◌≡◌, ◌⊎◌, ℕ, Bool, true, false, List, [], Option, Some, None, Result, Ok, Err}
 use Rattle.std.specs.Io.KnownBytes.{Appends}
 use Rattle.cc_answers.specs.Telling.{Tells}
 use Rattle.cc_script.specs.declared.fault.ScriptFault.{ScriptFault}
@@ -12,8 +12,9 @@ use Rattle.cc_service.specs.declared.fault.ServiceFault.{ServiceFault}
 use Rattle.cc_rv32.specs.declared.image.Image.{Image}
 use Rattle.cc_answers.specs.Run.{IsRunOf}
 use Rattle.cc_answers.specs.declared.run.ImageRun.{ImageRun}
-use Rattle.cc_session.specs.Telling.{IsCutOff, IsCutRun, SaysAudit, SaysRun}
-use Rattle.cc_session.specs.Playing.{AuditsEach, CallsAndWrites, CutsRun, IsBounded, Talk, talk}
+use Rattle.cc_service.specs.Updating.{UpdateAnswers}
+use Rattle.cc_session.specs.Telling.{IsCutOff, IsCutRun, SaysAudit, SaysChange, SaysRun, no_memory_text}
+use Rattle.cc_session.specs.Playing.{AuditsEach, CallsAndWrites, CutsRun, IsBounded, Talk, Writes, talk}
 
 -- this was done, and what is to be written of it was; or that could not be written, 54, and the client is as if it had been
 abbrev pub DoesAndTells : {T : Type 0} → (Does : Talk → Talk → Type 0) (old new : Talk) → Result T ScriptFault → Type 0
@@ -39,6 +40,17 @@ AuditsName mode name old new result = (answer : Result Receipt ServiceFault) × 
 abbrev pub AuditsNames : Mode → (names : List (List ℕ)) (old new : Talk) → Result Bool ScriptFault → Type 0
 AuditsNames mode names old new (Ok all) = AuditsEach mode names all old new
 AuditsNames mode names old new (Err fault) = (fault ≡ WriteFault) × (written : Option (List ℕ)) × AuditsEach mode names false old (talk new.client written)
+
+-- ---- what is done with the bytes after a line
+
+-- it was done, or there was no room for it
+abbrev pub DoesOr : (Does : Talk → Talk → Type 0) (old new : Talk) → Type 0
+DoesOr Does old new = Does old new ⊎ Writes no_memory_text old new
+
+-- an update, if there was room for the source that is expected
+abbrev pub UpdatesIf : Mode → (name : List ℕ) → (expected : Option (List ℕ)) → (source : List ℕ) (old new : Talk) → Type 0
+UpdatesIf mode name (Some expected) source old new = CallsAndWrites (UpdateAnswers mode name expected source) (SaysChange source) old new
+UpdatesIf mode name None source old new = ⊥
 
 -- ---- runs
 

@@ -244,6 +244,7 @@ where
     requires base { IsTrue D.honest → (units : Units) → Recovers (D.seen disk) units → units ≡ base }
     requires named { base ≡ N.base }
     requires any { (N.from ≡ 0) × ((image : List ℕ) → N.left image) }
+    requires failures { N.failures ≡ 0 }
 {
     drop(base);
     // A client has a pass of a pool.

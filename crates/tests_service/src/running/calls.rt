@@ -1,11 +1,12 @@
-// Calls of one client, and of two in threads.
+// Calls of one client, its updates, and calls of two in threads.
 
 ghost use Rattle.tests_service.specs.internal.Named.{IsNamed};
 
 use super::reading::{absent_at, done_at, is_found, number};
 use super::starting::{ALL, Begun, Fused, Own, SMALL, adds, begin, ended, opened, prepared};
 use super::trial::{Trial, succeeds};
-use crate::helpers::opened as opened_library;
+use crate::helpers::{TEXTS, opened as opened_library};
+use cc_link::Mode;
 use cc_pool::NoGate;
 use cc_service::{BookFault, Client, MOST_CLIENTS, Named, ServiceFault};
 use std::alloc::Global;
@@ -80,6 +81,27 @@ fn is_estranged(fault: &ServiceFault, at: u64) -> bool {
 }
 
 #[test]
+fn one_client_updates(rt: HostRuntime) -> Result<(), Fail> {
+    succeeds(&rt, rt.alloc(), ALL, 1, NoGate, Trial::Updates)
+}
+
+/// Adds a unit, and updates it: an update whose expected source is another one has the entry of its look alone, one that is done that and the
+/// next, and one of a name without a unit that of its look.
+pub fn updates<N: Own, R: Wait>(rt: &R, alloc: Global, service: Fused<N>) -> Result<bool, Fail> {
+    let mut client = service.client(rt, alloc)?;
+    let added = done_at(service.add(rt, alloc, &mut client, b"a", TEXTS[0]));
+    let mode = Mode::Plain;
+    let (first, second, third) = (TEXTS[0], TEXTS[1], TEXTS[2]);
+    let other = number(service.update_in(rt, alloc, &mut client, mode, b"a", second, third));
+    let done = done_at(service.update_in(rt, alloc, &mut client, mode, b"a", first, second));
+    let absent = number(service.update_in(rt, alloc, &mut client, mode, b"b", first, second));
+    let is_there = is_found(service.get(rt, alloc, &mut client, b"a"), 6, second);
+    let closed = ended(rt, alloc, service, alone(alloc, client)?)?;
+    let right = added == 1 && other == 60 && done == 4 && absent == 32 && is_there;
+    Ok(right && closed.history.len() == 6)
+}
+
+#[test]
 fn two_clients_add_one_name(rt: HostRuntime) -> Result<(), Fail> {
     let begun = prepared(rt.alloc(), ALL)?;
     let numbers = two_threads::<Brand, HostRuntime>(&rt, rt.alloc(), begun)?;
@@ -92,7 +114,7 @@ fn two_threads<N, R>(rt: &R, alloc: Global, begun: Begun) -> Result<(u32, u32), 
 where
     N: Named + Send + Sync + 'static,
     R: Threads + Wait + Copy + Send + Sync + 'static,
-    requires { IsNamed begun.fresh begun.base N.name N.parts N.queue N.base N.from N.left }
+    requires { IsNamed begun.fresh begun.base N.name N.parts N.queue N.failures N.base N.from N.left }
 {
     let service = opened(begin::<N, R, NoGate>(rt, alloc, begun, 2, NoGate))?;
     let one = service.client(rt, alloc)?;

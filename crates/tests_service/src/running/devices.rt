@@ -124,7 +124,7 @@ fn not_opened<N, R>(rt: &R, alloc: Global, begun: Begun) -> Result<Device, Fail>
 where
     N: Named + Send + Sync + 'static,
     R: Threads + Wait + Copy + Send + 'static,
-    requires { IsNamed begun.fresh begun.base N.name N.parts N.queue N.base N.from N.left }
+    requires { IsNamed begun.fresh begun.base N.name N.parts N.queue N.failures N.base N.from N.left }
 {
     refused_with(begin::<N, R, NoGate>(rt, alloc, begun, 1, NoGate), 35)
 }

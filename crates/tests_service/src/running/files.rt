@@ -42,7 +42,7 @@ fn not_a_library<N, R>(
 where
     N: Own,
     R: Threads + Wait + Copy + Send + 'static,
-    requires { AreNamed fresh N.name N.parts N.queue }
+    requires { AreNamed fresh N.name N.parts N.queue N.failures }
 {
     refused_with(
         Service::<N, FileDisk>::open(rt, alloc, fresh, disk, 1, NoGate),
@@ -60,7 +60,7 @@ fn begun<N, R>(
 where
     N: Own,
     R: Threads + Wait + Copy + Send + 'static,
-    requires { AreNamed fresh N.name N.parts N.queue }
+    requires { AreNamed fresh N.name N.parts N.queue N.failures }
 {
     let service = opened(Service::open(rt, alloc, fresh, disk, 1, NoGate))?;
     let client = service.client(rt, alloc)?;
@@ -71,7 +71,7 @@ where
 fn adds<N: Own, R>(rt: &R, alloc: Global, fresh: Fresh, disk: FileDisk) -> Result<bool, Fail>
 where
     R: Threads + Wait + Copy + Send + 'static,
-    requires { AreNamed fresh N.name N.parts N.queue }
+    requires { AreNamed fresh N.name N.parts N.queue N.failures }
 {
     let (service, mut client) = begun::<N, R>(rt, alloc, fresh, disk)?;
     Ok(done_at(service.add(rt, alloc, &mut client, b"a", TEXTS[2])) == 1)
@@ -81,7 +81,7 @@ where
 fn finds<N: Own, R>(rt: &R, alloc: Global, fresh: Fresh, disk: FileDisk) -> Result<bool, Fail>
 where
     R: Threads + Wait + Copy + Send + 'static,
-    requires { AreNamed fresh N.name N.parts N.queue }
+    requires { AreNamed fresh N.name N.parts N.queue N.failures }
 {
     let (service, mut client) = begun::<N, R>(rt, alloc, fresh, disk)?;
     let found = is_found(service.get(rt, alloc, &mut client, b"a"), 1, TEXTS[2]);

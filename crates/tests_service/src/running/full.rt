@@ -50,7 +50,7 @@ fn mended<N, R>(rt: &R, alloc: Global, begun: Begun) -> Result<(u64, [u32; 3], D
 where
     N: Named + Send + Sync + 'static,
     R: Threads + Wait + Copy + Send + 'static,
-    requires { IsNamed begun.fresh begun.base N.name N.parts N.queue N.base N.from N.left }
+    requires { IsNamed begun.fresh begun.base N.name N.parts N.queue N.failures N.base N.from N.left }
 {
     let service = opened(begin::<N, R, NoGate>(rt, alloc, begun, 1, NoGate))?;
     let mut plain = service.client(rt, alloc)?;
@@ -117,7 +117,7 @@ fn crowded<N, R>(rt: &R, alloc: Global, begun: Begun) -> Result<(u64, u64, u32),
 where
     N: Named + Send + Sync + 'static,
     R: Threads + Wait + Copy + Send + 'static,
-    requires { IsNamed begun.fresh begun.base N.name N.parts N.queue N.base N.from N.left }
+    requires { IsNamed begun.fresh begun.base N.name N.parts N.queue N.failures N.base N.from N.left }
 {
     let service = opened(begin::<N, R, NoGate>(rt, alloc, begun, 1, NoGate))?;
     let mut client = service.client(rt, alloc)?.compacting();

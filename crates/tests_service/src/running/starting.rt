@@ -72,7 +72,7 @@ where
     N: Named + Send + Sync + 'static,
     R: Threads + Wait + Copy + Send + 'static,
     G: Gate + Drop + Send + Sync + 'static,
-    requires names { IsNamed begun.fresh begun.base N.name N.parts N.queue N.base N.from N.left }
+    requires names { IsNamed begun.fresh begun.base N.name N.parts N.queue N.failures N.base N.from N.left }
     requires some { 1 ≤ workers }
     requires few { workers ≤ 8 }
 {

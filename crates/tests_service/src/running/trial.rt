@@ -5,7 +5,7 @@ ghost use Rattle.tests_service.specs.internal.Named.{IsNamed};
 
 use super::ahead::{before_their_turn, fails_ahead, held_ahead, not_put};
 use super::answers::each_call;
-use super::calls::{all_made, four_calls, gives_up};
+use super::calls::{all_made, four_calls, gives_up, updates};
 use super::crowds::are_replayed;
 use super::devices::{fails_once, five_calls};
 use super::gates::{Signs, held_by_a_client, held_by_a_piece};
@@ -25,6 +25,8 @@ pub enum Trial<'a> {
     EachCall,
     /// One client makes four.
     FourCalls,
+    /// A unit is replaced if its source is the one that is expected.
+    Updates,
     /// As many clients are made as may be.
     AllMade,
     /// The service is given up, with its client or without.
@@ -60,6 +62,7 @@ where
     match trial {
         Trial::EachCall => each_call(rt, alloc, service),
         Trial::FourCalls => four_calls(rt, alloc, service),
+        Trial::Updates => updates(rt, alloc, service),
         Trial::AllMade => all_made(rt, alloc, service),
         Trial::GivesUp { is_lost } => gives_up(rt, alloc, service, is_lost),
         Trial::SixteenClients => are_replayed(rt, alloc, service),
@@ -88,7 +91,7 @@ where
     N: Own,
     R: Threads + Wait + Copy + Send + Sync + 'static,
     G: Gate + Drop + Send + Sync + 'static,
-    requires names { IsNamed begun.fresh begun.base N.name N.parts N.queue N.base N.from N.left }
+    requires names { IsNamed begun.fresh begun.base N.name N.parts N.queue N.failures N.base N.from N.left }
     requires some { 1 ≤ workers }
     requires few { workers ≤ 8 }
 {

@@ -1,8 +1,9 @@
 -- Why no service was opened; an honest disk was read at most. Or it was opened, and the script's client is all that it had.
-use Rattle.std.proofs.Common.{ap, inl, inr}
+use Rattle.std.proofs.Common.{ℕ, ap, inl, inr, subst}
 use Rattle.cc_service.specs.Client.{members}
 use Rattle.cc_library.specs.declared.fault.LibraryFault.TheVariants.{OutOfMemory}
 use Rattle.cc_service.specs.declared.fault.ServiceFault.TheVariants.{Opening}
+use Rattle.cc_session.specs.Session.{IsEnded}
 use Rattle.cc_session.proofs.Ends.{not_over, reads_back, recovers_base}
 use Rattle.cc_session.proofs.running.do_script.Goals as goal
 
@@ -37,6 +38,7 @@ returns-in-Ok-over g c =
       members c.play_alone-played.new.clients.items,
       c.play_alone-played.result,
       c.play_alone-played.ensures c.finish.result.1 (g.W.Write.contents c.finish.new.answers) c.finish.ensures.still,
-      c.finish.ensures.ended (D.seen c.args.begun.library.disk)
-          (recovers_base D g.N.Based.base c.args.begun.library c.requires.recovered c.requires.named),
+      subst (λ (n : ℕ). IsEnded D n (D.seen c.args.begun.library.disk) g.N.Based.from g.N.Based.left (members c.play_alone-played.new.clients.items) c.play_alone-played.result c.finish.result.1 c.finish.result.0)
+          c.requires.failures
+          (c.finish.ensures.ended (D.seen c.args.begun.library.disk) (recovers_base D g.N.Based.base c.args.begun.library c.requires.recovered c.requires.named)),
     )

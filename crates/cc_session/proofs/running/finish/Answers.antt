@@ -13,14 +13,14 @@ returns-in-Ok-clause-ended g c = λ bytes recovers.
     let N = g.N.Based in
     let r = c.in-Ok.closed in
     let e = c.in-Ok.ensures in
-    kept_by D N.base N.from N.left bytes recovers (members c.args.clients.items) c.args.played
-    (record { base = r.base; library = r.library; history = r.history.items; failed = r.failed.items }) c.disk_of.result c.disk_of.ensures e.sound e.closed e.own
+    kept_by D N.failures N.base N.from N.left bytes recovers (members c.args.clients.items) c.args.played
+    (record { base = r.base; library = r.library; history = r.history.items; failed = r.failed.items }) c.disk_of.result c.disk_of.ensures e.sound e.blamed e.closed e.own
 
 pub returns-in-Err-clause-ended : goal.returns-in-Err-clause-ended
 returns-in-Err-clause-ended g c = λ bytes recovers.
     let D = g.D.Disk in
     let N = g.N.Based in
     let given = c.give_up-disk.result in
-    let it = subst (λ (v : Vec ClientView Global). IsGivenUp D N.base N.from N.left (members v.items) given.1 given.0) c.in-Err.ensures.back c.give_up-disk.ensures in
-    subst (λ (end : SessionEnd). IsEnded D bytes N.from N.left (members c.args.clients.items) c.args.played end given.0) (sym c.given_up.ensures.end)
-    (given_up_by D N.base N.from N.left bytes recovers (members c.args.clients.items) c.args.played given.1 given.0 it)
+    let it = subst (λ (v : Vec ClientView Global). IsGivenUp D N.failures N.base N.from N.left (members v.items) given.1 given.0) c.in-Err.ensures.back c.give_up-disk.ensures in
+    subst (λ (end : SessionEnd). IsEnded D N.failures bytes N.from N.left (members c.args.clients.items) c.args.played end given.0) (sym c.given_up.ensures.end)
+    (given_up_by D N.failures N.base N.from N.left bytes recovers (members c.args.clients.items) c.args.played given.1 given.0 it)

@@ -1,7 +1,8 @@
 -- Why no service was opened; an honest disk was read at most, and no spool was asked.
-use Rattle.std.proofs.Common.{◌≡◌, ◌∙◌, ap, inr, map, refl}
+use Rattle.std.proofs.Common.{◌≡◌, ◌∙◌, ℕ, ap, inr, map, refl, subst}
 use Rattle.cc_library.specs.declared.fault.LibraryFault.TheVariants.{OutOfMemory}
 use Rattle.cc_service.specs.declared.fault.ServiceFault.TheVariants.{Opening}
+use Rattle.cc_session.specs.Session.{HasEnded}
 use Rattle.cc_session.specs.Spooling.{HaveServed, given_by}
 use Rattle.cc_session.proofs.Ends.{not_over, reads_back, reads_none, recovers_base, unserved_by}
 use Rattle.cc_session.proofs.serving.serve_begun.Goals as goal
@@ -34,5 +35,10 @@ returns g c =
 pub returns-in-Ok-over : goal.returns-in-Ok-over
 returns-in-Ok-over g c =
     let D = g.D.Disk in
+    let N = g.N.Based in
+    let by = given_by g.S.Spool.taken g.S.Spool.ended in
     let library = c.args.begun.library in
-    inr (c.serve_opened.ensures (D.seen library.disk) (recovers_base D g.N.Based.base library c.requires.recovered c.requires.named))
+    let left = c.serve_opened.result in
+    inr
+    (subst (λ (n : ℕ). HasEnded D n (D.seen library.disk) N.from N.left (HaveServed c.args.mode (map by c.args.spools.items) (map by left.spools.items)) left.end left.disk) c.requires.failures
+    (c.serve_opened.ensures (D.seen library.disk) (recovers_base D N.base library c.requires.recovered c.requires.named)))

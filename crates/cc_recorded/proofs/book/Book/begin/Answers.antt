@@ -1,10 +1,11 @@
-use Rattle.std.proofs.Common.{◌≡◌, List, [], Some, None, refl, sym, ap, subst, ◌∙◌}
+use Rattle.std.proofs.Common.{◌≡◌, ◌≤◌, List, [], Some, None, refl, sym, ap, subst, ◌∙◌}
 use Rattle.std.specs.Prelude.{slice_get}
 use Rattle.cc_headline.specs.Compiling.{compiling, Keeps}
 use Rattle.cc_recorded.specs.Book.{BookView}
 use Rattle.cc_recorded.specs.Since.{AreSince, IsSinceOpening}
 use Rattle.cc_recorded.specs.Tie.{IsTied}
 use Rattle.cc_recorded.proofs.Tying.{opening_tied}
+use Rattle.cc_recorded.proofs.Blaming.{none_failed}
 use Rattle.cc_recorded.proofs.Sinces.{one_more, opening_now, ordered_begins}
 use Rattle.cc_recorded.proofs.book.Book.begin.Goals as goal
 
@@ -21,6 +22,8 @@ invariant_of-result g c =
           (λ k old at. let none : None ≡ Some old = sym (ap (λ (l : List (BookView g.row.D.Denot)). slice_get l k) c.new.ensures) ∙ at in absurd (cc)));
       opened = λ h. subst (λ (b : BookView g.row.D.Denot). IsSinceOpening D g.N.Based.from g.N.Based.left b) (sym c.new-recorded.ensures)
           (opening_now D first g.N.Based.from g.N.Based.left (c.requires.past h));
+      blamed = none_failed D g.N.Based.failures book (ap (λ (b : BookView g.row.D.Denot). b.failed) c.new-recorded.ensures)
+          (subst (λ (b : BookView g.row.D.Denot). g.N.Based.failures ≤ D.failures b.library.disk) (sym c.new-recorded.ensures) c.requires.failures);
       ordered = λ h. ordered_begins D book c.kept.ensures.replays c.kept.ensures.one (λ image left. g.met.D.Disk.only_now book.library.disk image h left) (c.kept.ensures.images h)
           (ap (λ (b : BookView g.row.D.Denot). b.history) c.new-recorded.ensures);
     }

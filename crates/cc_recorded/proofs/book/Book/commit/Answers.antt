@@ -6,6 +6,7 @@ use Rattle.cc_recorded.specs.Changed.{IsBookChanged}
 use Rattle.cc_recorded.specs.Since.{AreSince, BookSince}
 use Rattle.cc_core.specs.Rules.{HasBuilt}
 use Rattle.cc_history.specs.Calls.{change_of}
+use Rattle.cc_recorded.proofs.Blaming.{commit_blames}
 use Rattle.cc_recorded.proofs.Tying.{TurnLaw, commit_tied}
 use Rattle.cc_recorded.proofs.Putting.{built_of}
 use Rattle.cc_recorded.proofs.Sinces.{Goes, commit_goes, one_more, opening_goes, ordered_goes, since_goes}
@@ -23,6 +24,7 @@ invariant_of-self g c =
     c.args.client.now c.commit-result.new.client c.args.command c.commit-result.result done.answers (done.moments h) in
     let built : HasBuilt compiling Keeps (change_of c.args.command) = built_of c.made_units_are_built.ensures c.args.command c.kept-2.ensures.source c.kept-2.ensures.made in
     record {
+      blamed = commit_blames D g.N.Based.failures before after_it c.self.invariant.blamed c.args.client.now c.commit-result.new.client c.args.command c.commit-result.result done.answers;
       tied = λ h. commit_tied compiling Keeps law D (λ d. g.met.D.Disk.seen_is_image d h) before after_it
           c.args.client.now c.commit-result.new.client c.args.command c.commit-result.result done.answers (done.disk h) c.kept-2.ensures.command built (c.self.invariant.tied h);
       since = λ h. subst (λ (l : List (BookView g.row.D.Denot)). AreSince D after_it l) (sym c.and-self-inside.ensures)

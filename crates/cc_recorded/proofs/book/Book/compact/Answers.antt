@@ -3,6 +3,7 @@ use Rattle.cc_headline.specs.Compiling.{compiling, Keeps}
 use Rattle.cc_recorded.specs.Book.{BookView}
 use Rattle.cc_recorded.specs.Changed.{IsBookCompacted}
 use Rattle.cc_recorded.specs.Since.{AreSince, BookSince}
+use Rattle.cc_recorded.proofs.Blaming.{compact_blames}
 use Rattle.cc_recorded.proofs.Tying.{TurnLaw, compact_tied}
 use Rattle.cc_recorded.proofs.Sinces.{Goes, compact_goes, one_more, opening_goes, ordered_goes, since_goes}
 use Rattle.cc_recorded.proofs.book.Book.compact.Goals as goal
@@ -17,6 +18,7 @@ invariant_of-self g c =
     let goes : IsTrue D.honest → Goes D before after_it = λ h.
     compact_goes D before after_it c.kept.ensures.replays c.kept-2.ensures.replays c.kept.ensures.idle c.compact-result.result done.answers (done.moments h) in
     record {
+      blamed = compact_blames D g.N.Based.failures before after_it c.self.invariant.blamed c.compact-result.result done.answers;
       tied = λ h. compact_tied compiling Keeps law D before after_it c.compact-result.result done.answers (done.disk h) (c.self.invariant.tied h);
       since = λ h. subst (λ (l : List (BookView g.row.D.Denot)). AreSince D after_it l) (sym c.and-self-inside.ensures)
           (one_more D after_it c.self.inside.since.items c.kept-2.ensures.replays c.kept-2.ensures.one (λ image left. g.met.D.Disk.only_now after_it.library.disk image h left) (c.kept-2.ensures.images h)

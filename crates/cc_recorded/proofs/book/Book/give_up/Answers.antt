@@ -12,6 +12,7 @@ returns g c =
     record {
       disk = c.into_disk.ensures;
       sound = c.survives.ensures.sound;
+      blamed = c.survives.ensures.blamed;
       own = whole.own;
       closed = λ all. subst (λ (b : BookView g.row.D.Denot). IsClosed b.history clients) book (whole.closed all);
       why = λ not. subst (λ (b : BookView g.row.D.Denot). IsNotWhole b.history clients) book (whole.why not);

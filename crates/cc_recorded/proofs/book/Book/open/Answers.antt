@@ -1,5 +1,5 @@
 -- What the library's opening says of the disk handed in, said of the one handed out, whose bytes are the same.
-use Rattle.std.proofs.Common.{◌∙◌, List, ℕ, ap, sym, subst}
+use Rattle.std.proofs.Common.{◌∙◌, ◌≤◌, List, ℕ, ap, sym, subst}
 use Rattle.cc_journal.specs.Format.{HoldsRecords}
 use Rattle.cc_recorded.specs.Book.{BookView}
 use Rattle.cc_recorded.proofs.Sinces.{past_on}
@@ -15,6 +15,9 @@ over-requires-clause-opened g c =
       settled = opening.settled;
       images = opening.kept;
     }
+
+pub over-requires-clause-failures : goal.over-requires-clause-failures
+over-requires-clause-failures g c = subst (λ (n : ℕ). g.N.Based.failures ≤ n) (sym c.in-Ok.ensures.sound) c.requires.failures
 
 pub over-requires-clause-past : goal.over-requires-clause-past
 over-requires-clause-past g c = λ h.

@@ -2,7 +2,7 @@ use Rattle.std.proofs.Common.{◌≡◌, ℕ, List, IsTrue, Some, length, subst}
 use Rattle.std.specs.Prelude.{slice_get}
 use Rattle.cc_headline.specs.Compiling.{compiling, Keeps, is_right}
 use Rattle.cc_recorded.specs.Book.{BookView}
-use Rattle.cc_recorded.specs.Promise.{IsSound}
+use Rattle.cc_recorded.specs.Promise.{FailedByDevice, IsSound}
 use Rattle.cc_recorded.specs.Since.{BookSince, HoldsFrom}
 use Rattle.cc_recorded.specs.Tie.{IsTied}
 use Rattle.cc_recorded.proofs.Surviving.{held_agrees, map_agrees, or_prefix, tied_survives}
@@ -36,6 +36,10 @@ returns-clause-sound g c =
           or_prefix book N.left image (held_agrees c.units_agree.ensures c.units_law.ensures.found book kept.replays kept.agreed kept.agreed_failed 0 image) ((c.self.invariant.opened h).holds image left);
       ordered = λ h. c.self.invariant.ordered h;
     })
+
+pub returns-clause-blamed : goal.returns-clause-blamed
+returns-clause-blamed g c =
+    subst (λ (b : BookSince g.row.D.Denot). FailedByDevice g.D.Disk g.N.Based.failures b.book) c.self.view_is c.self.invariant.blamed
 
 pub returns-clause-since : goal.returns-clause-since
 returns-clause-since g c =

@@ -9,11 +9,12 @@ returns g c =
     let D = g.D.Disk in
     let N = g.N.Based in
     let given = c.give_up-given_up in
-    subst (λ (l : List ClientView). IsGivenUp D N.base N.from N.left (members l) given.result.1 given.result.0) c.as_slice.ensures.value
+    subst (λ (l : List ClientView). IsGivenUp D N.failures N.base N.from N.left (members l) given.result.1 given.result.0) c.as_slice.ensures.value
     (record {
       book = c.into_inner.result.book;
       disk_is = sym given.ensures.disk;
       sound = given.ensures.sound;
+      blamed = given.ensures.blamed;
       own = given.ensures.own;
       closed = given.ensures.closed;
       why = given.ensures.why;

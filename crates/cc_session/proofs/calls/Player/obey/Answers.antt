@@ -1,14 +1,14 @@
 -- Each line is what it asks for.
 use Rattle.std.proofs.Common.{[], None, Some, refl}
 use Rattle.cc_answers.specs.Telling.{script_fault_text}
-use Rattle.cc_script.specs.Line.{Add, Replace, Withdraw, Names, Compact, Audit, Image, Source, asked_of}
+use Rattle.cc_script.specs.Line.{Add, Replace, Withdraw, Names, Compact, Audit, Image, Source, AuditOne, Update, Call, asked_of}
 use Rattle.cc_script.specs.declared.fault.ScriptFault.TheVariants.{BadLine}
 use Rattle.cc_task.specs.declared.part.Part.TheVariants as part
 use Rattle.cc_service.specs.Serving.{GetAnswers, ListAnswers, WithdrawAnswers}
-use Rattle.cc_session.specs.Playing.{Audits, CallsAndWrites, Compacts, Writes, talk}
+use Rattle.cc_session.specs.Playing.{Audits, AuditsOne, CallsAndWrites, Compacts, Writes, talk}
 use Rattle.cc_session.specs.Telling.{SaysChange, SaysNames, SaysShown}
 use Rattle.cc_session.proofs.Cutting.{obeyed_run, run_grows}
-use Rattle.cc_session.proofs.Growing.{audit_grows, get_grows, grows_same, list_grows, withdraw_grows}
+use Rattle.cc_session.proofs.Growing.{audit_grows, audit_one_grows, get_grows, grows_same, list_grows, withdraw_grows}
 use Rattle.cc_session.proofs.Obeying.{called_as, obeyed_as, tells_call, tells_only}
 use Rattle.cc_session.proofs.calls.Player.obey.Goals as goal
 
@@ -94,3 +94,22 @@ returns-in-None-clause-done g c =
 
 pub returns-in-None-clause-grows : goal.returns-in-None-clause-grows
 returns-in-None-clause-grows g c = grows_same c.args.client.now.member c.args.client.now.member refl
+
+pub returns-in-Some-AuditOne-clause-done : goal.returns-in-Some-AuditOne-clause-done
+returns-in-Some-AuditOne-clause-done g c =
+    called_as c.args.self.now.mode c.args.self.now.most c.audit_one.result (asked_of c.args.dialect c.args.line.now) (Some (AuditOne c.in-Some-AuditOne.name.now)) c.args.script.now (talk c.args.client.now.member (g.W.Write.contents c.args.answers.now)) (talk c.audit_one.new.client.member (g.W.Write.contents c.audit_one.new.answers))
+    (AuditsOne c.args.self.now.mode c.in-Some-AuditOne.name.now) (rw c.in-Some-AuditOne.field-0-is at c.in-Some-AuditOne.ensures) c.audit_one.ensures (λ b n it. (refl, it))
+
+pub returns-in-Some-AuditOne-clause-grows : goal.returns-in-Some-AuditOne-clause-grows
+returns-in-Some-AuditOne-clause-grows g c =
+    audit_one_grows c.args.self.now.mode c.audit_one.result c.in-Some-AuditOne.name.now (talk c.args.client.now.member (g.W.Write.contents c.args.answers.now)) (talk c.audit_one.new.client.member (g.W.Write.contents c.audit_one.new.answers)) c.audit_one.ensures
+
+pub returns-in-Some-Update-clause-done : goal.returns-in-Some-Update-clause-done
+returns-in-Some-Update-clause-done g c =
+    obeyed_as c.args.self.now.mode c.args.self.now.most c.update.result (asked_of c.args.dialect c.args.line.now) (Some (Update c.in-Some-Update.name.now c.in-Some-Update.expected c.in-Some-Update.length)) c.args.script.now c.update.new.script
+    (talk c.args.client.now.member (g.W.Write.contents c.args.answers.now)) (talk c.update.new.client.member (g.W.Write.contents c.update.new.answers)) (rw c.in-Some-Update.field-0-is at c.in-Some-Update.ensures) c.update.ensures.done
+
+pub returns-in-Some-Call-clause-done : goal.returns-in-Some-Call-clause-done
+returns-in-Some-Call-clause-done g c =
+    obeyed_as c.args.self.now.mode c.args.self.now.most c.call.result (asked_of c.args.dialect c.args.line.now) (Some (Call c.in-Some-Call.name.now c.in-Some-Call.steps c.in-Some-Call.length)) c.args.script.now c.call.new.script
+    (talk c.args.client.now.member (g.W.Write.contents c.args.answers.now)) (talk c.call.new.client.member (g.W.Write.contents c.call.new.answers)) (rw c.in-Some-Call.field-0-is at c.in-Some-Call.ensures) c.call.ensures.done

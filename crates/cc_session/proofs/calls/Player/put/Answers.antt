@@ -1,18 +1,27 @@
 -- A source that was handed to the service, one after which another byte stands, and one for which there was no room.
-use Rattle.std.proofs.Common.{refl, rules}
-use Rattle.cc_service.specs.Serving.{Puts}
-use Rattle.cc_session.specs.Playing.{IsSent, IsUnended, talk}
+use Rattle.std.proofs.Common.{List, ℕ, inl, refl, rules}
+use Rattle.cc_service.specs.Serving.{PutAnswers, Puts}
+use Rattle.cc_session.specs.Playing.{CallsAndWrites, IsSent, IsUnended, Talk, talk}
+use Rattle.cc_session.specs.Telling.{SaysChange}
+use Rattle.cc_session.specs.internal.Calls.{DoesOr}
 use Rattle.cc_session.specs.internal.Steps.{IsNotDone, IsShortOf}
 use Rattle.cc_session.proofs.Growing.{grows_same, put_grows}
+use Rattle.cc_session.proofs.Obeying.{tells_call, tells_more}
 use Rattle.cc_session.proofs.Playing.{not_sent}
-use Rattle.cc_session.proofs.Putting.{put_step, skip_step, unsent_step}
+use Rattle.cc_session.proofs.Putting.{sent_step, skip_step, unsent_step}
 use Rattle.cc_session.proofs.calls.Player.put.Goals as goal
 
 pub returns-in-Source-clause-done : goal.returns-in-Source-clause-done
 returns-in-Source-clause-done g c =
     let read = rw c.in-Source.is at c.in_ok-source.ensures.bytes in
-    put_step c.args.self.now.mode c.change.result (Puts c.args.put) c.args.name.now c.in-Source.source c.as_slice-source.result.now c.as_slice-source.ensures.value c.args.length c.args.script.now c.source.new.self
-    (talk c.args.client.now.member (g.W.Write.contents c.args.answers.now)) (talk c.change.new.client.member (g.W.Write.contents c.change.new.answers)) read c.change.ensures
+    let mode = c.args.self.now.mode in
+    let name = c.args.name.now in
+    let sent = c.as_slice-source.result.now in
+    let old = talk c.args.client.now.member (g.W.Write.contents c.args.answers.now) in
+    let new = talk c.change.new.client.member (g.W.Write.contents c.change.new.answers) in
+    let Does : List ℕ → Talk → Talk → Type 0 = λ source o n. CallsAndWrites (PutAnswers mode (Puts c.args.put mode name source) name source) (SaysChange source) o n in
+    sent_step c.change.result Does c.in-Source.source sent c.as_slice-source.ensures.value c.args.length c.args.script.now c.source.new.self old new read
+    (tells_more c.change.result (Does sent) (DoesOr (Does sent)) old new (λ n it. inl it) (tells_call c.change.result (PutAnswers mode (Puts c.args.put mode name sent) name sent) (SaysChange sent) old new c.change.ensures))
 
 pub returns-in-Source-clause-grows : goal.returns-in-Source-clause-grows
 returns-in-Source-clause-grows g c =
@@ -21,7 +30,9 @@ returns-in-Source-clause-grows g c =
 pub returns-in-Unended-clause-done : goal.returns-in-Unended-clause-done
 returns-in-Unended-clause-done g c =
     let read = rw c.in-Unended.is at c.in_ok-source.ensures.bytes in
-    skip_step c.args.self.now.mode c.refuse_and_skip.result (Puts c.args.put) c.args.name.now c.args.length c.args.script.now c.source.new.self c.refuse_and_skip.new.self c.refuse_and_skip.new.self.left
+    let mode = c.args.self.now.mode in
+    let name = c.args.name.now in
+    skip_step c.refuse_and_skip.result (λ source o n. CallsAndWrites (PutAnswers mode (Puts c.args.put mode name source) name source) (SaysChange source) o n) c.args.length c.args.script.now c.source.new.self c.refuse_and_skip.new.self c.refuse_and_skip.new.self.left
     (talk c.args.client.now.member (g.W.Write.contents c.args.answers.now)) (talk c.args.client.now.member (g.W.Write.contents c.refuse_and_skip.new.answers)) refl read c.refuse_and_skip.ensures.bytes c.refuse_and_skip.ensures.written
     c.refuse_and_skip.ensures.refused
 
@@ -31,7 +42,9 @@ returns-in-Unended-clause-grows g c = grows_same c.args.client.now.member c.args
 pub returns-in-NoRoom-clause-done : goal.returns-in-NoRoom-clause-done
 returns-in-NoRoom-clause-done g c =
     let read = rw c.in-NoRoom.is at c.in_ok-source.ensures.bytes in
-    unsent_step c.args.self.now.mode c.tell_no_memory.result (Puts c.args.put) c.args.name.now c.args.length c.args.script.now c.source.new.self
+    let mode = c.args.self.now.mode in
+    let name = c.args.name.now in
+    unsent_step c.tell_no_memory.result (λ source o n. CallsAndWrites (PutAnswers mode (Puts c.args.put mode name source) name source) (SaysChange source) o n) c.args.length c.args.script.now c.source.new.self
     (talk c.args.client.now.member (g.W.Write.contents c.args.answers.now)) (talk c.args.client.now.member (g.W.Write.contents c.tell_no_memory.new.answers)) refl read c.tell_no_memory.ensures
 
 pub returns-in-NoRoom-clause-grows : goal.returns-in-NoRoom-clause-grows

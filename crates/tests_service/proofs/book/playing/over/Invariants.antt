@@ -8,4 +8,4 @@ abbrev pub ghosts-run-N-Queued : goal.ghosts-run-N-Queued
 ghosts-run-N-Queued g a = record { queue = a.queue }
 
 abbrev pub ghosts-run-N-Based : goal.ghosts-run-N-Based
-ghosts-run-N-Based g a = record { base = a.base; from = 0; left = λ image. Unit {0} }
+ghosts-run-N-Based g a = record { base = a.base; failures = 0; from = 0; left = λ image. Unit {0} }

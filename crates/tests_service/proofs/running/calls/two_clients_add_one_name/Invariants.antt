@@ -8,4 +8,4 @@ abbrev pub ghosts-two_threads-N-Queued : goal.ghosts-two_threads-N-Queued
 ghosts-two_threads-N-Queued g a = record { queue = a.begun.fresh.queue }
 
 abbrev pub ghosts-two_threads-N-Based : goal.ghosts-two_threads-N-Based
-ghosts-two_threads-N-Based g a = record { base = a.begun.base; from = 0; left = λ image. Unit {0} }
+ghosts-two_threads-N-Based g a = record { base = a.begun.base; failures = 0; from = 0; left = λ image. Unit {0} }

@@ -8,4 +8,4 @@ abbrev pub ghosts-not_opened-N-Queued : goal.ghosts-not_opened-N-Queued
 ghosts-not_opened-N-Queued g a = record { queue = a.begun.fresh.queue }
 
 abbrev pub ghosts-not_opened-N-Based : goal.ghosts-not_opened-N-Based
-ghosts-not_opened-N-Based g a = record { base = a.begun.base; from = 0; left = λ image. Unit {0} }
+ghosts-not_opened-N-Based g a = record { base = a.begun.base; failures = 0; from = 0; left = λ image. Unit {0} }

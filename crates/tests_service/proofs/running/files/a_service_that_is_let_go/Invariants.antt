@@ -9,7 +9,7 @@ abbrev pub ghosts-not_a_library-N-Queued : goal.ghosts-not_a_library-N-Queued
 ghosts-not_a_library-N-Queued g a = record { queue = a.fresh.queue }
 
 abbrev pub ghosts-not_a_library-N-Based : goal.ghosts-not_a_library-N-Based
-ghosts-not_a_library-N-Based g a = record { base = empty; from = 0; left = λ image. Unit {0} }
+ghosts-not_a_library-N-Based g a = record { base = empty; failures = 0; from = 0; left = λ image. Unit {0} }
 
 abbrev pub ghosts-adds-N-Ledger : goal.ghosts-adds-N-Ledger
 ghosts-adds-N-Ledger g a = record { name = a.fresh.ledger; parts = 1025 }
@@ -18,7 +18,7 @@ abbrev pub ghosts-adds-N-Queued : goal.ghosts-adds-N-Queued
 ghosts-adds-N-Queued g a = record { queue = a.fresh.queue }
 
 abbrev pub ghosts-adds-N-Based : goal.ghosts-adds-N-Based
-ghosts-adds-N-Based g a = record { base = empty; from = 0; left = λ image. Unit {0} }
+ghosts-adds-N-Based g a = record { base = empty; failures = 0; from = 0; left = λ image. Unit {0} }
 
 abbrev pub ghosts-finds-N-Ledger : goal.ghosts-finds-N-Ledger
 ghosts-finds-N-Ledger g a = record { name = a.fresh.ledger; parts = 1025 }
@@ -27,4 +27,4 @@ abbrev pub ghosts-finds-N-Queued : goal.ghosts-finds-N-Queued
 ghosts-finds-N-Queued g a = record { queue = a.fresh.queue }
 
 abbrev pub ghosts-finds-N-Based : goal.ghosts-finds-N-Based
-ghosts-finds-N-Based g a = record { base = empty; from = 0; left = λ image. Unit {0} }
+ghosts-finds-N-Based g a = record { base = empty; failures = 0; from = 0; left = λ image. Unit {0} }

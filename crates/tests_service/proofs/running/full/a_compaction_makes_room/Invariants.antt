@@ -8,4 +8,4 @@ abbrev pub ghosts-mended-N-Queued : goal.ghosts-mended-N-Queued
 ghosts-mended-N-Queued g a = record { queue = a.begun.fresh.queue }
 
 abbrev pub ghosts-mended-N-Based : goal.ghosts-mended-N-Based
-ghosts-mended-N-Based g a = record { base = a.begun.base; from = 0; left = λ image. Unit {0} }
+ghosts-mended-N-Based g a = record { base = a.begun.base; failures = 0; from = 0; left = λ image. Unit {0} }

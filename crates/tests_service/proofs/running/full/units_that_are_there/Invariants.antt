@@ -8,4 +8,4 @@ abbrev pub ghosts-crowded-N-Queued : goal.ghosts-crowded-N-Queued
 ghosts-crowded-N-Queued g a = record { queue = a.begun.fresh.queue }
 
 abbrev pub ghosts-crowded-N-Based : goal.ghosts-crowded-N-Based
-ghosts-crowded-N-Based g a = record { base = a.begun.base; from = 0; left = λ image. Unit {0} }
+ghosts-crowded-N-Based g a = record { base = a.begun.base; failures = 0; from = 0; left = λ image. Unit {0} }

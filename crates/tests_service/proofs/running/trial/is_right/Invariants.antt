@@ -8,4 +8,4 @@ abbrev pub ghosts-begins_right-N-Queued : goal.ghosts-begins_right-N-Queued
 ghosts-begins_right-N-Queued g a = record { queue = a.begun.fresh.queue }
 
 abbrev pub ghosts-begins_right-N-Based : goal.ghosts-begins_right-N-Based
-ghosts-begins_right-N-Based g a = record { base = a.begun.base; from = 0; left = λ image. Unit {0} }
+ghosts-begins_right-N-Based g a = record { base = a.begun.base; failures = 0; from = 0; left = λ image. Unit {0} }

@@ -1,0 +1,2 @@
+-- Where the functions of an image are.
+pub mod Placing

@@ -1,0 +1,13 @@
+//! What is found of a program without running it: what its image takes, and whether it can go wrong.
+//!
+//! `sizing` gives what an image takes the names and places of its functions, `recursion` says which calls are part of a cycle, `judging` whether
+//! a program can go wrong, and where it may. Each also writes its lines.
+//! Hands out `measured`, `judge`, `write_measure`, `write_judged`, their types, and the definitions that the contracts name (`specs/`).
+#![tactic(auto)]
+
+mod judging;
+mod recursion;
+mod sizing;
+
+pub use judging::{Unsure, cause_name, judge, write_judged};
+pub use sizing::{CyclicCall, Measure, SizedFunction, measured, write_measure};

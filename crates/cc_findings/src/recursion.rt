@@ -1,0 +1,80 @@
+// Which calls are part of a cycle of calls, as `size` names them.
+//
+// Sets of functions are words, a bit for each: a unit has at most 64.
+
+use cc_emit::{Piece, PieceItem};
+use std::alloc::{AllocError, Global};
+
+/// A call by which a function calls itself, at once or through others: the number of the function that calls, and of the one that is called.
+#[derive(Clone, Copy)]
+pub(crate) struct Recursion {
+    pub(crate) caller: usize,
+    pub(crate) called: usize,
+}
+
+pub(crate) fn bit(function: usize) -> u64 {
+    if function < 64 { 1 << function } else { 0 }
+}
+
+// The functions that these items call.
+fn called_by(items: &[PieceItem]) -> u64 {
+    let mut called = 0;
+    for item in items {
+        match item {
+            PieceItem::Call(function) => called |= bit(*function as usize),
+            PieceItem::Plain(_) | PieceItem::Go(_) => {}
+        }
+    }
+    called
+}
+
+// The functions that each function calls.
+fn all_called(alloc: Global, pieces: &[Piece]) -> Result<Vec<u64>, AllocError> {
+    let mut calls = Vec::with_capacity(alloc, pieces.len())?;
+    for piece in pieces {
+        calls.push(called_by(piece.items()))?;
+    }
+    Ok(calls)
+}
+
+fn row(rows: &[u64], function: usize) -> u64 {
+    rows.get(function).copied().unwrap_or(0)
+}
+
+// The functions that calls of each function lead to.
+fn all_reached(alloc: Global, calls: &[u64]) -> Result<Vec<u64>, AllocError> {
+    let mut reached = Vec::from_slice(alloc, calls)?;
+    for middle in 0..calls.len() {
+        let further = row(reached.as_slice(), middle);
+        for function in 0..calls.len() {
+            if let Some(found) = reached.get_mut(function) {
+                if *found & bit(middle) != 0 {
+                    *found |= further;
+                }
+            }
+        }
+    }
+    Ok(reached)
+}
+
+/// The calls of functions of pieces that are part of a cycle.
+pub(crate) fn recursions(alloc: Global, pieces: &[Piece]) -> Result<Vec<Recursion>, AllocError> {
+    let calls = all_called(alloc, pieces)?;
+    cyclic(alloc, calls.as_slice())
+}
+
+/// The calls that are part of a cycle, by who calls and then by who is called, where each function calls so many.
+pub(crate) fn cyclic(alloc: Global, calls: &[u64]) -> Result<Vec<Recursion>, AllocError> {
+    let reached = all_reached(alloc, calls)?;
+    let mut found = Vec::new(alloc);
+    for caller in 0..calls.len() {
+        let own = row(calls, caller);
+        for called in 0..calls.len() {
+            let back = row(reached.as_slice(), called);
+            if own & bit(called) != 0 && (called == caller || back & bit(caller) != 0) {
+                found.push(Recursion { caller, called })?;
+            }
+        }
+    }
+    Ok(found)
+}

@@ -1,0 +1,70 @@
+// The command `size` with DISK and NAME: what the image of a unit of the library in a file takes. Nothing is written to the file.
+
+use crate::telling::{refuse, unwritten};
+use cc_answers::{Telling, tell_audit};
+use cc_call::{StoredSize, size_on};
+use cc_command_line::Measuring;
+use cc_filing::disk_of;
+use cc_findings::write_measure;
+use cc_tasks::{PartFault, mode_of};
+use std::alloc::{AllocError, Global};
+use std::io::{self, BufWriter, Print, Write};
+
+// What the image of the unit takes.
+fn size_of<E: Write>(
+    alloc: Global,
+    files: &HostRuntime,
+    asked: &Measuring,
+    told: &mut E,
+) -> Result<StoredSize, PartFault> {
+    match disk_of(files, asked.disk.as_str(), None) {
+        Ok(disk) => {
+            let name = asked.name.as_bytes();
+            let (size, disk) = size_on(alloc, disk, name, mode_of(asked.kind), told);
+            drop(disk);
+            size
+        }
+        Err(reason) => Err(PartFault::Library(reason.fault())),
+    }
+}
+
+// Writes what an image takes, or what an audit says of the unit; the status.
+fn answer<W: Write, E: Write>(name: &[u8], size: &StoredSize, writer: &mut W, told: &mut E) -> u8 {
+    match size {
+        StoredSize::Confirmed(measure) => {
+            let written = write_measure(measure, writer);
+            if written.is_err() || writer.flush().is_err() {
+                return unwritten(told);
+            }
+            0
+        }
+        StoredSize::Left(audit) => {
+            if tell_audit(name, *audit, writer).is_err() {
+                return unwritten(told);
+            }
+            1
+        }
+    }
+}
+
+/// Writes what the image of a unit of the library in a file takes, or the line of an audit that does not confirm it; the status: 0 if it is
+/// confirmed. The error is lack of memory before it began.
+pub fn size_in_file<R: AllocGlobal + Print, E: Write + Drop>(
+    rt: &R,
+    files: &HostRuntime,
+    asked: &Measuring,
+    is_quiet: bool,
+    errors: E,
+) -> Result<u8, AllocError> {
+    let (Ok(mut writer), Ok(errors)) = (
+        BufWriter::new(rt.alloc(), io::writer(rt)),
+        BufWriter::new(rt.alloc(), errors),
+    ) else {
+        return Err(AllocError);
+    };
+    let mut told = Telling { errors, is_quiet };
+    Ok(match size_of(rt.alloc(), files, asked, &mut told) {
+        Ok(size) => answer(asked.name.as_bytes(), &size, &mut writer, &mut told),
+        Err(fault) => refuse(fault, &mut writer, &mut told),
+    })
+}

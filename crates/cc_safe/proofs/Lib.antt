@@ -1,0 +1,7 @@
+-- Functions that call only functions of lower ranks.
+pub mod Falling
+-- What is said of one number after another.
+pub mod Numbers
+-- Both laws together.
+pub mod Safe
+pub mod Trees

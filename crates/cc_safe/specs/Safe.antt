@@ -1,0 +1,11 @@
+-- When a program can't go wrong at all.
+use Rattle.std.specs.Prelude.{◌≢◌, ℕ, List}
+use Rattle.cc_ast.specs.Tree.{Source}
+use Rattle.cc_c_laws.specs.Meaning.{source_behavior}
+use Rattle.cc_c_laws.specs.Outcome.{Wrong}
+use Rattle.cc_c_laws.specs.declared.cause.Cause.{Cause}
+use Rattle.cc_simulation.specs.Behavior.{AreWords}
+
+-- it goes wrong for no cause, on no input and at no bound
+abbrev pub IsSafe : Source → Type 0
+IsSafe source = (input : List ℕ) → AreWords input → (n : ℕ) (cause : Cause) → (source_behavior source input n).stop ≢ Wrong cause

@@ -1,0 +1,2 @@
+-- The ranks of functions.
+pub mod Ranks

@@ -1,0 +1,20 @@
+-- What was done under the lock, of a book that keeps what every book does.
+use Rattle.std.proofs.Common.{subst}
+use Rattle.cc_history.specs.declared.command.Command.TheVariants.{Replace}
+use Rattle.cc_recorded.specs.Promise.{IsSound}
+use Rattle.cc_recorded.specs.Since.{BookSince}
+use Rattle.cc_service.proofs.Updating.{update_stored, updates_by}
+use Rattle.cc_service.proofs.service.Service.exchange.Goals as goal
+
+pub returns-clause-answers : goal.returns-clause-answers
+returns-clause-answers g c =
+    updates_by g.D.Disk c.deref_mut.result.now.book c.update-answer.new.book.book c.args.client.now.member c.update-answer.new.self.member c.args.name c.args.expected.now (Replace c.args.name c.args.unit)
+    c.update-answer.result c.update-answer.ensures.answers
+
+pub returns-clause-stored : goal.returns-clause-stored
+returns-clause-stored g c =
+    let D = g.D.Disk in
+    let N = g.N.Based in
+    let sound = subst (λ (b : BookSince g.row.D.Denot). IsSound D N.base N.from N.left b.book) c.deref.ensures c.survives.ensures.sound in
+    update_stored D N.base N.from N.left c.deref_mut.result.now.book c.update-answer.new.book.book c.args.client.now.member c.update-answer.new.self.member c.args.name c.args.expected.now (Replace c.args.name c.args.unit)
+    c.update-answer.result c.update-answer.ensures.answers sound

@@ -1,0 +1,2 @@
+-- How many steps a run takes.
+pub mod Count

@@ -1,0 +1,10 @@
+//! Runs with a count: of a program by the meaning of C, and of its image on the machine.
+//!
+//! `count` runs a program and counts its steps; what counts the instructions of an image is `cc_runs`, and is handed on. Hands out
+//! `interpret_counted`, `run_counted`, `write_counted_run`, their types, and the definition that the contract names (`specs/`).
+#![tactic(auto)]
+
+mod count;
+
+pub use cc_runs::{CountedRun, run_counted, write_counted_run};
+pub use count::{CountedOutcome, interpret_counted};

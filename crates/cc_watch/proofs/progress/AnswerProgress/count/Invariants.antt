@@ -1,0 +1,6 @@
+-- The writer behind is the same.
+use Rattle.std.proofs.Common.{◌≡◌}
+use Rattle.cc_watch.proofs.progress.AnswerProgress.count.Given as goal
+
+abbrev pub invariant-loop-byte : goal.invariant-loop-byte
+invariant-loop-byte g l = l.self.writer ≡ l.initial.self.writer

@@ -1,0 +1,133 @@
+// A writer of answers that says on a terminal how many lines of them there are.
+
+ghost use Rattle.std.specs.Prelude.{◌≡◌};
+
+use std::io::{self, Write};
+use std::rt::Clock;
+
+/// For how many seconds nothing is shown.
+const QUIET: u64 = 2;
+
+/// A writer of answers that says how many lines of them there are: from the third second on, at most once a second, on one line of a terminal,
+/// which is overwritten.
+#[derive(Drop)]
+pub struct AnswerProgress<W: Drop, C: Drop, E: Drop> {
+    writer: W,
+    clock: C,
+    // The terminal that shows it, if one does.
+    screen: Option<E>,
+    // The second from which on something is shown.
+    next: u64,
+    lines: u64,
+    is_shown: bool,
+}
+
+// The second that a clock shows; none if it can't be read.
+fn second<C: Clock>(clock: &C) -> Option<u64> {
+    match clock.monotonic() {
+        Ok(time) => Some(time.as_secs()),
+        Err(error) => {
+            drop(error);
+            None
+        }
+    }
+}
+
+impl<W: Write + Drop, C: Clock + Drop, E: Write + Drop> AnswerProgress<W, C, E> {
+    /// Before this writer. The screen, if there is one, shows how many lines there are.
+    pub fn new(writer: W, clock: C, screen: Option<E>) -> AnswerProgress<W, C, E>
+        ensures { result.writer ≡ writer }
+    {
+        let next = match second(&clock) {
+            Some(now) => now.saturating_add(QUIET),
+            None => u64::MAX,
+        };
+        AnswerProgress {
+            writer,
+            clock,
+            screen,
+            next,
+            lines: 0,
+            is_shown: false,
+        }
+    }
+
+    /// The writer that gets the answers.
+    pub fn writer(&self) -> &W
+        ensures { result.now ≡ self.now.writer }
+    {
+        &self.writer
+    }
+
+    /// Clears the screen's line.
+    pub fn clear(&mut self)
+        ensures { self.new.writer ≡ self.old.writer }
+    {
+        if !self.is_shown {
+            return;
+        }
+        self.is_shown = false;
+        if let Some(screen) = &mut self.screen {
+            let _ = screen.write_all(b"\r\x1b[K");
+            let _ = screen.flush();
+        }
+    }
+
+    // Says how many lines there are. The cursor goes back, so that the next line is written over it.
+    fn show(&mut self)
+        ensures { self.new.writer ≡ self.old.writer }
+    {
+        let lines = self.lines;
+        if let Some(screen) = &mut self.screen {
+            let _ = write!(screen, "\r\x1b[Kcclib: {lines} lines of answers so far\r");
+            let _ = screen.flush();
+            self.is_shown = true;
+        }
+    }
+
+    // Counts the lines that the first of these bytes end.
+    fn count(&mut self, bytes: &[u8], count: usize)
+        ensures { self.new.writer ≡ self.old.writer }
+    {
+        for byte in bytes.iter().take(count) {
+            if *byte == b'\n' {
+                self.lines = self.lines.saturating_add(1);
+            }
+        }
+    }
+
+    // Says how many lines there are, if it is time for that.
+    fn tell(&mut self)
+        ensures { self.new.writer ≡ self.old.writer }
+    {
+        if self.screen.is_none() {
+            return;
+        }
+        let Some(now) = second(&self.clock) else {
+            return;
+        };
+        if now >= self.next {
+            self.next = now.saturating_add(1);
+            self.show();
+        }
+    }
+}
+
+impl<W: Write + Drop, C: Clock + Drop, E: Write + Drop> Write for AnswerProgress<W, C, E> {
+    ghost contents = { λ s. W.contents s.writer };
+
+    fn write(&mut self, bytes: &[u8]) -> io::Result<usize> {
+        match self.writer.write(bytes) {
+            Ok(count) => {
+                self.count(bytes, count);
+                self.tell();
+                Ok(count)
+            }
+            Err(error) => Err(error),
+        }
+    }
+
+    fn flush(&mut self) -> io::Result<()> {
+        self.writer.flush()
+    }
+}

@@ -1,0 +1,48 @@
+// The sources of an installed program: its install wrote them beside it. They come after the line of the version.
+
+use cc_sources::{NoText, read_text};
+use std::env;
+use std::fs::File;
+use std::io::{self, Print, Write};
+
+// The text that an install put beside the program; an error if the program is not installed.
+fn sources(files: &HostRuntime) -> io::Result<Vec<u8>> {
+    let program = env::current_exe(files)?;
+    let Some(folder) = program.parent() else {
+        return Err(io::Error::from(io::ErrorKind::NotFound));
+    };
+    let name = format!(in files.alloc(); "{}/../share/cclib/FROM", folder.as_str())?;
+    let mut file = File::open(files, name.as_str())?;
+    match read_text(files.alloc(), &mut file) {
+        Ok(text) => Ok(text),
+        Err(NoText::Unread(why)) => Err(why),
+        Err(NoText::OutOfMemory) => Err(io::Error::from(io::ErrorKind::OutOfMemory)),
+    }
+}
+
+// Whether a line names the sources of the program, or the toolchain that made it. A line that would steer a terminal does not.
+fn is_wanted(line: &[u8]) -> bool {
+    (line.starts_with(b"commit ") || line.starts_with(b"toolchain "))
+        && line
+            .iter()
+            .all(|byte| byte.is_ascii_graphic() || *byte == b' ')
+}
+
+// Writes the lines of a text that are wanted.
+fn write_wanted<W: Write>(text: &[u8], writer: &mut W) -> io::Result<()> {
+    for line in text.split(|byte| *byte == b'\n') {
+        if is_wanted(line) {
+            writer.write_all(line)?;
+            writer.write_all(b"\n")?;
+        }
+    }
+    writer.flush()
+}
+
+/// Prints the sources of the program, if it is installed; the status.
+pub fn print_sources<R: Print>(rt: &R, files: &HostRuntime) -> u8 {
+    match sources(files) {
+        Ok(text) => u8::from(write_wanted(text.as_slice(), &mut io::writer(rt)).is_err()),
+        Err(_) => 0,
+    }
+}
