@@ -3,7 +3,7 @@
 
 pattern.py [COUNT] [SEED]: the programs of examples/ and bench/programs, and COUNT random ones of bench/compare.py (200), from a seed (1). Before
 each run all words from 0x00600000 up to 0x00800000 less the stack that is said get a pattern; afterwards they have to be unchanged, and the words
-written and the status those of `cclib run`. The stack just above has another pattern: how many images change its lowest word is told. The start
+written and the status those of `cclib run`. The stack just above has another pattern: how many images change its lowest word is printed. The start
 and the services are those of examples/team. A program that does not end within a million instructions is passed over. Needs qemu-system-riscv32
 and riscv64-unknown-elf-as and -ld; the program has to be built (./cclib --help), or CCLIB names one that is. The status is 1 where one differs."""
 import pathlib
