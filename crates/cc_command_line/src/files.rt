@@ -80,7 +80,7 @@ fn takes_source(line: &str) -> bool {
 /// Whether a work reads a program, so that it may come in files.
 pub(crate) fn reads_program(work: &Work) -> bool {
     match work {
-        Work::One(_) | Work::Stages(_, _) => true,
+        Work::One(_) | Work::Stages(_, _) | Work::Trace(_) | Work::Cover(_) => true,
         Work::Submit(asked) => match &asked.line {
             Some(line) => takes_source(line.as_str()),
             None => false,

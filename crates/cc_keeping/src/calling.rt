@@ -9,7 +9,7 @@ use cc_runs::{CountedRun, write_counted_run};
 use cc_tasks::PartFault;
 use cc_unit::StoredUnit;
 use std::alloc::{AllocError, Global};
-use std::io::{self, BufRead, BufReader, BufWriter, Input, Print, Write};
+use std::io::{BufRead, BufReader, BufWriter, Input, Write};
 use std::sync::Arc;
 
 // The one run that is asked for.
@@ -90,15 +90,16 @@ fn answer_lines<R: BufRead, W: Write, E: Write>(
 
 /// Runs a unit of the library in a file on input words, or on the words of each line of standard input; the status. The error is lack of memory
 /// before it began.
-pub fn call_in_file<R: AllocGlobal + Input + Print, E: Write + Drop>(
+pub fn call_in_file<R: AllocGlobal + Input, A: Write + Drop, E: Write + Drop>(
     rt: &R,
     files: &HostRuntime,
     asked: &Calling,
     is_quiet: bool,
+    answers: A,
     errors: E,
 ) -> Result<u8, AllocError> {
     let (Ok(mut writer), Ok(errors)) = (
-        BufWriter::new(rt.alloc(), io::writer(rt)),
+        BufWriter::new(rt.alloc(), answers),
         BufWriter::new(rt.alloc(), errors),
     ) else {
         return Err(AllocError);

@@ -18,7 +18,7 @@ use cc_spool::{FolderLayout, SpoolFault, Submission, fault_lines, source_in, sub
 use cc_task::Task;
 use cc_tasks::{perform_and_explain, perform_texts_and_explain, read_or_refuse};
 use std::alloc::{AllocError, Global};
-use std::io::{self, BufWriter, Input, IsTerminal, Print, Read, Write};
+use std::io::{self, BufWriter, Input, Read, Write};
 
 /// The most bytes of a source that are sent: one more than a source may have, so that the server sees that it is too long.
 const MOST_SOURCE: usize = 65_537;
@@ -645,25 +645,27 @@ pub fn submit_to<R: AllocGlobal + Input, W: Write, E: Write + Drop>(
 }
 
 /// Leaves a script for the server of a folder, and prints its answer, as `submit_to` does; the status. The source of a line that takes one is in
-/// the files of these names, or on standard input if there are none. On a terminal control bytes of the answer are shown as `?`. The error is
-/// lack of memory before it began.
-pub fn submit_script<R: AllocGlobal + Input + Print, E: Write + Drop>(
+/// the files of these names, or on standard input if there are none. If the answer is seen by a person control bytes of it are shown as `?`. The
+/// error is lack of memory before it began.
+pub fn submit_script<R: AllocGlobal + Input, A: Write + Drop, E: Write + Drop>(
     rt: &R,
     files: &HostRuntime,
     process: u32,
     asked: &Submitter,
     names: &[String],
     persons: Persons,
+    is_seen: bool,
+    answers: A,
     errors: E,
 ) -> Result<u8, AllocError> {
     let alloc = rt.alloc();
     let (Ok(buffered), Ok(errors)) = (
-        BufWriter::new(alloc, io::writer(rt)),
+        BufWriter::new(alloc, answers),
         BufWriter::new(alloc, errors),
     ) else {
         return Err(AllocError);
     };
-    let mut writer = Screen::new(buffered, files.stdout().is_terminal());
+    let mut writer = Screen::new(buffered, is_seen);
     let mut told = Telling {
         errors,
         is_quiet: persons.is_quiet,

@@ -5,7 +5,7 @@ use cc_answers::{of_fault, words_of_task};
 use cc_diagnostic::{Diagnostic, further_of_typing, warnings};
 use cc_link::{TextFault, typed_unit};
 use cc_meaning::{Cause, Stop, interpret};
-use cc_run_diagnostic::of_wrong;
+use cc_run_diagnostic::{WrongRun, of_wrong_run};
 use cc_sources::{Origin, write_diagnostic};
 use cc_task::{Kind, Task};
 use std::alloc::{AllocError, Global};
@@ -31,6 +31,8 @@ pub struct Explanation {
     pub words: Option<&'static str>,
     /// What is told of the fault, or of what went wrong in a run.
     pub first: Option<Diagnostic>,
+    /// The calls that were open as a run went wrong, the innermost first.
+    pub calls: Vec<Diagnostic>,
     /// What would be said if the fault were mended, up to twenty in all.
     pub further: Vec<Diagnostic>,
     /// What is warned of in a program.
@@ -43,6 +45,7 @@ impl Explanation {
         Explanation {
             words,
             first: None,
+            calls: Vec::new(alloc),
             further: Vec::new(alloc),
             warnings: Vec::new(alloc),
         }
@@ -53,6 +56,17 @@ impl Explanation {
         let mut explanation = Explanation::words(alloc, None);
         if let Ok(first) = told {
             explanation.first = first;
+        }
+        explanation
+    }
+
+    // What is told of a run that went wrong.
+    fn wrong(alloc: Global, told: Result<Option<WrongRun>, AllocError>) -> Explanation {
+        let mut explanation = Explanation::words(alloc, None);
+        if let Ok(Some(run)) = told {
+            let WrongRun { first, calls } = run;
+            explanation.first = Some(first);
+            explanation.calls = calls;
         }
         explanation
     }
@@ -90,13 +104,13 @@ pub fn explanation_of_program(alloc: Global, text: &[u8]) -> Explanation {
     explanation
 }
 
-/// What is told of a task that answered that a text's run goes wrong for a cause: where, in which function and with which values. The run is
-/// done once more for that. Nothing where memory for it runs out.
+/// What is told of a task that answered that a text's run goes wrong for a cause: where, in which function, with which values, and which calls
+/// are open. The run is done once more for that. Nothing where memory for it runs out.
 pub fn explanation_of_wrong(alloc: Global, task: &Task, text: &[u8], cause: Cause) -> Explanation {
     match task {
         Task::Interpret(steps, words) | Task::InterpretCounted(steps, words) => {
-            let told = of_wrong(alloc, text, words.as_slice(), *steps, cause);
-            Explanation::first(alloc, told)
+            let told = of_wrong_run(alloc, text, words.as_slice(), *steps, cause);
+            Explanation::wrong(alloc, told)
         }
         Task::Check
         | Task::Run(_, _, _)
@@ -137,8 +151,8 @@ pub fn explanation_of_going(alloc: Global, task: &Task, text: &[u8]) -> Explanat
     let Some(cause) = stopping_cause(alloc, text, words, steps) else {
         return explanation_of_program(alloc, text);
     };
-    let told = of_wrong(alloc, text, words, steps, cause);
-    let mut explanation = Explanation::first(alloc, told);
+    let told = of_wrong_run(alloc, text, words, steps, cause);
+    let mut explanation = Explanation::wrong(alloc, told);
     explanation.words = Some("the image stops in place, since the program goes wrong:");
     explanation
 }
@@ -185,6 +199,7 @@ pub fn write_explanation<W: Write>(
     if let Some(first) = &explanation.first {
         write_diagnostic(alloc, text, origin, first, writer)?;
     }
+    write_each(alloc, text, origin, explanation.calls.as_slice(), writer)?;
     write_each(alloc, text, origin, explanation.further.as_slice(), writer)?;
     write_each(alloc, text, origin, explanation.warnings.as_slice(), writer)
 }

@@ -26,31 +26,37 @@ pub fn take_out<R: AllocGlobal + Print, E: Write + Drop>(
     }
 }
 
-/// Looks into libraries; the status. The error is lack of memory before it began.
-pub fn look_into<R: AllocGlobal + Input + Print, E: Write + Drop>(
+/// Looks into libraries; the status. Some works write to `answers`, others to standard output. The error is lack of memory before it began.
+pub fn look_into<R: AllocGlobal + Input + Print, A: Write + Drop, E: Write + Drop>(
     rt: &R,
     files: &HostRuntime,
     asked: &Keeping,
     is_quiet: bool,
+    answers: A,
     errors: E,
 ) -> Result<u8, AllocError>
     requires { IsBoundedLook asked.now }
 {
     match asked {
-        Keeping::Call(asked) => call_in_file(rt, files, asked, is_quiet, errors),
-        Keeping::Size(asked) => size_in_file(rt, files, asked, is_quiet, errors),
+        Keeping::Size(asked) => size_in_file(rt, files, asked, is_quiet, answers, errors),
+        Keeping::Call(asked) => call_in_file(rt, files, asked, is_quiet, answers, errors),
         Keeping::Diff(left, right) => {
-            diff_files(rt, files, left.as_str(), right.as_str(), is_quiet, errors)
+            let (left, right) = (left.as_str(), right.as_str());
+            diff_files(rt, files, left, right, is_quiet, answers, errors)
         }
         Keeping::Log(disk, name) => {
             let name = match name {
                 Some(name) => Some(name.as_str()),
                 None => None,
             };
-            log_of_file(rt, files, disk.as_str(), name, is_quiet, errors)
+            log_of_file(rt, files, disk.as_str(), name, is_quiet, answers, errors)
         }
-        Keeping::Restore(asked) => restore_in_file(rt, files, asked, is_quiet, errors),
+        Keeping::Restore(asked) => {
+            drop(answers);
+            restore_in_file(rt, files, asked, is_quiet, errors)
+        }
         Keeping::Copy(asked) => {
+            drop(answers);
             let process = process::id(files.process());
             copy_file(rt, files, process, asked, is_quiet, errors)
         }
