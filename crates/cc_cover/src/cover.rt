@@ -221,14 +221,15 @@ fn count_run(
     }
 }
 
-// Counts runs on these inputs.
-fn count_runs(
+// Counts runs on these inputs. `seen` gets a newline for each.
+fn count_runs<S: Write>(
     alloc: Global,
     unit: &Unit,
     traced: &Traced<'_>,
     text: &[u8],
     steps: u64,
     inputs: Vec<Vec<u32>>,
+    seen: &mut S,
 ) -> Result<(Counts, Ends), NotCounted> {
     let program = traced.program();
     let mut counts = Counts::new(alloc, program.code.len(), program.functions.len())?;
@@ -245,6 +246,7 @@ fn count_runs(
         let (more, stop) = counted?;
         counts = more;
         ends.add(stop);
+        let _ = seen.write_all(b"\n");
     }
     Ok((counts, ends))
 }
@@ -279,7 +281,7 @@ fn write_counts<W: Write>(
 }
 
 // Counts runs of a unit and writes that.
-fn cover_unit<W: Write>(
+fn cover_unit<S: Write, W: Write>(
     alloc: Global,
     unit: &Unit,
     text: &[u8],
@@ -287,24 +289,26 @@ fn cover_unit<W: Write>(
     steps: u64,
     inputs: Vec<Vec<u32>>,
     is_one: bool,
+    seen: &mut S,
     writer: &mut W,
 ) -> Result<io::Result<()>, NotCounted> {
     let Some(traced) = traced_unit(alloc, unit)? else {
         drop(inputs);
         return Err(NotCounted::Other);
     };
-    let (counts, ends) = count_runs(alloc, unit, &traced, text, steps, inputs)?;
+    let (counts, ends) = count_runs(alloc, unit, &traced, text, steps, inputs, seen)?;
     Ok(write_counts(alloc, &traced, text, texts, &counts, ends, is_one, writer))
 }
 
 // The same of a text.
-fn cover_text<W: Write>(
+fn cover_text<S: Write, W: Write>(
     alloc: Global,
     text: &[u8],
     texts: &[NamedText],
     steps: u64,
     inputs: Vec<Vec<u32>>,
     is_one: bool,
+    seen: &mut S,
     writer: &mut W,
 ) -> Result<io::Result<()>, NotCounted> {
     if let Err(fault) = answer_for(alloc, &Task::Check, text) {
@@ -313,7 +317,9 @@ fn cover_text<W: Write>(
     }
     match parse(alloc, text) {
         Ok(unit) => {
-            let covered = cover_unit(alloc, &unit, text, texts, steps, inputs, is_one, writer);
+            let covered = cover_unit(
+                alloc, &unit, text, texts, steps, inputs, is_one, seen, writer,
+            );
             drop(unit);
             covered
         }
@@ -356,13 +362,15 @@ fn status<W: Write, E: Write + Drop>(
 
 /// Runs the program that texts make on each of these inputs, by the interpreter, for at most so many steps each, and writes each line with how
 /// often it was reached in all: the most often of what is on it. A line with something that is done, and never was, has `never`; the others
-/// have nothing. Then how the runs ended. Refusals are those of `interpret`. The status is 0, or 1 for a fault.
-pub fn perform_cover<H: AllocGlobal, W: Write, E: Write + Drop>(
+/// have nothing. Then how the runs ended. `seen` gets a newline for each run, so that it may count them. Refusals are those of `interpret`. The
+/// status is 0, or 1 for a fault.
+pub fn perform_cover<H: AllocGlobal, S: Write, W: Write, E: Write + Drop>(
     rt: &H,
     steps: u64,
     inputs: Vec<Vec<u32>>,
     is_one: bool,
     texts: &[NamedText],
+    seen: &mut S,
     writer: &mut W,
     told: &mut Telling<E>,
 ) -> u8
@@ -372,7 +380,7 @@ pub fn perform_cover<H: AllocGlobal, W: Write, E: Write + Drop>(
     match join(alloc, texts) {
         Ok(whole) => {
             let text = whole.as_slice();
-            let covered = cover_text(alloc, text, texts, steps, inputs, is_one, writer);
+            let covered = cover_text(alloc, text, texts, steps, inputs, is_one, seen, writer);
             status(alloc, text, texts, covered, writer, told)
         }
         Err(_) => {

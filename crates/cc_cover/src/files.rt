@@ -201,20 +201,21 @@ pub fn trace_files<R: AllocGlobal + Input, F: Files, W: Write, E: Write + Drop>(
 }
 
 // Runs the program on each of these inputs.
-fn cover_inputs<R: AllocGlobal + Input, F: Files, W: Write, E: Write + Drop>(
+fn cover_inputs<R: AllocGlobal + Input, F: Files, S: Write, W: Write, E: Write + Drop>(
     rt: &R,
     files: &F,
     names: &[String],
     steps: u64,
     inputs: Vec<Vec<u32>>,
     is_one: bool,
+    seen: &mut S,
     writer: &mut W,
     told: &mut Telling<E>,
 ) -> Result<u8, AllocError> {
     match texts_of(rt, files, names, writer, told) {
         Ok(Some(texts)) => {
             let texts = texts.as_slice();
-            Ok(perform_cover(rt, steps, inputs, is_one, texts, writer, told))
+            Ok(perform_cover(rt, steps, inputs, is_one, texts, seen, writer, told))
         }
         Ok(None) => {
             drop(inputs);
@@ -240,22 +241,24 @@ pub fn cover_files<R: AllocGlobal + Input, F: Files, W: Write, E: Write + Drop>(
 ) -> Result<u8, AllocError> {
     let mut inputs = Vec::with_capacity(rt.alloc(), 1)?;
     inputs.push(words)?;
-    cover_inputs(rt, files, names, steps, inputs, true, writer, told)
+    let seen = &mut io::sink();
+    cover_inputs(rt, files, names, steps, inputs, true, seen, writer, told)
 }
 
-/// The same on the words of each line of a file. What is no list of words there is 50, a file that can't be read 53, one of more than 16,777,216
-/// bytes 52.
-pub fn cover_lines<R: AllocGlobal + Input, F: Files, W: Write, E: Write + Drop>(
+/// The same on the words of each line of a file; `seen` gets a newline for each. What is no list of words there is 50, a file that can't be read
+/// 53, one of more than 16,777,216 bytes 52.
+pub fn cover_lines<R: AllocGlobal + Input, F: Files, S: Write, W: Write, E: Write + Drop>(
     rt: &R,
     files: &F,
     names: &[String],
     steps: u64,
     lines: &str,
+    seen: &mut S,
     writer: &mut W,
     told: &mut Telling<E>,
 ) -> Result<u8, AllocError> {
     match inputs_in(rt, files, rt.alloc(), names, lines) {
-        Ok(inputs) => cover_inputs(rt, files, names, steps, inputs, false, writer, told),
+        Ok(inputs) => cover_inputs(rt, files, names, steps, inputs, false, seen, writer, told),
         Err(why) => {
             refuse_inputs(lines, &why, writer, told);
             drop(why);

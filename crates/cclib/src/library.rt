@@ -70,7 +70,12 @@ where
     } else {
         None
     };
-    let mut writer = AnswerProgress::new(FaultWatch::new(buffered), *rt, screen);
+    let mut writer = AnswerProgress::new(
+        FaultWatch::new(buffered),
+        *rt,
+        screen,
+        "lines of answers",
+    );
     let mut told = Telling {
         errors,
         is_quiet: persons.is_quiet,

@@ -256,12 +256,12 @@ where
             start_stages(rt, files, kind, function, names, is_quiet, errors)
         }
         Work::Trace(asked) => start_trace(rt, files, asked, names, is_quiet, answers, errors),
-        Work::Cover(asked) => start_cover(rt, files, asked, names, is_quiet, answers, errors),
+        Work::Cover(asked) => start_cover(rt, files, asked, names, persons, answers, errors),
         Work::TakeOut(wanted) => {
             drop(answers);
             take_out(rt, files, &wanted, is_quiet, errors)
         }
-        Work::Keep(asked) => look_into(rt, files, &asked, is_quiet, answers, errors),
+        Work::Keep(asked) => look_into(rt, files, &asked, persons, answers, errors),
         Work::Library(asked) => library_session(rt, files, &asked, persons, answers, errors),
         Work::Serve(asked) => {
             drop(answers);

@@ -69,11 +69,22 @@ fn covers<H: AllocGlobal>(rt: &H, text: &str, inputs: &str, is_one: bool, lines:
         return false;
     };
     let mut written = Vec::new(rt.alloc());
+    let mut seen = Vec::new(rt.alloc());
     let mut told = nobody(rt.alloc());
+    let runs = inputs.len();
     let texts = texts.as_slice();
-    let status = perform_cover(rt, 100, inputs, is_one, texts, &mut written, &mut told);
+    let status = perform_cover(
+        rt,
+        100,
+        inputs,
+        is_one,
+        texts,
+        &mut seen,
+        &mut written,
+        &mut told,
+    );
     drop(told);
-    status == 0 && written.as_slice() == lines.as_bytes()
+    status == 0 && seen.len() == runs && written.as_slice() == lines.as_bytes()
 }
 
 #[test]

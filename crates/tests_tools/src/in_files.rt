@@ -5,7 +5,7 @@ use cc_cover::{cover_files, cover_lines, trace_files};
 use cc_json::perform_files_in_json;
 use cc_task::Task;
 use std::alloc::{AllocError, Global};
-use std::fs;
+use std::{fs, io};
 
 static NAMES: [&str; 2] = ["tests_tools_a.c", "tests_tools_b.c"];
 
@@ -97,7 +97,17 @@ fn covers_lines(rt: &HostRuntime, wanted: &str, status: u8) -> bool {
     let mut written = Vec::new(alloc);
     let mut told = nobody(alloc);
     let names = names.as_slice();
-    match cover_lines(rt, rt, names, 100, LINES, &mut written, &mut told) {
+    let mut seen = io::sink();
+    match cover_lines(
+        rt,
+        rt,
+        names,
+        100,
+        LINES,
+        &mut seen,
+        &mut written,
+        &mut told,
+    ) {
         Ok(found) => found == status && written.as_slice().ends_with(wanted.as_bytes()),
         Err(_) => false,
     }
