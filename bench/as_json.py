@@ -69,7 +69,7 @@ def told(it, before=""):
 
 
 def plain(objects):
-    """The lines on standard output and on standard error that objects stand for."""
+    """The lines on standard output and on standard error that objects mean."""
     out, err = [], []
     for it in objects:
         kind = it["kind"]
@@ -108,7 +108,7 @@ def lines_of(text):
 
 
 def is_told(line):
-    """Whether a line of standard error tells something, and does not show the text."""
+    """Whether a line of standard error explains something, and does not show the text."""
     return re.match(r" *[0-9]* \| ", line) is None
 
 
@@ -126,7 +126,7 @@ def same(words, text, files, kinds):
     if files:
         wanted = [line.replace("A.c, B.c: ", "-: ") for line in wanted]
     if words[0] in ("call", "diff", "log"):
-        # These tell of a file in words of their own, beside which a fault has those of its number.
+        # These explain a file in words of their own; a fault has those of its number too.
         said = [f"cclib: {message(it)}" for it in objects if it["kind"] == "fault" and "message" in it]
         err = [line for line in err if line not in said or line in wanted]
     if not right or err != wanted:

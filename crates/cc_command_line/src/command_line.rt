@@ -103,7 +103,7 @@ pub enum Work {
     Submit(Submitter),
 }
 
-// What is said of a command that runs a program: its name, what it does, its bound, and an example.
+// The texts of a command that runs a program: its name, what it does, its bound, and an example.
 pub(crate) struct Runner {
     pub(crate) name: &'static str,
     pub(crate) whole: &'static str,
@@ -298,7 +298,7 @@ fn refused(alloc: Global, runner: &Runner, rule: &'static str) -> Result<Error, 
     part.error(ErrorKind::ValueValidation, rule)
 }
 
-/// The error of clap for a command line of which a word is not UTF-8. Its status is 2.
+/// The error of clap for a command line with a word that is not UTF-8. Its status is 2.
 pub fn refused_bytes(alloc: Global) -> Result<Error, AllocError> {
     let mut whole = command(alloc)?;
     whole.error(
@@ -319,7 +319,7 @@ pub(crate) fn steps_of(alloc: Global, runner: &Runner, given: &ArgMatches<'_>) -
     }
 }
 
-// The input word that a text of digits stands for.
+// The input word that a text of digits means.
 fn word_in(text: &str) -> Option<u32> {
     if !text.bytes().all(|b| b.is_ascii_digit()) {
         return None;
@@ -327,7 +327,7 @@ fn word_in(text: &str) -> Option<u32> {
     text.parse().ok()
 }
 
-/// The input words that the texts stand for, or none where one of them stands for no word.
+/// The input words that the texts mean, or none if one of them means no word.
 pub(crate) fn words_in(alloc: Global, texts: &[&str]) -> Result<Option<Vec<u32>>, AllocError> {
     let mut words = Vec::new(alloc);
     for text in texts {
@@ -425,7 +425,7 @@ fn refused_options(alloc: Global, rule: &'static str) -> Result<Error, AllocErro
     whole.error(ErrorKind::ValueValidation, rule)
 }
 
-// The files that a command line names; none where the program comes on standard input.
+// The files that a command line names; none if the program comes on standard input.
 fn files_of(alloc: Global, matches: &ArgMatches<'_>) -> Result<Vec<String>, Error> {
     let Some((_, given)) = matches.subcommand() else {
         return Ok(Vec::new(alloc));
@@ -441,7 +441,7 @@ fn files_of(alloc: Global, matches: &ArgMatches<'_>) -> Result<Vec<String>, Erro
 }
 
 /// What a command line asks for: the work, whether no fault of it is to be explained, whether all is to be printed as JSON, and the files that
-/// have its program; none where that comes on standard input.
+/// have its program; none if that comes on standard input.
 #[derive(Drop)]
 pub struct Invocation {
     pub work: Work,
@@ -450,7 +450,7 @@ pub struct Invocation {
     pub files: Vec<String>,
 }
 
-// Which rule a work breaks whose program is in so many files, and which is told as JSON or is not.
+// The rule that a work breaks whose program is in so many files, and which is to be printed as JSON or not.
 fn broken_rule(work: &Work, files: usize, is_json: bool) -> Option<&'static str> {
     if files > 0 && !reads_program(work) {
         return Some(NO_FILE_RULE);

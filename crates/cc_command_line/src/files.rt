@@ -60,7 +60,7 @@ pub(crate) fn files_named<'a, 'b>(given: &'b ArgMatches<'a>) -> Named<'a, 'b> {
     }
 }
 
-/// The paths that words give; none where one is empty, as that of a variable that was not set.
+/// The paths that words give; none if one is empty, as that of a variable that was not set.
 pub(crate) fn paths_of(alloc: Global, words: &[&str]) -> Result<Option<Vec<String>>, AllocError> {
     let mut paths = Vec::new(alloc);
     for word in words {

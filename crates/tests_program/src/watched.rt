@@ -4,7 +4,7 @@ use crate::words::are_refused;
 use cc_command_line::{Covered, Invocation, Traced, Work, read_invocation};
 use std::alloc::Global;
 
-// Whether a command line asks for JSON; none where it is refused.
+// Whether a command line asks for JSON; none if it is refused.
 fn asks_for_json(alloc: Global, words: &'static [&'static str]) -> Option<bool> {
     match read_invocation(alloc, words) {
         Ok(invocation) => {
@@ -37,7 +37,7 @@ static IN_JSON: [&[&str]; 14] = [
     &["cclib", "--json", "submit", "a", "add", "b"],
 ];
 
-// Those for which there is none.
+// Command lines that are refused with the option.
 static NO_JSON: [&[&str]; 12] = [
     &["cclib", "--json", "asm"],
     &["cclib", "--json", "image"],
@@ -62,7 +62,7 @@ fn json_words(rt: HostRuntime) {
     assert!(rt; are_refused(rt.alloc(), NO_JSON.as_slice()));
 }
 
-// How many things a command line asks `trace` to keep, of how many steps and words, in how many files; none where it asks for no trace.
+// How many things a command line asks `trace` to keep, of how many steps and words, in how many files; none if it asks for no trace.
 fn traced(alloc: Global, words: &'static [&'static str]) -> Option<(u64, usize, u32, usize)> {
     match read_invocation(alloc, words) {
         Ok(
