@@ -36,7 +36,7 @@ const CHECKED: &str = "checked";
 
 pub(crate) const WORD_RULE: &str =
     "WORD is a decimal number from 0 to 4294967295; a negative number is written as its value modulo 4294967296, \
-    for example 4294967295 for -1";
+    for example 4294967295 for -1; a file is named by --file FILE";
 
 // What a person reads below the list of commands.
 const WHOLE_HELP: &str = "\
