@@ -1,2 +1,2 @@
 -- A stop between what was seen.
-pub mod Shown
+pub mod Stopping

@@ -188,7 +188,7 @@ fn seen_of_text(
 }
 
 // Writes how a run stops, with what was seen.
-#[tactic(auto, using(crate::proofs::Shown::has_stop))]
+#[tactic(auto, using(crate::proofs::Stopping::has_stop))]
 fn write_seen<W: Write>(seen: &Seen, stop: Stop, writer: &mut W) -> io::Result<()>
     ensures { OnOk result (HasStop stop (W.contents writer.old) (W.contents writer.new)) }
 {
@@ -274,7 +274,7 @@ pub(crate) fn status_of<W: Write>(written: io::Result<()>, writer: &mut W) -> u8
 }
 
 // Writes what an answer's run did, and explains it; the status.
-#[tactic(auto, using(crate::proofs::Shown::traced))]
+#[tactic(auto, using(crate::proofs::Stopping::traced))]
 fn answered<W: Write, E: Write + Drop>(
     alloc: Global,
     task: &Task,

@@ -89,7 +89,7 @@ fn end_in(line: &[u8]) -> Option<End<'_>> {
     Some(End::With("ended", word))
 }
 
-fn end(alloc: Global, end: End<'_>) -> Result<LineObject, AllocError> {
+fn end_object(alloc: Global, end: End<'_>) -> Result<LineObject, AllocError> {
     let mut object = Object::new(alloc, "end")?;
     match end {
         End::Bare(how) => object.words("how", how)?,
@@ -173,7 +173,7 @@ pub(crate) fn object_of_line(alloc: Global, line: &[u8]) -> Result<LineObject, A
         return word(alloc, value);
     }
     if let Some(how) = end_in(line) {
-        return end(alloc, how);
+        return end_object(alloc, how);
     }
     match fault_in(line) {
         Some((number, rest)) => fault(alloc, number, rest),

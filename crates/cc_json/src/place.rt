@@ -16,7 +16,7 @@ struct Placed<'a> {
 }
 
 // The message that a line has; nothing if it is another line.
-fn placed(line: &[u8]) -> Option<Placed<'_>> {
+fn message_in(line: &[u8]) -> Option<Placed<'_>> {
     let mut parts = line.strip_prefix(b"-:")?.splitn(3, |byte| *byte == b':');
     let line = unsigned(parts.next()?)?;
     let column = unsigned(parts.next()?)?;
@@ -85,7 +85,7 @@ pub(crate) fn told_object(alloc: Global, line: &[u8]) -> Result<Option<Object>, 
     if is_excerpt(line) || is_said(line) {
         return Ok(None);
     }
-    match placed(line) {
+    match message_in(line) {
         Some(placed) => Ok(Some(placed_object(alloc, placed)?)),
         None => Ok(Some(plain_line(alloc, line)?)),
     }
