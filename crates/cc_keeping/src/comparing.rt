@@ -5,7 +5,7 @@ use cc_answers::{Stands, Telling, explain_words, write_fault_line};
 use cc_diff::{DiffFault, DiffLine, diff_disks, write_diff};
 use cc_filing::disk_of;
 use std::alloc::{AllocError, Global};
-use std::io::{self, BufWriter, Print, Write};
+use std::io::{self, BufWriter, Write};
 
 // Where the libraries in the files differ.
 fn lines_of(
@@ -59,16 +59,17 @@ fn answer<W: Write, E: Write>(lines: &[DiffLine], writer: &mut W, told: &mut E) 
 }
 
 /// Writes where the libraries in two files differ; the status: 0 if they hold the same. The error is lack of memory before it began.
-pub fn diff_files<R: AllocGlobal + Print, E: Write + Drop>(
+pub fn diff_files<R: AllocGlobal, A: Write + Drop, E: Write + Drop>(
     rt: &R,
     files: &HostRuntime,
     left: &str,
     right: &str,
     is_quiet: bool,
+    answers: A,
     errors: E,
 ) -> Result<u8, AllocError> {
     let (Ok(mut writer), Ok(errors)) = (
-        BufWriter::new(rt.alloc(), io::writer(rt)),
+        BufWriter::new(rt.alloc(), answers),
         BufWriter::new(rt.alloc(), errors),
     ) else {
         return Err(AllocError);

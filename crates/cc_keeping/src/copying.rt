@@ -6,16 +6,18 @@
 ghost use Rattle.std.specs.Prelude.{◌≤◌};
 
 use crate::telling::{refuse, refuse_quietly, unwritten};
-use cc_answers::{Telling, tell_audit, tell_ok};
+use cc_answers::{Persons, Telling, tell_audit, tell_ok};
 use cc_command_line::Copying;
 use cc_copy::{ChooseFault, Selection, choose, confirm, copy_units, least_area};
 use cc_disk::FileDisk;
 use cc_filing::{disk_of, name_disk};
 use cc_library::{Library, LibraryFault, Name, UnitMap};
 use cc_tasks::{PartFault, explain_absent};
+use cc_watch::AnswerProgress;
 use std::alloc::{AllocError, Global};
 use std::fs;
 use std::io::{self, BufWriter, Print, Write};
+use std::rt::Clock;
 
 /// What is told where the new file can't be made.
 const NO_NEW: &str =
@@ -74,11 +76,12 @@ fn chosen<E: Write>(
     }
 }
 
-// The units that are copied, and those that are left out.
-fn selected<E: Write>(
+// The units that are copied, and those that are left out. `seen` gets a newline for each that is audited.
+fn selected<S: Write, E: Write>(
     alloc: Global,
     units: &UnitMap,
     asked: &Copying,
+    seen: &mut S,
     told: &mut E,
 ) -> Result<Selection, PartFault> {
     let names = match names_in(alloc, asked.names.as_slice()) {
@@ -95,24 +98,25 @@ fn selected<E: Write>(
             left_out: Vec::new(alloc),
         });
     }
-    match confirm(alloc, &units) {
+    match confirm(alloc, &units, seen) {
         Ok(selection) => Ok(selection),
         Err(_) => Err(PartFault::OutOfMemory),
     }
 }
 
 // What is selected of the library in the file, which is closed again.
-fn selection_of<E: Write>(
+fn selection_of<S: Write, E: Write>(
     alloc: Global,
     files: &HostRuntime,
     asked: &Copying,
+    seen: &mut S,
     told: &mut E,
 ) -> Result<Selection, PartFault> {
     let library = match opened(alloc, files, asked.old.as_str()) {
         Ok(library) => library,
         Err(fault) => return Err(fault),
     };
-    let selection = selected(alloc, library.units(), asked, told);
+    let selection = selected(alloc, library.units(), asked, seen, told);
     drop(library.into_disk());
     selection
 }
@@ -235,14 +239,34 @@ fn refuse_new<W: Write, E: Write>(
     refuse_quietly(fault.number(), writer, told)
 }
 
+// The same. A person who sees standard error is shown how many units were audited.
+fn selection_seen<R: AllocGlobal + Clock + Copy + Drop, E: Write>(
+    rt: &R,
+    files: &HostRuntime,
+    asked: &Copying,
+    persons: Persons,
+    told: &mut E,
+) -> Result<Selection, PartFault> {
+    let screen = if persons.is_watched && !persons.is_quiet {
+        Some(files.stderr())
+    } else {
+        None
+    };
+    let mut seen = AnswerProgress::new(io::sink(), *rt, screen, "units audited");
+    let selection = selection_of(rt.alloc(), files, asked, &mut seen, told);
+    seen.clear();
+    drop(seen);
+    selection
+}
+
 /// Copies units of the library in a file into a new library in a file; the status: 0 if none was left out. The error is lack of memory before it
 /// began.
-pub fn copy_file<R: AllocGlobal + Print, E: Write + Drop>(
+pub fn copy_file<R: AllocGlobal + Clock + Print + Copy + Drop, E: Write + Drop>(
     rt: &R,
     files: &HostRuntime,
     process: u32,
     asked: &Copying,
-    is_quiet: bool,
+    persons: Persons,
     errors: E,
 ) -> Result<u8, AllocError>
     requires least { 64 ≤ asked.now.area }
@@ -254,8 +278,11 @@ pub fn copy_file<R: AllocGlobal + Print, E: Write + Drop>(
     ) else {
         return Err(AllocError);
     };
-    let mut told = Telling { errors, is_quiet };
-    let selection = match selection_of(rt.alloc(), files, asked, &mut told) {
+    let mut told = Telling {
+        errors,
+        is_quiet: persons.is_quiet,
+    };
+    let selection = match selection_seen(rt, files, asked, persons, &mut told) {
         Ok(selection) => selection,
         Err(fault) => return Ok(refuse(fault, &mut writer, &mut told)),
     };

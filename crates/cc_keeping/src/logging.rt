@@ -7,7 +7,7 @@ use cc_library::{LibraryCommand, Name};
 use cc_log::{commands_on, write_log};
 use cc_tasks::PartFault;
 use std::alloc::{AllocError, Global};
-use std::io::{self, BufWriter, Print, Write};
+use std::io::{BufWriter, Write};
 
 // The commands of the library in a file.
 fn commands_of(
@@ -59,16 +59,17 @@ fn answer<W: Write, E: Write>(
 
 /// Writes the commands of the library in a file since its last compaction, or those about one name; the status. The error is lack of memory
 /// before it began.
-pub fn log_of_file<R: AllocGlobal + Print, E: Write + Drop>(
+pub fn log_of_file<R: AllocGlobal, A: Write + Drop, E: Write + Drop>(
     rt: &R,
     files: &HostRuntime,
     disk: &str,
     name: Option<&str>,
     is_quiet: bool,
+    answers: A,
     errors: E,
 ) -> Result<u8, AllocError> {
     let (Ok(mut writer), Ok(errors)) = (
-        BufWriter::new(rt.alloc(), io::writer(rt)),
+        BufWriter::new(rt.alloc(), answers),
         BufWriter::new(rt.alloc(), errors),
     ) else {
         return Err(AllocError);

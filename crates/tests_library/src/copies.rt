@@ -86,7 +86,9 @@ fn units_of_some_names(rt: HostRuntime) -> Result<(), Fail> {
 fn nothing_is_confirmed(rt: HostRuntime) -> Result<(), Fail> {
     let alloc = rt.alloc();
     let units = three(alloc)?;
-    let selection = confirm(alloc, &units)?;
+    let mut seen = Vec::new(alloc);
+    let selection = confirm(alloc, &units, &mut seen)?;
+    assert!(rt; seen.as_slice() == b"\n\n\n".as_slice());
     assert!(rt; selection.left_out.len() == 3);
     assert!(rt; selection.units.names(alloc)?.is_empty());
     drop(selection);
