@@ -9,6 +9,7 @@ ghost use Rattle.cc_submit.specs.Printed.{Prints, PrintsWell, Says, SaysRefused,
 ghost use Rattle.cc_submit.specs.internal.Finished.{Ends, Finishes, FinishesFault, FinishesSource, FinishesWell, came_of, status_of};
 ghost use Rattle.cc_submit.specs.internal.Sent.{is_fetch};
 
+use crate::sent::{script_with, update_script};
 use cc_answers::{Persons, Telling, explain_bad_line, explain_no_command, explain_words, words_of};
 use cc_command_line::Submitter;
 use cc_screen::Screen;
@@ -157,14 +158,16 @@ fn source_on_input<R: Input>(rt: &R, alloc: Global) -> io::Result<Vec<u8>> {
     Ok(source)
 }
 
+// Where the source begins in a script that ends with it and a newline.
+fn begin_of(script: &[u8], source: &[u8]) -> usize {
+    script.len().saturating_sub(source.len()).saturating_sub(1)
+}
+
 // What is sent of a line with input words.
 fn words_after<'a>(alloc: Global, line: &str, words: &str) -> io::Result<Sent<'a>>
     ensures { IfOk result (λ sent. is_fetch sent ≡ false) }
 {
-    let text = format!(in alloc; "{line} {}\n{words}\n", words.len())?;
-    let mut bytes = Vec::new(alloc);
-    bytes.extend_from_slice(text.as_bytes())?;
-    Ok(Sent::Line(bytes))
+    Ok(Sent::Line(script_with(alloc, line, words.as_bytes())?))
 }
 
 // What is sent of a line with a source.
@@ -176,14 +179,10 @@ fn source_after<'a, R: Input>(
 ) -> io::Result<Sent<'a>>
     ensures { IfOk result (λ sent. is_fetch sent ≡ false) }
 {
-    let mut bytes = Vec::new(alloc);
     let source = source(rt, alloc, origin)?;
-    let text = format!(in alloc; "{line} {}\n", source.len())?;
-    bytes.extend_from_slice(text.as_bytes())?;
-    let begin = bytes.len();
-    bytes.extend_from_slice(source.as_slice())?;
-    bytes.push(b'\n')?;
-    Ok(Sent::Source(bytes, begin, origin))
+    let script = script_with(alloc, line, source.as_slice())?;
+    let begin = begin_of(script.as_slice(), source.as_slice());
+    Ok(Sent::Source(script, begin, origin))
 }
 
 // What is sent of a line with the source that is expected, if there is one, and a source.
@@ -199,16 +198,10 @@ fn sources_after<'a, R: Input>(
     let Some(expected) = expected else {
         return Err(io::Error::from(io::ErrorKind::InvalidInput));
     };
-    let mut bytes = Vec::new(alloc);
     let source = source(rt, alloc, origin)?;
-    let text = format!(in alloc; "{line} {} {}\n", expected.len(), source.len())?;
-    bytes.extend_from_slice(text.as_bytes())?;
-    bytes.extend_from_slice(expected)?;
-    bytes.push(b'\n')?;
-    let begin = bytes.len();
-    bytes.extend_from_slice(source.as_slice())?;
-    bytes.push(b'\n')?;
-    Ok(Sent::Source(bytes, begin, origin))
+    let script = update_script(alloc, line, expected, source.as_slice())?;
+    let begin = begin_of(script.as_slice(), source.as_slice());
+    Ok(Sent::Source(script, begin, origin))
 }
 
 // What is sent of a line that is a command, with its input words or the source that it expects, if it has one of these.
