@@ -110,35 +110,35 @@ module _ {D : Type 0} (seen : D → List ℕ) (may_leave : D → List ℕ → Ty
       (subst (λ (m : Units). IsOk (apply m command)) same (putting_accepted old.units name unit)) in
       subst (λ (m : Units). HasCommands image (commands ++ putting m name unit ∷ [])) same more
 
-  -- a change that was refused without a failure of the device leaves all as it was
-  pub change_untouched : (answer : Result (Unit {0}) LibraryFault) (command : LibraryCommand) (old new : View D) → ChangeLeaves command old new answer → IfErr answer (λ fault. fault ≢ DiskFault → new ≡ old)
-  change_untouched (Ok done) command old new leaves = tt
-  change_untouched (Err DiskFault) command old new leaves = λ other. absurd (other refl)
-  change_untouched (Err Closed) command old new leaves = λ other. leaves
-  change_untouched (Err Exists) command old new leaves = λ other. leaves
-  change_untouched (Err NoUnit) command old new leaves = λ other. leaves
-  change_untouched (Err Full) command old new leaves = λ other. leaves
-  change_untouched (Err NoMemory) command old new leaves = λ other. leaves
-  change_untouched (Err Damaged) command old new leaves = λ other. leaves
-  change_untouched (Err NotALibrary) command old new leaves = λ other. leaves
-
-  -- why it was refused is why the unit is not put
-  pub change_refused : (honest : Bool) (bytes : List ℕ) (begin before after : ℕ) (no_room : Type 0) (answer : Result (Unit {0}) LibraryFault) (old : View D) (name : List ℕ) (unit : StoredUnit) → before ≡ begin → old.closed ≡ false
-      → (IsTrue honest → old.area < room_with old (putting old.units name unit) → no_room) → ChangeAnswers old (putting old.units name unit) before after answer
-      → IfErr answer (λ fault. IsNotPut honest bytes begin after no_room fault)
-  change_refused honest bytes begin before after no_room (Ok done) old name unit same is_open room why = tt
-  change_refused honest bytes begin before after no_room (Err Full) old name unit same is_open room why = (why.2 ∙ same, λ h. room h why.1)
-  change_refused honest bytes begin before after no_room (Err DiskFault) old name unit same is_open room why = why.2 ∙ ap (λ n. n + 1) same
-  change_refused honest bytes begin before after no_room (Err NoMemory) old name unit same is_open room why = why.1 ∙ same
-  change_refused honest bytes begin before after no_room (Err Closed) old name unit same is_open room why = let no = sym is_open ∙ why.0 in absurd (cc)
-  change_refused honest bytes begin before after no_room (Err Exists) old name unit same is_open room why =
-      let no = sym (ap is_ok why.1) ∙ putting_accepted old.units name unit in absurd (cc)
-  change_refused honest bytes begin before after no_room (Err NoUnit) old name unit same is_open room why =
-      let no = sym (ap is_ok why.1) ∙ putting_accepted old.units name unit in absurd (cc)
-  change_refused honest bytes begin before after no_room (Err Damaged) old name unit same is_open room why = absurd why
-  change_refused honest bytes begin before after no_room (Err NotALibrary) old name unit same is_open room why = absurd why
-
 -- ---- refusals
+
+-- a change that was refused without a failure of the device leaves all as it was
+pub change_untouched : {D : Type 0} (answer : Result (Unit {0}) LibraryFault) (command : LibraryCommand) (old new : View D) → ChangeLeaves command old new answer → IfErr answer (λ fault. fault ≢ DiskFault → new ≡ old)
+change_untouched (Ok done) command old new leaves = tt
+change_untouched (Err DiskFault) command old new leaves = λ other. absurd (other refl)
+change_untouched (Err Closed) command old new leaves = λ other. leaves
+change_untouched (Err Exists) command old new leaves = λ other. leaves
+change_untouched (Err NoUnit) command old new leaves = λ other. leaves
+change_untouched (Err Full) command old new leaves = λ other. leaves
+change_untouched (Err NoMemory) command old new leaves = λ other. leaves
+change_untouched (Err Damaged) command old new leaves = λ other. leaves
+change_untouched (Err NotALibrary) command old new leaves = λ other. leaves
+
+-- why it was refused is why the unit is not put
+pub change_refused : {D : Type 0} (honest : Bool) (bytes : List ℕ) (begin before after : ℕ) (no_room : Type 0) (answer : Result (Unit {0}) LibraryFault) (old : View D) (name : List ℕ) (unit : StoredUnit) → before ≡ begin → old.closed ≡ false
+    → (IsTrue honest → old.area < room_with old (putting old.units name unit) → no_room) → ChangeAnswers old (putting old.units name unit) before after answer
+    → IfErr answer (λ fault. IsNotPut honest bytes begin after no_room fault)
+change_refused honest bytes begin before after no_room (Ok done) old name unit same is_open room why = tt
+change_refused honest bytes begin before after no_room (Err Full) old name unit same is_open room why = (why.2 ∙ same, λ h. room h why.1)
+change_refused honest bytes begin before after no_room (Err DiskFault) old name unit same is_open room why = why.2 ∙ ap (λ n. n + 1) same
+change_refused honest bytes begin before after no_room (Err NoMemory) old name unit same is_open room why = why.1 ∙ same
+change_refused honest bytes begin before after no_room (Err Closed) old name unit same is_open room why = let no = sym is_open ∙ why.0 in absurd (cc)
+change_refused honest bytes begin before after no_room (Err Exists) old name unit same is_open room why =
+    let no = sym (ap is_ok why.1) ∙ putting_accepted old.units name unit in absurd (cc)
+change_refused honest bytes begin before after no_room (Err NoUnit) old name unit same is_open room why =
+    let no = sym (ap is_ok why.1) ∙ putting_accepted old.units name unit in absurd (cc)
+change_refused honest bytes begin before after no_room (Err Damaged) old name unit same is_open room why = absurd why
+change_refused honest bytes begin before after no_room (Err NotALibrary) old name unit same is_open room why = absurd why
 
 -- there is no room behind the records of the library that was opened
 pub no_room : (seen : List ℕ) (area : ℕ) (bodies : List (List ℕ)) (units : Units) (name : List ℕ) (unit : StoredUnit) → HoldsRecords seen area bodies → (stand : StandFor bodies units)

@@ -38,7 +38,7 @@ MayBeRestored seen name number before old image =
 -- the record of the command that puts the unit does not fit behind those that the disk has
 abbrev pub HasNoRoom : (seen name : List ℕ) → StoredUnit → Type 0
 HasNoRoom seen name unit =
-    (commands : List LibraryCommand) × ((has : HasCommands seen commands) × (has.area < room_of (has.bodies ++ body_of (putting (library_of commands) name unit) ∷ [])))
+    (commands : List LibraryCommand) × (has : HasCommands seen commands) × (has.area < room_of (has.bodies ++ body_of (putting (library_of commands) name unit) ∷ []))
 
 -- why a unit is not put into a library: the library is not opened; or there is no room, of which this is known; or the device failed
 abbrev pub IsNotPut : (honest : Bool) (seen : List ℕ) (before after : ℕ) (no_room : Type 0) → LibraryFault → Type 0
