@@ -170,7 +170,7 @@ module _ (image : Image) (counted : Bool) (steps : ℕ) where
     pub ends_uncounted : number ≡ 2 ^ 64 - 1 → CallsLines image counted steps input old mid Refused
     ends_uncounted all = (called.turns, called.left, mid, called.answers, inr (inr (inr (refl, called.number_is ∙ all))))
 
--- what is said of known bytes, if they are known
+-- of known bytes
 pub if_known : (known : Option (List ℕ)) (P Q : List ℕ → Type 0) → ((bytes : List ℕ) → known ≡ Some bytes → P bytes → Q bytes) → IfSome known P → IfSome known Q
 if_known None P Q step p = tt
 if_known (Some bytes) P Q step p = step bytes refl p

@@ -10,7 +10,7 @@ use Rattle.cc_call.specs.declared.lines.LineEnd.TheVariants as line
 use Rattle.cc_call.specs.declared.lines.LinesEnd.{LinesEnd}
 use Rattle.cc_call.specs.declared.lines.LinesEnd.TheVariants.{Answered, Refused, Unwritten}
 
--- a line that was answered: the input behind it, all that is written then, and what was answered
+-- a line that was answered: the input after it, all that is written then, and what was answered
 pub record LineTurn : Type 0 where
   pub rest : List ℕ
   pub written : Option (List ℕ)
@@ -34,8 +34,8 @@ is_bad turn = is_bad_end turn.end
 abbrev pub is_lack : LineTurn → Bool
 is_lack turn = is_lack_end turn.end
 
--- Of an input, behind what is written already, these lines were answered, each without its newline, the first of the input first; then this is left of
--- the input, and that is written. Where memory was refused no other line follows.
+-- Of an input, after what is written already, these lines were answered, each without its newline, the first of the input first; then this is left of
+-- the input, and that is written. After one for which memory was refused no other line follows.
 abbrev pub AnswersLines : Image → (counted : Bool) (steps : ℕ) (input : List ℕ) (old : Option (List ℕ)) → List LineTurn → (left : List ℕ) (new : Option (List ℕ)) → Type 0
 AnswersLines image counted steps input old [] left new = (left ≡ input) × (new ≡ old)
 AnswersLines image counted steps input old (turn ∷ turns) left new =

@@ -29,7 +29,7 @@ module _ {X : Type 0} (f : X → List ℕ) where
       let P : List ℕ → Type 0 = λ name. IsTrue (is_name name) in
       subst (All P) (sym (names_more texts i text within is)) (All-push P (map f (take i texts)) (f text) all one)
 
-  -- a text that is none
+  -- a text that is no name
   pub no_name : (texts : List X) (i : ℕ) (text : X) → i < length texts → text ≡ get_or texts i text → is_name (f text) ≡ false → IsNoName (map f texts) i
   no_name texts i text within is none =
       let same : get_or (map f texts) i [] ≡ f text = get_or-map f texts i text [] within ∙ ap f (sym is) in

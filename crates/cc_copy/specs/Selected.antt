@@ -24,12 +24,12 @@ IsSelection true taken selection = IsConfirmed taken selection
 abbrev pub IsSelectedIn : Units → (names : List (List ℕ)) (confirmed : Bool) → Selection → Type 0
 IsSelectedIn units names confirmed selection = (taken : Units) × AreOf units names taken × IsSelection confirmed taken selection
 
--- of the names this one is none
+-- of the names this one is not a name
 abbrev pub IsNoName : (names : List (List ℕ)) (number : ℕ) → Type 0
 IsNoName names number = (number < length names) × (is_name (get_or names number []) ≡ false)
 
--- Why none are selected: 33 exactly where a name is none; else 32 exactly where one of the names has no unit, each before which has one; or memory
--- ran out.
+-- Why none are selected: 33 exactly if one of them is not a name; else 32 exactly if one of the names has no unit, each before which has one; or
+-- memory ran out.
 abbrev pub IsNotSelectedIn : Units → (names : List (List ℕ)) → PartFault → Type 0
 IsNotSelectedIn units names BadName = (number : ℕ) × IsNoName names number
 IsNotSelectedIn units names Absent = All (λ name. IsTrue (is_name name)) names × ((number : ℕ) × IsNotChosen units names (fault.Absent number))

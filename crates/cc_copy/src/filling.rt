@@ -46,8 +46,8 @@ fn write_units<D: Disk>(
 /// Makes a new library of these units on a disk, with areas of `area` bytes; the disk is handed back. At Ok every crash from then on leaves
 /// these units and no others.
 ///
-/// Refusals: 34 where the units don't fit such an area, or two of them the disk, which is as before then; 35 where the device failed; 40
-/// where memory ran out.
+/// Refusals: 34 if the units don't fit such an area, or two of them the disk, which is as before then; 35 if the device failed; 40
+/// if memory ran out.
 pub fn copy_units<D: Disk + Drop>(
     alloc: Global,
     units: &UnitMap,

@@ -37,7 +37,7 @@ fn names_in(alloc: Global, texts: &[String]) -> Result<Vec<Name>, PartFault>
     Ok(names)
 }
 
-// The units of these names, or all. Of the first name without one it is told which one is near.
+// The units of these names, or all. For the first name without one it is said which one is near.
 fn taken<E: Write>(
     alloc: Global,
     units: &UnitMap,
@@ -119,8 +119,8 @@ fn selected<S: Write, E: Write>(
 /// is handed back, and nothing is written to it. A newline goes to `seen` for each unit that was audited, and of a name that no unit has it is
 /// written to `explanations` which one is near.
 ///
-/// Refusals: first those of `Library::open`, 35, 38, 37 and 40; then 33 where one of the texts is no name; then 32 where one of the names has no
-/// unit; 40 where memory ran out.
+/// Refusals: first those of `Library::open`, 35, 38, 37 and 40; then 33 if one of the texts is no name; then 32 if one of the names has no unit;
+/// 40 if memory ran out.
 pub fn selection_on<D: Disk + Drop, S: Write, E: Write>(
     alloc: Global,
     disk: D,

@@ -54,7 +54,7 @@ fn explain<E: Write>(fault: DiffFault, left: &str, right: &str, told: &mut E) ->
     told.flush()
 }
 
-// Writes the lines: the status is 0 if there is none, else 1.
+// Writes the lines: the status is 0 without one, else 1.
 #[tactic(auto, using(crate::proofs::Settled::settled_text))]
 fn answer<W: Write, E: Write>(lines: &[DiffLine], writer: &mut W, told: &mut E) -> Done
     ensures written { result.is_written ≡ true → Appends (W.contents writer.old) (W.contents writer.new) (diff_text lines.now) }

@@ -34,7 +34,14 @@ fn selection_of<S: Write, E: Write>(
     match disk_of(files, asked.old.as_str(), None) {
         Ok(disk) => {
             let names = asked.names.as_slice();
-            let (selection, disk) = selection_on(alloc, disk, names, asked.is_confirmed, seen, told);
+            let (selection, disk) = selection_on(
+                alloc,
+                disk,
+                names,
+                asked.is_confirmed,
+                seen,
+                told,
+            );
             drop(disk);
             selection
         }
@@ -47,7 +54,8 @@ fn begin(files: &HostRuntime, path: &str) -> io::Result<()> {
     let mut how = OpenOptions::new();
     how.write(true).create_new(true).mode(OWN);
     // The umask may have taken some of the rights.
-    how.open(files, path)?.set_permissions(Permissions::from_mode(OWN))
+    how.open(files, path)?
+        .set_permissions(Permissions::from_mode(OWN))
 }
 
 // The new library in a file that is this call's, and goes again if it can't be made.
@@ -146,7 +154,10 @@ fn write_new<E: Write>(
     if !units.fits(asked.area as usize) {
         let _ = match least_area(units) {
             Some(least) => writeln!(told, "cclib: the units take an AREA of at least {least}"),
-            None => writeln!(told, "cclib: the units take more bytes than an AREA may have"),
+            None => writeln!(
+                told,
+                "cclib: the units take more bytes than an AREA may have"
+            ),
         };
         return Err(LibraryFault::Full);
     }

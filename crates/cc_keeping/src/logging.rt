@@ -59,7 +59,7 @@ fn answer<W: Write, E: Write>(
     settled(write, 0, writer, told)
 }
 
-// Writes the lines that are asked for, or why there are none; the status.
+// Writes the lines that are asked for, or why not; the status.
 fn tell<W: Write, E: Write>(
     commands: &[LibraryCommand],
     name: Option<&str>,

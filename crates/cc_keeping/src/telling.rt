@@ -16,7 +16,7 @@ pub(crate) fn unwritten<E: Write>(told: &mut E) -> u8
     1
 }
 
-/// Flushes the writer behind an answer: this status if it is written, else 1, of which a person is told.
+/// Flushes the writer after an answer: this status if it is written, else 1, with a word to a person.
 pub(crate) fn settled<W: Write, E: Write>(
     write: io::Result<()>,
     status: u8,

@@ -140,7 +140,7 @@ change_refused honest bytes begin before after no_room (Err NoUnit) old name uni
 change_refused honest bytes begin before after no_room (Err Damaged) old name unit same is_open room why = absurd why
 change_refused honest bytes begin before after no_room (Err NotALibrary) old name unit same is_open room why = absurd why
 
--- there is no room behind the records of the library that was opened
+-- there is no room after the records of the library that was opened
 pub no_room : (seen : List ℕ) (area : ℕ) (bodies : List (List ℕ)) (units : Units) (name : List ℕ) (unit : StoredUnit) → HoldsRecords seen area bodies → (stand : StandFor bodies units)
     → area < room_of (bodies ++ body_of (putting units name unit) ∷ []) → HasNoRoom seen name unit
 no_room seen area bodies units name unit holds stand less =

@@ -22,7 +22,7 @@ use std::alloc::Global;
 fn put<D: Disk + Drop>(alloc: Global, disk: D, stored: Stored) -> (Result<(), LibraryFault>, D)
     ensures put { OnOk result.0 (IsTrue D.honest → (units : Units) → Recovers (D.seen disk) units
         → (image : List ℕ) → D.may_leave result.1 image → RecoversAlone image (map.insert units stored.name stored.unit)) }
-    // It is one record more behind those of the disk's commands.
+    // It is one record more after those of the disk's commands.
     ensures logged { OnOk result.0 (IsTrue D.honest → (commands : List LibraryCommand) → HasCommands (D.seen disk) commands
         → IsCommand (putting (library_of commands) stored.name stored.unit) → (image : List ℕ) → D.may_leave result.1 image
         → HasCommands image (commands ++ putting (library_of commands) stored.name stored.unit ∷ [])) }
@@ -69,7 +69,7 @@ pub fn restore<D: Disk + Drop>(
     ensures moments { IsTrue D.honest → (units : Units) → Recovers (D.seen disk) units
         → LeavesOnly D.moment D.left_since disk result.1 (MayBeRestored (D.seen disk) name.now number (D.may_leave disk) units) }
     ensures refused { IfErr result.0 (λ fault. IsNotRestored D.honest (D.seen disk) (D.failures disk) (D.failures result.1) name.now number fault) }
-    // Where the device did not fail, a refusal leaves an honest disk as it was.
+    // If the device did not fail, a refusal leaves an honest disk as it was.
     ensures untouched { IfErr result.0 (λ fault. fault ≢ PartFault.Library LibraryFault.DiskFault → IsTrue D.honest
         → OnlyReads D.seen D.may_leave D.moment D.left_since disk result.1) }
 {

@@ -1,9 +1,9 @@
-// What is sent of a line with bytes behind it.
+// What is sent of a line with bytes after it.
 
 ghost use Rattle.std.specs.Prelude.{◌≡◌, ◌++◌, IfOk, OnOk, codes, length};
 ghost use Rattle.std.specs.Fmt.{decimal};
 ghost use Rattle.std.specs.Io.KnownBytes.{Appends};
-ghost use Rattle.cc_submit.specs.Sent.{piece, text_with, update_text};
+ghost use Rattle.cc_submit.specs.internal.Script.{piece, text_with, update_text};
 
 use std::alloc::Global;
 use std::io::{self, Write};
@@ -17,7 +17,7 @@ fn write_piece<W: Write>(bytes: &[u8], writer: &mut W) -> io::Result<()>
     writer.write_all(b"\n")
 }
 
-// Writes a line with a number behind it, and a newline.
+// Writes a line with a number after it, and a newline.
 #[tactic(auto, using(cc_answers::proofs::Writing::written_on))]
 fn write_counted<W: Write>(line: &str, count: usize, writer: &mut W) -> io::Result<()>
     ensures { OnOk result (Appends (W.contents writer.old) (W.contents writer.new)
@@ -27,7 +27,7 @@ fn write_counted<W: Write>(line: &str, count: usize, writer: &mut W) -> io::Resu
     writeln!(writer, " {count}")
 }
 
-// Writes a line with two numbers behind it, and a newline.
+// Writes a line with two numbers after it, and a newline.
 #[tactic(auto, using(cc_answers::proofs::Writing::written_on))]
 fn write_counts<W: Write>(
     line: &str,
@@ -66,7 +66,7 @@ fn write_update<W: Write>(
     write_piece(source, writer)
 }
 
-/// What is sent of a line with a source or input words behind it.
+/// What is sent of a line with a source or input words after it.
 pub(crate) fn script_with(alloc: Global, line: &str, bytes: &[u8]) -> io::Result<Vec<u8>>
     ensures { IfOk result (λ script. script.items ≡ text_with line.now bytes.now) }
 {

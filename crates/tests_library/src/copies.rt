@@ -182,11 +182,7 @@ fn selected(
 fn what_is_selected(rt: HostRuntime) -> Result<(), Fail> {
     let alloc = rt.alloc();
     for (names, is_confirmed, text) in [
-        (
-            [].as_slice(),
-            false,
-            b"plain\nright\nwrong\n".as_slice(),
-        ),
+        ([].as_slice(), false, b"plain\nright\nwrong\n".as_slice()),
         (
             &[],
             true,
@@ -199,7 +195,12 @@ fn what_is_selected(rt: HostRuntime) -> Result<(), Fail> {
         ),
         (&["wrong", "wrong"], false, b"wrong\n"),
     ] {
-        assert!(rt; selected(alloc, judged(alloc)?, names, is_confirmed)?.0.as_slice() == text);
+        assert!(rt;
+            selected(alloc, judged(alloc)?, names, is_confirmed)?
+                .0
+                .as_slice()
+                == text
+        );
     }
     Ok(())
 }

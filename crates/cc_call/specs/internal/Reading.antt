@@ -6,7 +6,7 @@ use Rattle.cc_call.specs.Call.{refusal_text}
 use Rattle.cc_call.specs.declared.lines.LinesEnd.{LinesEnd}
 use Rattle.cc_call.specs.declared.lines.LinesEnd.TheVariants.{Answered, Refused, Unwritten}
 
--- the first line of the bytes that are left, with its newline; or none, where none are left
+-- the first line of the bytes that are left, with its newline; or none, if none are left
 abbrev pub IsNextLine : (before after : Option (List ℕ)) (line : List ℕ) → Bool → Type 0
 IsNextLine before after line true = IfSome before (λ input. (input ≢ []) × (line ≡ take_through 10 input) × (after ≡ Some (drop_through 10 input)))
 IsNextLine before after line false = IfSome before (λ input. input ≡ [])

@@ -24,8 +24,7 @@ returns-after-diff_maps-clause-lines g c =
 
 pub returns-in-Err-open-clause-refused : goal.returns-in-Err-open-clause-refused
 returns-in-Err-open-clause-refused g c =
-    let D = g.D.Disk in
-    (
+    let D = g.D.Disk in (
       subst (λ (d : g.row.D.Denot). D.failures d ≡ D.failures c.args.left) (sym c.into_disk-in-Err-open.ensures) c.in-Ok.ensures.sound,
       λ h. (c.in-Ok.left.units, c.in-Ok.ensures.recovered h),
       c.in-Err-open.ensures.refused,
