@@ -1,12 +1,16 @@
 // The command `call`: a unit of the library in a file is run. The file is open until the unit was read, and nothing is written to it.
 
-use crate::telling::{refuse, unwritten};
+ghost use Rattle.std.specs.Prelude.{◌≡◌, false, true};
+ghost use Rattle.std.specs.Io.KnownBytes.{Appends};
+ghost use Rattle.cc_runs.specs.Written.{counted_text};
+
+use crate::telling::{refuse, settled, unwritten};
 use cc_answers::{Persons, Telling};
 use cc_call::{LinesEnd, call, call_lines, unit_on};
 use cc_command_line::Calling;
 use cc_filing::disk_of;
 use cc_runs::{CountedRun, write_counted_run};
-use cc_tasks::PartFault;
+use cc_tasks::{Done, PartFault};
 use cc_unit::StoredUnit;
 use cc_watch::AnswerProgress;
 use std::alloc::{AllocError, Global};
@@ -58,13 +62,14 @@ fn unit_of<E: Write>(
     }
 }
 
-// Writes a run; the status.
-fn answer<W: Write, E: Write>(run: &CountedRun, writer: &mut W, told: &mut E) -> u8 {
-    let written = write_counted_run(run, writer);
-    if written.is_err() || writer.flush().is_err() {
-        return unwritten(told);
-    }
-    0
+// Writes a run.
+#[tactic(auto, using(crate::proofs::Settled::settled_text))]
+fn answer<W: Write, E: Write>(run: &CountedRun, writer: &mut W, told: &mut E) -> Done
+    ensures written { result.is_written ≡ true → Appends (W.contents writer.old) (W.contents writer.new) (counted_text run.now) × (result.status ≡ 0) }
+    ensures unwritten { result.is_written ≡ false → result.status ≡ 1 }
+{
+    let write = write_counted_run(run, writer);
+    settled(write, 0, writer, told)
 }
 
 // Runs a unit line by line; the status.
@@ -133,7 +138,7 @@ pub fn call_in_file<R: AllocGlobal + Clock + Input + Copy + Drop, A: Write + Dro
     let mut told = Telling { errors, is_quiet };
     if !asked.is_lines {
         return Ok(match run_of(rt.alloc(), files, asked, &mut told) {
-            Ok(run) => answer(&run, &mut writer, &mut told),
+            Ok(run) => answer(&run, &mut writer, &mut told).status,
             Err(fault) => refuse(fault, &mut writer, &mut told),
         });
     }

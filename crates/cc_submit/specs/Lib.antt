@@ -1,5 +1,3 @@
--- What is sent of a line with bytes behind it.
-pub mod Sent
 -- What is printed of the answer to a script that was sent, and the status.
 pub mod Printed
 -- What only private contracts speak of.

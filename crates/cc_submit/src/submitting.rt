@@ -158,7 +158,7 @@ fn source_on_input<R: Input>(rt: &R, alloc: Global) -> io::Result<Vec<u8>> {
     Ok(source)
 }
 
-// Where the source begins in a script that ends with it and a newline.
+// At which byte the source begins in a script that ends with it and a newline.
 fn begin_of(script: &[u8], source: &[u8]) -> usize {
     script.len().saturating_sub(source.len()).saturating_sub(1)
 }

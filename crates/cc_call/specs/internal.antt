@@ -1,0 +1,2 @@
+-- A line that is read, or is not.
+pub mod Reading
