@@ -5,7 +5,7 @@ spaces.py [SCRIPTS] [SEED]     SCRIPTS (200) random scripts over libraries of ra
                                and compactions, until the area is full and after it. After each command `space` is compared with the records
                                that the file has then, and after each `compact` with what `space` said before that it would leave.
 
---program PROGRAM takes another program than crates/cclib/out/cclib. Its status is 1 where something differs."""
+--program PROGRAM takes another program than crates/cclib/out/cclib. Its status is 1 if something differs."""
 
 import os
 import random

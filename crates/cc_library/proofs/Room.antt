@@ -99,7 +99,7 @@ size_led from (body ∷ bodies) (command ∷ commands) spelled = omega (
   record_long body,
 )
 
--- the records of one Add per name take no more than any records that stand for the map
+-- the records of one Add per name take no more than any records that lead to the map
 pub compacted_least : (bodies : List (List ℕ)) (units : Units) → StandFor bodies units → length (records (compacted units)) ≤ length (records bodies)
 compacted_least bodies units stand =
     let led = size_led empty bodies stand.commands stand.spelled in

@@ -128,7 +128,7 @@ module _ {D : Type 0} where
   CompactAnswers failures before after (Err (Absent receipt)) = ⊥
   CompactAnswers failures before after (Err (Estranged number found)) = ⊥
 
-  -- the answer to how much of its area the library takes: 36 exactly where the device has failed before
+  -- the answer to how much of its area the library takes: 36 exactly if the device has failed before
   abbrev pub SpaceAnswers : BookView D → Result SpaceUse BookFault → Type 0
   SpaceAnswers book (Ok space) = (book.library.closed ≡ false) × IsSpace book.library.area book.library.bodies book.library.units space
   SpaceAnswers book (Err fault) = (fault ≡ Closed) × (book.library.closed ≡ true)

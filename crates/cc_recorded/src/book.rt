@@ -285,7 +285,7 @@ impl<N: Based, D: Disk> Book<N, D> {
     /// How much of its area the library takes. It makes no entry in the history, takes no memory and makes no device call; it looks at
     /// each unit.
     ///
-    /// 36 where the device has failed before: then the disk may have other records.
+    /// 36 if the device has failed before: then the disk may have other records.
     pub fn space(&self) -> Result<SpaceUse, BookFault>
         ensures answers { SpaceAnswers self.now.book result }
         // Every crash leaves these records alone.

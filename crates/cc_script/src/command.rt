@@ -74,7 +74,7 @@ pub enum ScriptCommand<'a> {
         steps: u64,
         length: usize,
     },
-    /// Tell how much of its area the library takes.
+    /// Say how much of its area the library takes.
     Space,
 }
 
@@ -118,7 +118,7 @@ fn length_in(bytes: &[u8]) -> Option<usize>
     }
 }
 
-// A command of one word, where it is one of a session's script.
+// A command of one word, if it is one of a session's script.
 fn one_plain_word<'a>(verb: &[u8]) -> Option<ScriptCommand<'a>>
     ensures { option_map asked_by result ≡ one_plain_word verb.now }
 {

@@ -613,7 +613,7 @@ impl<N: Named + Send + Sync + 'static, D: Disk> Service<N, D> {
 
     /// How much of its area the library takes. The history gets no entry.
     ///
-    /// 36 where the device has failed.
+    /// 36 if the device has failed.
     pub fn space<R: Wait>(&self, rt: &R) -> Result<SpaceUse, ServiceFault>
         ensures answers { SpaceAnswers result }
         ensures moment { IfOk result (λ space. IsSpaceThen D.Disk N.base N.from N.left space) }

@@ -44,7 +44,7 @@ fn number_of(word: &[u8]) -> u32 {
     number
 }
 
-// How the line was answered whose answer this line ends; none if it goes on.
+// How a line of the script was answered, if this line ends its answer.
 fn word_of(line: &[u8]) -> Option<Word> {
     if line == LAST_RECORD {
         return Some(Word::Image);
@@ -81,7 +81,7 @@ fn source_after(line: &[u8]) -> u64 {
 }
 
 impl AnswerWords {
-    /// Of an answer of which nothing was written.
+    /// Nothing of the answer was written yet.
     pub(crate) fn new(alloc: Global) -> AnswerWords {
         AnswerWords {
             line: Vec::new(alloc),

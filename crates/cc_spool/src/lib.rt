@@ -5,8 +5,8 @@
 //! calls on these, `found` and `entries` what such a call tells, `refusal` why one is refused. `rights` makes the parts, `names` says which
 //! files are taken, `board` which of them are to be tried, `keeping` how many answers stay, `claims` has how a script is claimed and answered, `answer` the file that its answer is written to, `recovery` what a
 //! server that was killed left, `submission` how a client leaves a script and waits for its answer, `lines` which fault that tells,
-//! `framing` how a source stands in it, `fault` why one of these is refused. `log` says who did what: `script_file` the lines of a script as it
-//! is read, `answer_words` how each was answered.
+//! `framing` how a source stands in it, `fault` why one of these is refused. `log` has who did what: `script_file` has the lines of a script as
+//! it is read, `answer_words` how each was answered.
 //!
 //! It knows nothing of libraries; of `cc_disk` it has the history that contracts alone read. It needs no handle but files and the clock.
 //! Hands out `Spool`, `MemorySpool` and `Answered`; `FolderSpool`, `FolderLayout`, `SpoolFault`, and what a server (`take_folder`,

@@ -13,7 +13,7 @@ use std::alloc::AllocError;
 use std::fmt::Write;
 use std::fs::File;
 
-/// The name of the file; an old one has a number behind it, the newest 1.
+/// The name of the file; an old one has a number after it, the newest 1.
 const LOG: &str = "log";
 
 /// How many bytes a file may have, and how many old ones stay.
@@ -39,7 +39,7 @@ fn old_name(layout: &FolderLayout, number: u32) -> Result<String, AllocError> {
     format!(in layout.alloc; "{LOG}.{number}")
 }
 
-// Gives a file another name, where it is there.
+// Gives a file another name, if it is there.
 fn shift(layout: &FolderLayout, from: &str, to: &str) -> Result<(), Refusal> {
     match layout.rename_part(from, to) {
         Err(refusal) if !refusal.is_absent() => Err(refusal),
@@ -133,7 +133,7 @@ impl Log {
         }
     }
 
-    // Writes bytes behind those that are there.
+    // Writes bytes after those that are there.
     fn append(&mut self, layout: &FolderLayout, text: &[u8]) -> Result<(), Refusal> {
         let after = self.bytes.saturating_add(text.len() as u64);
         if self.file.is_none() || MOST_BYTES < after {

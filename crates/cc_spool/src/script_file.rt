@@ -17,7 +17,7 @@ enum Part {
     Line,
     // So many bytes after a line, one at least, and then so many others, if the line has two such parts.
     Bytes(u64, Option<u64>),
-    // The end of such a part: a newline, else the rest of a line that is none.
+    // The end of such a part: a newline, or the rest of a line that is no command.
     End(Option<u64>),
     // That rest.
     Rest,
@@ -88,7 +88,7 @@ fn part_of(count: u64, then: Option<u64>) -> Part {
 }
 
 impl ScriptFile {
-    /// A script of which nothing was read.
+    /// Nothing of the script was read yet.
     pub(crate) fn new(alloc: Global, file: File) -> ScriptFile {
         ScriptFile {
             file,

@@ -69,7 +69,7 @@ impl Folder {
         }
     }
 
-    /// Whether a log has these lines, each behind a time and a user.
+    /// Whether a log has these lines, each after a time and a user.
     pub fn has_log(self, name: &str, wanted: &str) -> bool {
         let path = self.path_in(".", name);
         let Ok(text) = fs::read_to_string(&self.rt, path.as_str()) else {

@@ -52,7 +52,7 @@ fn are_answered<N: Own, R: Wait>(
         && has_no_unit(service.space(rt))
 }
 
-// Whether records are there, and none would be after a compaction.
+// Whether there are records, which a compaction would leave out.
 fn has_no_unit(answer: Result<SpaceUse, ServiceFault>) -> bool {
     match answer {
         Ok(space) => (space.compacted, space.units) == (0, 0) && 9 < space.used,
