@@ -221,14 +221,14 @@ impl<D: Disk> Library<D> {
     {
         // What the log promises of its images.
         let _kept = self.log.is_closed();
-        let area = self.log.area();
-        let used = self.log.used();
-        let (compacted, units) = self.units.measure();
+        let size = self.log.area();
+        let taken = self.log.used();
+        let measured = self.units.measure();
         SpaceUse {
-            area,
-            used,
-            compacted,
-            units,
+            area: size,
+            used: taken,
+            compacted: measured.0,
+            units: measured.1,
         }
     }
 

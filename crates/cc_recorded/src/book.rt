@@ -237,8 +237,8 @@ impl<N: Based, D: Disk> Book<N, D> {
         self.recorded.is_mended_by_compact(client, command)
     }
 
-    // What its type keeps of what a crash leaves now. It does nothing.
-    fn kept(&self)
+    /// What its type keeps of what a crash leaves now. It does nothing.
+    pub fn kept(&self)
         ensures images { AllRecover D.Disk self.now.book }
         ensures idle { self.now.book.library.closed ≡ false → self.now.book.failed ≡ [] }
     {
@@ -292,10 +292,7 @@ impl<N: Based, D: Disk> Book<N, D> {
         ensures kept { IfOk result (λ _. IsTrue D.honest
             → AllHold (D.may_leave self.now.book.library.disk) self.now.book.library.area self.now.book.library.bodies) }
     {
-        if self.recorded.library.is_closed() {
-            return Err(BookFault::Closed);
-        }
-        Ok(self.recorded.library.space())
+        self.recorded.space()
     }
 
     /// Whether the device has failed before: then every change and `compact` answer 36. It takes no memory.
