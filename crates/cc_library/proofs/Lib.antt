@@ -12,6 +12,6 @@ pub mod Opening
 pub mod Running
 pub mod Compacting
 pub mod Whole
-mod Room
+pub mod Room
 mod Sizes
 pub mod Prefix

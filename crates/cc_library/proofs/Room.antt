@@ -1,19 +1,20 @@
--- A compaction never takes more room. How: each command adds to the records of one Add per name no more than its own record takes, since
--- an Add and a Replace of a unit are of one length. So over the commands that lead to a map, its records stay the shorter ones.
-use Rattle.std.proofs.Common.{◌≡◌, ℕ, ◌+◌, ◌≤◌, length, List, [], ◌∷◌, ◌++◌, Bool, true, false, cond, not, refl, sym, ap, subst, length-append, Some, arith}
-use Rattle.std.specs.Prelude.{Ok, Err, if◌then◌else◌}
+-- A compaction never takes more room. How: by entries. A command puts one entry in or takes some out, so the records of the entries never
+-- take more than those of the commands that led to them; an Add and a Replace of a unit are of one length.
+use Rattle.std.proofs.Common.{◌≡◌, ℕ, ◌+◌, ◌≤◌, Bool, true, false, cond, not, Option, None, Some, List, [], ◌∷◌, length, refl, sym, ap, subst, ◌∙◌, arith, length-append}
+use Rattle.std.specs.Prelude.{T, Ok, Err}
 use Rattle.std.specs.declared.cmp.Ordering.{Ordering}
 use Rattle.std.specs.declared.cmp.Ordering.TheVariants.{Less, Equal, Greater}
-use Rattle.std.specs.Ordering.{nat_cmp, eq_by_cmp}
+use Rattle.std.specs.List.{filter}
+use Rattle.std.specs.Ordering.{nat_cmp, eq_by_cmp, is_eq}
 use Rattle.std.specs.Cmp.Lexicographic.{slice_cmp, nat_list_cmp_total}
-use Rattle.std.specs.FinMap.{contains_key, empty, entries, entries-insert, insert, nat_cmp-IsAntisymmetric, put, remove, retain_keys, slice_cmp-IsAntisymmetric}
-use Rattle.std.specs.FinMap.Entries.{by_order, where_key}
+use Rattle.std.specs.FinMap as map
+use Rattle.std.specs.FinMap.Entries.{put, by_order, is_sorted, is_sorted-where_key, find-where_key}
 use Rattle.cc_journal.specs.Format.{record_bytes, records}
 use Rattle.cc_unit.specs.declared.unit.StoredUnit.{StoredUnit}
 use Rattle.cc_library.specs.declared.command.Kind.TheVariants as kind
 use Rattle.cc_library.specs.declared.command.LibraryCommand.{LibraryCommand}
 use Rattle.cc_library.specs.declared.command.LibraryCommand.TheVariants.{Add, Replace, Withdraw}
-use Rattle.cc_library.specs.Apply.{Units, absent, after, after_all, exists, kept}
+use Rattle.cc_library.specs.Apply.{Units, after, after_all, kept}
 use Rattle.cc_library.specs.Body.{body_of}
 use Rattle.cc_library.specs.Recovered.{AreSpelled, StandFor}
 use Rattle.cc_library.specs.Compact.{adds, bodies_of, compacted}
@@ -22,86 +23,117 @@ use Rattle.cc_library.proofs.Compacting.{record_long}
 use Rattle.cc_library.proofs.Sizes.{body_long}
 use Rattle.cc_library.proofs.Tables.{no_entries}
 
-abbrev R : List ℕ → List ℕ → Ordering
+abbrev pub R : List ℕ → List ℕ → Ordering
 R = slice_cmp nat_cmp
 
-abbrev Entry : Type 0
+abbrev pub Entry : Type 0
 Entry = List ℕ × StoredUnit
 
--- the bytes of the records of one Add for each of these entries
-abbrev size : List Entry → ℕ
+-- the bytes of the records of these entries
+abbrev pub size : List Entry → ℕ
 size es = length (records (bodies_of (adds es)))
 
-size_more : (e : Entry) (es : List Entry) → size (e ∷ es) ≡ length (body_of (Add e.0 e.1)) + 5 + size es
-size_more e es = omega (arith, length-append (record_bytes (body_of (Add e.0 e.1))) (records (bodies_of (adds es))), record_long (body_of (Add e.0 e.1)))
+-- of one
+abbrev pub one : List ℕ → StoredUnit → ℕ
+one name unit = length (record_bytes (body_of (Add name unit)))
 
-size_put : (name : List ℕ) (unit : StoredUnit) (es : List Entry) → size (put R name unit es) ≤ size es + (length (body_of (Add name unit)) + 5)
-size_put name unit [] = omega (arith, size_more (name, unit) [])
-size_put name unit (e ∷ es) =
-    elim (R name e.0) as (λ r. R name e.0 ≡ r → size (by_order r ((name, unit) ∷ e ∷ es) ((e.0, unit) ∷ es) (e ∷ put R name unit es)) ≤ size (e ∷ es) + (length (body_of (Add name unit)) + 5)) [
-      | Less ↦ λ p. omega (arith, size_more (name, unit) (e ∷ es))
-      | Equal ↦ λ p. omega (
-        arith,
-        size_more (e.0, unit) es,
-        size_more e es,
-        ap (λ (n : List ℕ). length (body_of (Add n unit))) (slice_cmp-IsAntisymmetric nat_cmp-IsAntisymmetric name e.0 p),
-      )
-      | Greater ↦ λ p. omega (arith, size_more e (put R name unit es), size_more e es, size_put name unit es)
-    ] refl
+pub size-more : (name : List ℕ) (unit : StoredUnit) (es : List Entry) → size ((name, unit) ∷ es) ≡ one name unit + size es
+size-more name unit es = length-append (record_bytes (body_of (Add name unit))) (records (bodies_of (adds es)))
 
-size_where : (passes : List ℕ → Bool) (es : List Entry) → size (where_key R passes es) ≤ size es
-size_where passes [] = omega arith
-size_where passes (e ∷ es) =
-    elim (passes e.0) as (λ b. size (cond b (e ∷ where_key R passes es) (where_key R passes es)) ≤ size (e ∷ es)) [
-      | true ↦ omega (arith, size_more e es, size_more e (where_key R passes es), size_where passes es)
-      | false ↦ omega (arith, size_more e es, size_where passes es)
-    ]
+-- an entry put in its place
+pub put_size : (name : List ℕ) (unit : StoredUnit) (es : List Entry) → size (put R name unit es) ≤ one name unit + size es
+put_size name unit [] = omega (arith, size-more name unit [])
+put_size name unit (e ∷ es) = at (put_size name unit es) (R name e.0) refl
+  where
+    at : size (put R name unit es) ≤ one name unit + size es → (o : Ordering) → R name e.0 ≡ o → size (by_order o ((name, unit) ∷ e ∷ es) ((e.0, unit) ∷ es) (e ∷ put R name unit es)) ≤ one name unit + size (e ∷ es)
+    at rest Less is = omega (arith, size-more name unit (e ∷ es))
+    at rest Equal is =
+        let same : name ≡ e.0 = map.slice_cmp-IsAntisymmetric map.nat_cmp-IsAntisymmetric name e.0 is in
+        omega (arith, size-more e.0 unit es, size-more e.0 e.1 es, ap (λ (n : List ℕ). one n unit) same)
+    at rest Greater is = omega (arith, size-more e.0 e.1 (put R name unit es), size-more e.0 e.1 es, rest)
 
-entries_remove : (units : Units) (name : List ℕ) → entries (remove units name) ≡ where_key R (λ x. not (eq_by_cmp R name x)) (entries units)
-unfolding entries remove retain_keys
-entries_remove units name = refl
+-- entries taken out
+pub where_size : (p : List ℕ → Bool) (es : List Entry) → size (filter (λ (e : Entry). p e.0) es) ≤ size es
+where_size p [] = omega arith
+where_size p (e ∷ es) = at (where_size p es) (p e.0)
+  where
+    at : size (filter (λ (e : Entry). p e.0) es) ≤ size es → (b : Bool) → size (cond b (e ∷ filter (λ (e : Entry). p e.0) es) (filter (λ (e : Entry). p e.0) es)) ≤ size (e ∷ es)
+    at rest true = omega (arith, size-more e.0 e.1 es, size-more e.0 e.1 (filter (λ (e : Entry). p e.0) es), rest)
+    at rest false = omega (arith, size-more e.0 e.1 es, rest)
 
-size_insert : (units : Units) (name : List ℕ) (unit : StoredUnit) → size (entries (insert units name unit)) ≤ size (entries units) + (length (body_of (Add name unit)) + 5)
-size_insert units name unit =
-    subst (λ (es : List Entry). size es ≤ size (entries units) + (length (body_of (Add name unit)) + 5)) (sym (entries-insert nat_list_cmp_total units name unit)) (size_put name unit (entries units))
+turned : {A : Type 0} (b : Bool) (x y : A) → cond (not b) x y ≡ cond b y x
+turned true x y = refl
+turned false x y = refl
 
-size_remove : (units : Units) (name : List ℕ) → size (entries (remove units name)) ≤ size (entries units)
-size_remove units name = subst (λ (es : List Entry). size es ≤ size (entries units)) (sym (entries_remove units name)) (size_where (λ x. not (eq_by_cmp R name x)) (entries units))
+-- a map without a name has the other entries
+pub entries-remove : (units : Units) (name : List ℕ) → (p : List ℕ → Bool) × (map.entries (map.remove units name) ≡ filter (λ (e : Entry). p e.0) (map.entries units))
+entries-remove units name = (p, ap map.entries same ∙ map.entries-from_sorted R others sorted)
+  where
+    p : List ℕ → Bool
+    p x = not (eq_by_cmp R x name)
+
+    others : List Entry
+    others = filter (λ (e : Entry). p e.0) (map.entries units)
+
+    sorted : T (is_sorted R others)
+    sorted = is_sorted-where_key R p (map.entries units) (map.entries_sorted units)
+
+    same : map.remove units name ≡ map.from_sorted others
+    same =
+        map.same_map nat_list_cmp_total (map.slice_cmp-IsAntisymmetric map.nat_cmp-IsAntisymmetric) (map.remove units name) (map.from_sorted others)
+        (λ q.
+        map.get-remove nat_list_cmp_total units name q ∙ sym (turned (eq_by_cmp R q name) (map.get units q) None) ∙ ap (λ (o : Option StoredUnit). cond (p q) o None) (map.get-entries units q)
+        ∙ sym (find-where_key R p q (λ x t. ap (λ (o : Ordering). not (is_eq o)) (sym (nat_list_cmp_total.congr q x name t))) (map.entries units)) ∙ sym (map.get-from_sorted R others q sorted))
+
+-- ---- commands
+
+after_insert : (units : Units) (name : List ℕ) (unit : StoredUnit) → size (map.entries (map.insert units name unit)) ≤ one name unit + size (map.entries units)
+after_insert units name unit =
+    subst (λ (es : List Entry). size es ≤ one name unit + size (map.entries units)) (sym (map.entries-insert nat_list_cmp_total units name unit)) (put_size name unit (map.entries units))
+
+after_remove : (units : Units) (name : List ℕ) → size (map.entries (map.remove units name)) ≤ size (map.entries units)
+after_remove units name =
+    let is = entries-remove units name in
+    subst (λ (es : List Entry). size es ≤ size (map.entries units)) (sym is.1) (where_size is.0 (map.entries units))
 
 -- a command adds no more than its record
-size_after : (units : Units) (command : LibraryCommand) → size (entries (after units command)) ≤ size (entries units) + (length (body_of command) + 5)
-size_after units (Add name unit) =
-    elim (contains_key units name) as (λ b. size (entries (kept units (if b then Err exists else Ok (insert units name unit)))) ≤ size (entries units) + (length (body_of (Add name unit)) + 5)) [
-      | true ↦ omega arith
-      | false ↦ size_insert units name unit
-    ]
-size_after units (Replace name unit) =
-    elim (contains_key units name) as (λ b. size (entries (kept units (if b then Ok (insert units name unit) else Err absent))) ≤ size (entries units) + (length (body_of (Replace name unit)) + 5)) [
-      | true ↦ omega (arith, size_insert units name unit, body_long kind.Add name (Some unit), body_long kind.Replace name (Some unit))
-      | false ↦ omega arith
-    ]
-size_after units (Withdraw name) =
-    elim (contains_key units name) as (λ b. size (entries (kept units (if b then Ok (remove units name) else Err absent))) ≤ size (entries units) + (length (body_of (Withdraw name)) + 5)) [
-      | true ↦ omega (arith, size_remove units name)
-      | false ↦ omega arith
-    ]
+after_one : (units : Units) (c : LibraryCommand) → size (map.entries (after units c)) ≤ length (record_bytes (body_of c)) + size (map.entries units)
+after_one units (Add name unit) = at (map.contains_key units name)
+  where
+    at : (b : Bool) → size (map.entries (kept units (cond b (Err 31) (Ok (map.insert units name unit))))) ≤ one name unit + size (map.entries units)
+    at true = omega arith
+    at false = after_insert units name unit
+after_one units (Replace name unit) = at (map.contains_key units name)
+  where
+    same : length (record_bytes (body_of (Replace name unit))) ≡ one name unit
+    same = omega (arith, record_long (body_of (Replace name unit)), record_long (body_of (Add name unit)), body_long kind.Add name (Some unit), body_long kind.Replace name (Some unit))
 
-size_led : (from : Units) (bodies : List (List ℕ)) (commands : List LibraryCommand) → AreSpelled bodies commands → size (entries (after_all from commands)) ≤ size (entries from) + length (records bodies)
-size_led from [] [] spelled = omega arith
-size_led from [] (command ∷ commands) spelled = absurd spelled
-size_led from (body ∷ bodies) [] spelled = absurd spelled
-size_led from (body ∷ bodies) (command ∷ commands) spelled = omega (
+    at : (b : Bool) → size (map.entries (kept units (cond b (Ok (map.insert units name unit)) (Err 32)))) ≤ length (record_bytes (body_of (Replace name unit))) + size (map.entries units)
+    at true = omega (arith, after_insert units name unit, same)
+    at false = omega arith
+after_one units (Withdraw name) = at (map.contains_key units name)
+  where
+    at : (b : Bool) → size (map.entries (kept units (cond b (Ok (map.remove units name)) (Err 32)))) ≤ length (record_bytes (body_of (Withdraw name))) + size (map.entries units)
+    at true = omega (arith, after_remove units name)
+    at false = omega arith
+
+after_those : (from : Units) (bodies : List (List ℕ)) (commands : List LibraryCommand) → AreSpelled bodies commands → size (map.entries (after_all from commands)) ≤ length (records bodies) + size (map.entries from)
+after_those from [] [] spelled = omega arith
+after_those from [] (c ∷ commands) spelled = absurd spelled
+after_those from (body ∷ bodies) [] spelled = absurd spelled
+after_those from (body ∷ bodies) (c ∷ commands) spelled = omega (
   arith,
-  size_led (after from command) bodies commands spelled.1,
-  size_after from command,
-  spelled_long body command spelled.0,
+  after_those (after from c) bodies commands spelled.1,
+  after_one from c,
+  spelled_long body c spelled.0,
   length-append (record_bytes body) (records bodies),
   record_long body,
+  record_long (body_of c),
 )
 
 -- the records of one Add per name take no more than any records that lead to the map
 pub compacted_least : (bodies : List (List ℕ)) (units : Units) → StandFor bodies units → length (records (compacted units)) ≤ length (records bodies)
 compacted_least bodies units stand =
-    let led = size_led empty bodies stand.commands stand.spelled in
-    let none : size (entries {X = StoredUnit} {R = R} empty) ≡ 0 = ap size (no_entries nat_list_cmp_total) in
-    subst (λ (m : Units). length (records (compacted m)) ≤ length (records bodies)) (sym stand.map_is) (omega (arith, led, none))
+    let all = after_those map.empty bodies stand.commands stand.spelled in
+    let none : size (map.entries {X = StoredUnit} {R = R} map.empty) ≡ 0 = ap size (no_entries nat_list_cmp_total) in
+    subst (λ (m : Units). length (records (compacted m)) ≤ length (records bodies)) (sym stand.map_is) (omega (arith, all, none))

@@ -60,6 +60,18 @@ fn change_of(put: Put, name: Name, unit: CompiledUnit) -> Command
     }
 }
 
+// How much of its area the library of a book takes.
+fn space_of<N: Named, D: Disk>(book: &Book<N, D>) -> Result<SpaceUse, ServiceFault>
+    ensures answers { SpaceAnswers result }
+    ensures moment { IfOk result (λ space. IsSpaceThen D.Disk N.base N.from N.left space) }
+{
+    book.survives();
+    match book.space() {
+        Ok(space) => Ok(space),
+        Err(fault) => Err(ServiceFault::Book(fault)),
+    }
+}
+
 /// A library for many clients on threads of their own. Workers compile function by function; changes are committed one at a time, under
 /// the book's lock.
 ///
@@ -618,14 +630,7 @@ impl<N: Named + Send + Sync + 'static, D: Disk> Service<N, D> {
         ensures answers { SpaceAnswers result }
         ensures moment { IfOk result (λ space. IsSpaceThen D.Disk N.base N.from N.left space) }
     {
-        let book = self.book.lock(rt);
-        let answer = book.space();
-        book.survives();
-        drop(book);
-        match answer {
-            Ok(space) => Ok(space),
-            Err(fault) => Err(ServiceFault::Book(fault)),
-        }
+        space_of(&self.book.lock(rt))
     }
 
     /// Ends the service, with all its clients.

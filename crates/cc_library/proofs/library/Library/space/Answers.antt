@@ -1,5 +1,5 @@
 -- The records of the log lead to the map, so those of a compaction take no more than they do.
-use Rattle.std.proofs.Common.{◌≡◌, ◌≤◌, ℕ, Bool, IsTrue, List, false, sym, ◌∙◌, subst, arith}
+use Rattle.std.proofs.Common.{◌≡◌, IsTrue, false, sym, ◌∙◌, subst, arith}
 use Rattle.cc_journal.specs.Format.{AllHold}
 use Rattle.cc_library.specs.Recovered.{View}
 use Rattle.cc_library.specs.Space.{IsSpace}
