@@ -6,7 +6,7 @@ ghost use Rattle.cc_stages.specs.declared.fault.StagesFault.TheVariants.{Unknown
 
 use crate::fault::StagesFault;
 use cc_emit::Piece;
-use cc_link::{Mode, compile_function_in, link_pieces_in};
+use cc_link::{Mode, link_pieces_in};
 use cc_rv32::listing::list;
 use cc_types::TypedUnit;
 use std::alloc::{AllocError, Global};
@@ -33,23 +33,6 @@ impl Listing {
             _ => b"",
         }
     }
-}
-
-// The pieces of a unit's functions, in their order.
-fn pieces(alloc: Global, mode: Mode, unit: &Arc<TypedUnit>) -> Result<Vec<Piece>, StagesFault>
-    ensures { IfErr result (λ fault. ¬ (fault ≡ UnknownFunction)) }
-{
-    let mut pieces = Vec::new(alloc);
-    for function in 0..unit.functions() {
-        let piece = match compile_function_in(alloc, mode, unit, function) {
-            Ok(piece) => piece,
-            Err(fault) => return Err(StagesFault::Piece(fault)),
-        };
-        if pieces.push(piece).is_err() {
-            return Err(StagesFault::OutOfMemory);
-        }
-    }
-    Ok(pieces)
 }
 
 // How many words the code of each piece has.
@@ -106,16 +89,16 @@ fn lines(
     }
 }
 
-/// The listing of a unit's image. Refusals: 22 or 24 for the first function without a piece, 25 where there would be more than 131,072
-/// words of code, 40 where memory ran out.
+/// The listing of the image of a unit, whose pieces these are. Refusals: 25 where there would be more than 131,072 words of code, 40 where
+/// memory ran out.
 pub(crate) fn list_unit(
     alloc: Global,
     mode: Mode,
     unit: &Arc<TypedUnit>,
+    pieces: Vec<Piece>,
 ) -> Result<Listing, StagesFault>
     ensures { IfErr result (λ fault. ¬ (fault ≡ UnknownFunction)) }
 {
-    let pieces = pieces(alloc, mode, unit)?;
     let sizes = sizes(alloc, pieces.as_slice())?;
     let lines = lines(alloc, mode, unit, pieces)?;
     let places = places(alloc, lines.as_slice(), sizes.as_slice())?;
