@@ -42,7 +42,7 @@ impl Step {
         }
     }
 
-    // Where its allocation comes from; none where the LTL is refused.
+    // The allocation that it takes; none if the LTL is refused.
     fn allocation(self, alloc: Global, ltl: &[u8]) -> Option<Allocation> {
         match self {
             Step::Rtl | Step::Live | Step::Colour | Step::Check => Some(Allocation::Chosen),
@@ -98,7 +98,7 @@ pub fn compiled(alloc: Global, text: &[u8], times: u32) -> Option<usize> {
     Some(words)
 }
 
-/// Reads and checks a text once, and takes its first function so far so many times: how many nodes its RTL has. None where the text, the
+/// Reads and checks a text once, and takes its first function so far so many times: how many nodes its RTL has. None if the text, the
 /// function or its LTL is refused.
 pub fn again(alloc: Global, text: &[u8], step: Step, ltl: &[u8], times: u32) -> Option<usize> {
     let unit = check(alloc, parse(alloc, text).ok()?).ok()?;

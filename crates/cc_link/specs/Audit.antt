@@ -31,7 +31,7 @@ pub record IsConfirmedIn (mode : Mode) (text certificate : List ℕ) (image : Im
   pub keep_up : ∥ EachKeepsUpIn mode tree spells.ltls ∥₁
   pub made : IsMadeIn mode (record { source = text; image = image; certificate = Some certificate })
 
--- an audit says that there is no certificate exactly where there is none, and confirms only what is so
+-- an audit reports that the certificate is missing exactly if it is, and confirms only what is so
 abbrev pub AuditSaysIn : Mode → (text : List ℕ) → (certificate : Option (List ℕ)) → Image → Audit → Type 0
 AuditSaysIn mode text None image audit = audit ≡ NoCertificate
 AuditSaysIn mode text (Some certificate) image Confirmed = IsConfirmedIn mode text certificate image

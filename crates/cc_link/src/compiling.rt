@@ -126,7 +126,7 @@ pub fn compile_whole_in(alloc: Global, mode: Mode, text: &[u8]) -> Result<Compil
 /// program shows in the mode.
 ///
 /// Refusals: 1 to 7 and 11 to 21 exactly those of `typed_unit`; for a text without these 22 or 24 for the first function that has one, with
-/// its name, where each function before it has a piece; 25 where `link_in` refuses the pieces so; 40 where memory ran out.
+/// its name, if each function before it has a piece; 25 if `link_in` refuses the pieces so; 40 if memory ran out.
 pub fn compile_in(alloc: Global, mode: Mode, text: &[u8]) -> Result<CompiledUnit, BuildFault>
     ensures source { IfOk result (λ unit. unit.source ≡ text.now) }
     ensures agrees { IfOk result (λ unit. Agree text.now unit.image) }

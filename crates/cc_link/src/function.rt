@@ -29,12 +29,12 @@ fn name_of(unit: &TypedUnit, function: usize) -> (usize, usize)
 }
 
 /// The piece of the function with a number in a mode, through Cminor, which has guards if it is checked, RTL, validated LTL, Linear and
-/// selected steps to its code, each of which `watch` sees. Functions are numbered from 0 in the order of their definitions. That the code
-/// does what the function does in the mode belongs to the piece's type, whatever the allocation and whoever watches.
+/// selected steps to its code. `watch` sees each of them. Functions are numbered from 0 in the order of their definitions. The piece's type
+/// keeps that the code does what the function does in the mode, whatever the allocation and whoever watches.
 ///
-/// Refusals, the first two with the bytes of the function's name: 22 where it would have more than 4,096 nodes of RTL or its guards would
-/// set more than 2,048 variables, which needs more than 256 tokens, or 177 for a checked piece; 24 where the validator refuses the
-/// allocation; 40 where memory ran out, or `watch` refused.
+/// Refusals, the first two with the bytes of the function's name: 22 if it would have more than 4,096 nodes of RTL or its guards would
+/// set more than 2,048 variables, which needs more than 256 tokens, or 177 for a checked piece; 24 if the validator refuses the
+/// allocation; 40 if memory ran out, or `watch` refused.
 pub fn compile_watched_in<W: Watch>(
     alloc: Global,
     mode: Mode,
@@ -103,8 +103,8 @@ pub(crate) fn compile_first_in(
     }
 }
 
-/// The piece of the function with a number in a mode, by registers, or with a slot for each value where the validator refuses these, and
-/// nobody watches. It answers what `compile_watched_in` does.
+/// The piece of the function with a number in a mode, by registers, or with a slot for each value if the validator refuses these.
+/// Nobody watches. It answers what `compile_watched_in` does.
 pub fn compile_function_in(
     alloc: Global,
     mode: Mode,

@@ -26,7 +26,7 @@ use cc_validate::{LtlPair, Refused, ValidateFault, validate};
 use std::alloc::{AllocError, Global};
 use std::sync::Arc;
 
-/// The RTL of a function, once the nodes that nobody needs have gone, and which registers are live where. Nothing rests on these sets.
+/// The RTL of a function, once the nodes that nobody needs have gone, and its live sets. Nothing rests on these sets.
 #[derive(Drop)]
 pub(crate) struct Colourable {
     pub(crate) rtl: RtlPair,
@@ -207,12 +207,12 @@ fn spilled<W: Watch>(alloc: Global, pair: RtlPair, watch: &mut W) -> Result<LtlP
     }
 }
 
-// LTL by registers, of which these are live.
+// LTL by registers, with these live sets.
 fn coloured(alloc: Global, rtl: &Rtl, live: Liveness) -> Result<Ltl, AllocError> {
     colour(alloc, rtl, &live)
 }
 
-// LTL by registers, and with a slot for each value only where the validator refuses that.
+// LTL by registers, and with a slot for each value only if the validator refuses that.
 fn chosen<W: Watch>(
     alloc: Global,
     colourable: Colourable,

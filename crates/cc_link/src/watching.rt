@@ -1,4 +1,4 @@
-// Where a function's allocation comes from, and who watches the function go through the passes.
+// The source of a function's allocation, and who watches the function go through the passes.
 
 use cc_cminor::CminorPair;
 use cc_linear_language::LinearPair;
@@ -7,7 +7,7 @@ use cc_rtl::Rtl;
 use cc_select::SelectedPair;
 use std::alloc::AllocError;
 
-/// Where a function's allocation comes from. Nothing is believed of any: the validator judges each.
+/// The source of a function's allocation. Nothing is believed of any: the validator judges each.
 #[derive(Drop)]
 pub enum Allocation {
     /// Registers, and a slot for each value if the validator refuses these.

@@ -44,7 +44,7 @@ impl<'a> Writing<'a> {
         }
     }
 
-    // Writes what was seen: a stage, or of LTL first whose it is, and behind that how it was judged.
+    // Writes what was seen: a stage, or of LTL first whose it is, and then how it was judged.
     fn write(&mut self, seen: Seen<'_>) -> io::Result<()> {
         match seen {
             Seen::Cminor(pair) => Stage::Cminor.write(self.name, pair, &mut self.text),

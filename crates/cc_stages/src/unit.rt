@@ -33,7 +33,7 @@ fn number_of(unit: &TypedUnit, name: &[u8]) -> Option<usize>
     None
 }
 
-// The stages of a function that is wanted. The last one is its code, whose lines come behind the text, if it has a piece.
+// The stages of a function that is wanted. The last one is its code, whose lines come after the text, if it has a piece.
 #[derive(Drop)]
 struct Shown {
     function: usize,
@@ -183,9 +183,9 @@ fn write_stages<W: Write>(
 /// with a line `== f: RTL`; then come its lines, as docs/INTERMEDIATE.md has them. The last stage has the function's lines of the image's
 /// listing. All stages of a function are of one run of the passes. The writer is not flushed.
 ///
-/// Refusals: 59 where no function has that name, with nothing written. Where a function has no piece (22, 24) its stages end with the one
-/// that says so, and nothing comes behind it. Where the unit has no image, for a function that is not wanted (22, 24) or for its
-/// size (25), the wanted functions have all other stages. 40 where memory ran out, 54 where the text could not be written: it may end
+/// Refusals: 59 if no function has that name, with nothing written. If a function has no piece (22, 24), its stages end with the one
+/// that says so, and nothing comes after it. If the unit has no image, for a function that is not wanted (22, 24) or for its
+/// size (25), the wanted functions have all other stages. 40 if memory ran out, 54 if the text could not be written: it may end
 /// anywhere then.
 pub fn stages<W: Write>(
     alloc: Global,
