@@ -79,7 +79,10 @@ impl Run {
     // Adds a function that is not wanted.
     fn add(&mut self, piece: Result<Piece, PieceFault>) -> Result<(), AllocError> {
         match piece {
-            Ok(piece) => self.pieces.push(piece),
+            Ok(piece) => {
+                self.pieces.push(piece)?;
+                Ok(())
+            }
             Err(fault) => {
                 self.refused = Some(fault);
                 Ok(())
