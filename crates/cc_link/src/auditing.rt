@@ -73,8 +73,12 @@ pub fn failed_part_in(
     ensures { IfOk result (λ failed. MatchOption failed (IsConfirmedIn mode source.now certificate.now image.now) (IsFailedPartIn mode source.now certificate.now image.now)) }
 {
     linked_units_follow();
-    match made_along(alloc, mode, source, certificate, image)? {
-        Ok(_) => Ok(None),
+    let made = made_along(alloc, mode, source, certificate, image)?;
+    match made {
+        Ok(made) => {
+            drop(made);
+            Ok(None)
+        }
         Err(failed) => Ok(Some(failed)),
     }
 }
