@@ -69,7 +69,7 @@ static LOOKS: [(&str, &str); 3] = [
     ),
 ];
 
-// The record of `int main(void){}` under a name of one letter takes RECORD bytes, that of a withdrawal 9.
+// The record of `int main(void){}` under a name of one letter takes 121 bytes, by bench/records.py; that of a withdrawal 9.
 static SPACES: [(&str, &str); 3] = [
     (
         "space\nspace a\nspace \nSpace\nlist\n",
@@ -77,11 +77,11 @@ static SPACES: [(&str, &str); 3] = [
     ),
     (
         "add a 16\nint main(void){}\nadd b 16\nint main(void){}\nspace\nreplace a 16\nint main(void){}\nspace\ncompact\nspace\n",
-        "ok 1\nok 2\nspace 262144 158 158 2\nok\nok 3\nspace 262144 237 158 2\nok\nok\nspace 262144 158 158 2\nok\n",
+        "ok 1\nok 2\nspace 262144 242 242 2\nok\nok 3\nspace 262144 363 242 2\nok\nok\nspace 262144 242 242 2\nok\n",
     ),
     (
         "add a 16\nint main(void){}\nadd b 1\nx\nwithdraw a\nspace\nlist\n",
-        "ok 1\nfault 5 Unexpected at 1:1\nok 2\nspace 262144 88 0 0\nok\nok 3\n",
+        "ok 1\nfault 5 Unexpected at 1:1\nok 2\nspace 262144 130 0 0\nok\nok 3\n",
     ),
 ];
 
