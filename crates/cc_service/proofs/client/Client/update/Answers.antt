@@ -49,11 +49,11 @@ returns-in-Err-clause-since g c = inr ([], c.look.ensures.since)
 pub returns-in-Err-clause-moments : goal.returns-in-Err-clause-moments
 returns-in-Err-clause-moments g c =
     let before = c.args.book.now.book in
-    let same = look_leaves g.D.Disk before c.look.new.book.book c.args.self.now.member c.look.new.self.member _ c.in-Err.fault c.in-Err.ensures.answers in
+    let same = look_leaves g.D.Disk before c.look.new.book.book c.args.self.now.member c.look.new.self.member (Fetch c.in-Ok.asked) c.in-Err.fault c.in-Err.ensures.answers in
     nothing_at_once g.D.Disk before c.look.new.book.book (Replace c.args.name c.args.unit) same (λ h image left. g.met.D.Disk.only_now before.library.disk image h left) c.kept.ensures.images c.kept.ensures.idle
 
 pub returns-in-Err-clause-kept : goal.returns-in-Err-clause-kept
 returns-in-Err-clause-kept g c =
     let before = c.args.book.now.book in
-    let same = look_leaves g.D.Disk before c.look.new.book.book c.args.self.now.member c.look.new.self.member _ c.in-Err.fault c.in-Err.ensures.answers in
+    let same = look_leaves g.D.Disk before c.look.new.book.book c.args.self.now.member c.look.new.self.member (Fetch c.in-Ok.asked) c.in-Err.fault c.in-Err.ensures.answers in
     subst (λ (b : BookView g.row.D.Denot). AllRecover g.D.Disk b) (sym same) c.kept.ensures.images
