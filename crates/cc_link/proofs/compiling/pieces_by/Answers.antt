@@ -15,7 +15,7 @@ use Rattle.cc_link.specs.Pieces.{AreFromIn}
 use Rattle.cc_link.proofs.Deciding.{defined_long}
 use Rattle.cc_link.proofs.Own.{one_from}
 use Rattle.cc_link.proofs.Ordering.{compiled_of}
-use Rattle.cc_link.proofs.compiling.compile_functions_in.Goals as goal
+use Rattle.cc_link.proofs.compiling.pieces_by.Goals as goal
 
 pub returns-in-Err-clause-refused : goal.returns-in-Err-clause-refused
 returns-in-Err-clause-refused c =

@@ -5,7 +5,7 @@ use Rattle.std.specs.Arc.{arc_value}
 use Rattle.cc_ast.specs.Source.{source}
 use Rattle.cc_link.specs.Made.{IsCompiled}
 use Rattle.cc_link.specs.Pieces.{AreFromIn}
-use Rattle.cc_link.proofs.compiling.compile_functions_in.Given as goal
+use Rattle.cc_link.proofs.compiling.pieces_by.Given as goal
 
 -- the pieces so far are those of the functions so far
 abbrev pub invariant-loop-function : goal.invariant-loop-function

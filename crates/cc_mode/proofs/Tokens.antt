@@ -1,8 +1,9 @@
--- The definition of a function whose guarded code is too large is long.
+-- The definition of a function whose code is too large is long. Checked code of t tokens has at most 12 t statements and expressions, and t
+-- operations that may have no answer, each with eleven nodes more. With the loop at the end that is at most 23 t + 4 nodes of 4,096.
 use Rattle.std.proofs.Common.{ℕ, ◌<◌, ◌≤◌, List, [], ◌∷◌, length, Option, Some, None, arith}
 use Rattle.std.proofs.lemmas.Bool.Decides.{nat_tests}
 use Rattle.cc_ast.specs.Tree.{External}
-use Rattle.cc_c_laws.specs.declared.mode.Mode.TheVariants.{Checked}
+use Rattle.cc_c_laws.specs.declared.mode.Mode.TheVariants.{Plain, Checked}
 use Rattle.cc_simulation.specs.World.{Size}
 use Rattle.cc_cminor.specs.Cminor.{Expression, Constant, Local, Unary, Binary, Load, Statement, Skip, Set, Store, Call, Read, Write, Sequence, If, Loop, Block, Exit, Return}
 use Rattle.cc_cminor.specs.Numbers.{ExpressionBelow, ExpressionsBelow, ResultBelow, StatementBelow}
@@ -12,6 +13,7 @@ use Rattle.cc_guard.specs.Guard.{guarded_function, variables_in}
 use Rattle.cc_guard.specs.Held.{IsHeld}
 use Rattle.cc_guard.specs.Laws.{GuardsSetFew}
 use Rattle.cc_rtl.specs.Size.{function_nodes}
+use Rattle.cc_rtl.proofs.Sizes.{nodes_few}
 use Rattle.cc_mode.specs.Long.{IsLongIn}
 use Rattle.cc_mode.proofs.GuardedNodes.{guarded_nodes}
 use Rattle.cc_mode.proofs.HeldNodes.{held_nodes}
@@ -51,7 +53,13 @@ module _ (m : ℕ) where
   statement_low (Exit k) count le b = le
   statement_low (Return e) count le b = expression_low e count le b
 
--- ---- more than 177 tokens
+-- ---- more than 256 tokens, or 177
+
+pub plain_long : (unit : List External) (f : ℕ) (s : Statement) → AtMostTwelveAToken unit f s → 4096 < function_nodes s → IsLongIn Plain unit f
+plain_long unit f s small large definition at tokens spelled =
+    let a = nodes_few s in
+    let b = small definition at tokens spelled in
+    omega arith
 
 module _ (unit : List External) (f : ℕ) (s : Statement) (objects : List Size) (few : AtMostOnePartialAToken unit f s) where
   pub nodes_long : AtMostTwelveAToken unit f s → (n : ℕ) (t : Statement) → IsHeld (guarded_function objects n s) t → 4096 < function_nodes t → IsLongIn Checked unit f
