@@ -105,7 +105,12 @@ pub(crate) struct Passed {
 }
 
 /// Takes the function with a number through the passes.
-pub(crate) fn passed(alloc: Global, mode: Mode, unit: &Arc<TypedUnit>, function: usize) -> Passed
+pub(crate) fn pass_function(
+    alloc: Global,
+    mode: Mode,
+    unit: &Arc<TypedUnit>,
+    function: usize,
+) -> Passed
     requires { function < length (defined_names (source (arc_value unit.now))) }
 {
     let mut writing = Writing::new(alloc, mode, unit.function_name(function));

@@ -12,7 +12,7 @@ ghost use Rattle.cc_stages.specs.declared.fault.StagesFault.TheVariants.{Unknown
 
 use crate::code::{Listing, list_unit};
 use crate::fault::StagesFault;
-use crate::function::{Passed, passed};
+use crate::function::{Passed, pass_function};
 use cc_emit::Piece;
 use cc_link::{Mode, PieceFault, compile_function_in};
 use cc_types::TypedUnit;
@@ -92,7 +92,7 @@ impl Run {
 }
 
 // Takes a unit's functions through the passes, and shows each, or the one that is wanted.
-fn run(
+fn pass_functions(
     alloc: Global,
     mode: Mode,
     unit: &Arc<TypedUnit>,
@@ -101,7 +101,7 @@ fn run(
     let mut run = Run::new(alloc);
     for function in 0..unit.functions() {
         if wanted.is_none_or(|wanted| wanted == function) {
-            let passed = passed(alloc, mode, unit, function);
+            let passed = pass_function(alloc, mode, unit, function);
             if !run.show(function, passed)? {
                 return Ok(run);
             }
@@ -170,7 +170,7 @@ fn write_stages<W: Write>(
         shown,
         pieces,
         refused,
-    } = run(alloc, mode, unit, wanted)?;
+    } = pass_functions(alloc, mode, unit, wanted)?;
     let code = listing(alloc, mode, unit, pieces, refused);
     if write_all(shown.as_slice(), &code, writer).is_err() {
         drop(code);
