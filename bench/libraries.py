@@ -10,7 +10,7 @@ killed at 200 moments. Nothing may have the new name, or all of the library; wha
 synced before the new file gets its name.
 libraries.py calls [COUNT [SEED]]: COUNT random programs (1,000) in a library: what `call` answers of each on random words within a random bound, as
 `run` does and as the simulator of image.py, by which `executed M` is counted too; one after the other, and by `--lines`.
-The status is 1 where something differs. The program has to be built (./cclib)."""
+The status is 1 if something differs. The program has to be built (./cclib)."""
 
 import os
 import random

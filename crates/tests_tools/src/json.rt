@@ -37,9 +37,9 @@ static CHECKED: [(&[(&str, &str)], &str, u8); 7] = [
     (
         &[
             ("a.c", "int total;\n"),
-            ("b.c", "int main(void){\n totl=1;\n break;\n}"),
+            ("b.c", "int main(void){\n totl=1;\n xyzzy=1;\n}"),
         ],
-        "{\"at\":\"3:2\",\"cclib\":1,\"column\":2,\"file\":\"b.c\",\"help\":\"did you mean 'total'?\",\"kind\":\"fault\",\"line\":2,\"message\":\"'totl' is not declared\",\"name\":\"Unknown\",\"notes\":[],\"number\":11}\n{\"cclib\":1,\"column\":2,\"file\":\"b.c\",\"kind\":\"further\",\"line\":3,\"message\":\"'break' stands outside a loop\",\"notes\":[]}\n",
+        "{\"at\":\"3:2\",\"cclib\":1,\"column\":2,\"file\":\"b.c\",\"help\":\"did you mean 'total'?\",\"kind\":\"fault\",\"line\":2,\"message\":\"'totl' is not declared\",\"name\":\"Unknown\",\"notes\":[],\"number\":11}\n{\"cclib\":1,\"column\":2,\"file\":\"b.c\",\"kind\":\"further\",\"line\":3,\"message\":\"'xyzzy' is not declared\",\"notes\":[]}\n",
         1,
     ),
     (
