@@ -1,6 +1,6 @@
 -- Line after line: one line more that was answered, and what became of all.
-use Rattle.std.proofs.Common.{◌≡◌, ◌≢◌, ◌⊎◌, inl, inr, ◌∙◌, ℕ, ◌+◌, ◌-◌, ◌^◌, Bool, true, false, ◌||◌, IsTrue, List, [], ◌∷◌, ◌++◌, length, Option, Some, None, Result, Ok, Err, OnOk, refl, sym, ap, subst, arith}
-use Rattle.std.specs.Prelude.{IfOk, IfSome}
+use Rattle.std.proofs.Common.{◌≡◌, ◌≢◌, inl, inr, ◌∙◌, ℕ, ◌+◌, ◌-◌, ◌^◌, Bool, true, false, ◌||◌, IsTrue, List, [], ◌∷◌, ◌++◌, length, Option, Some, None, refl, sym, ap, subst, arith}
+use Rattle.std.specs.Prelude.{IfSome}
 use Rattle.std.specs.List.{list_any}
 use Rattle.std.proofs.lemmas.List.Folds.{list_any-append}
 use Rattle.std.proofs.lemmas.Option.{none-some, same_Some}
@@ -8,8 +8,8 @@ use Rattle.std.proofs.KnownBytes.{Appends-kept}
 use Rattle.std.specs.Io.KnownBytes.{Appends, Keeps}
 use Rattle.std.specs.Io.BufRead.{drop_through, first_piece, strip_last, take_through}
 use Rattle.cc_rv32.specs.declared.image.Image.{Image}
-use Rattle.cc_call.specs.Call.{AnswersLine, refusal_text}
-use Rattle.cc_call.specs.Lines.{AnswersLines, CallsLines, IsRefused, LineTurn, is_bad, is_bad_end, is_lack, is_lack_end}
+use Rattle.cc_call.specs.Call.{AnswersLine}
+use Rattle.cc_call.specs.Lines.{AnswersLines, CallsLines, LineTurn, is_bad, is_bad_end, is_lack, is_lack_end}
 use Rattle.cc_call.specs.internal.Reading.{IsNextLine, IsToldUnread, end_after}
 use Rattle.cc_call.specs.declared.lines.LineEnd.{LineEnd}
 use Rattle.cc_call.specs.declared.lines.LineEnd.TheVariants as line

@@ -1,5 +1,5 @@
 -- One line more, by what was answered to it.
-use Rattle.std.proofs.Common.{◌≡◌, ℕ, List, true, Bool, sym, subst}
+use Rattle.std.proofs.Common.{ℕ, List, true, Bool, subst}
 use Rattle.std.proofs.lemmas.Option.{IfSome_then}
 use Rattle.std.specs.Io.BufRead.{strip_last}
 use Rattle.cc_call.specs.Call.{AnswersLine}
