@@ -89,6 +89,10 @@ def example():
 
 
 def costs():
-    """The table of docs/GATE.md is made of tools/costs.txt."""
-    table = found(r"^(\| crate +\|[^\n]*\n(?:\|[^\n]*\n)*)", read("docs/GATE.md"))
-    return differ("bench/gate.py --table and docs/GATE.md", said("bench/gate.py", "--table"), table)
+    """The sums and the longest chain that docs/GATE.md has are those of tools/costs.txt, which has each crate."""
+    chain, whole, unknown = said("bench/gate.py", "--chain").splitlines()
+    page = " ".join(read("docs/GATE.md").split())
+    there = found(r"\*\*The longest chain\*\* of proofs, (.*?), with the edits", page)
+    wrong = differ("bench/gate.py --chain and docs/GATE.md", re.sub(r" \d+(, |$)", r"\1", found(r"^the longest chain, (.*)$", chain)), there.replace("`", ""))
+    wrong += differ("bench/gate.py --chain and docs/GATE.md", found(r"^the sum, (.*)$", whole), found(r"\*\*The sum\*\*, (.*?)\. - \*\*", page))
+    return wrong + differ("crates.txt and tools/costs.txt", unknown, "not in tools/costs.txt: none")
