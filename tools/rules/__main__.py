@@ -107,7 +107,6 @@ def plants():
         ("commands", changed("crates/cc_command_line/src/spool.rt", ("\n  list", "\n  planted")), "SUBMIT_HELP"),
         ("commands", changed("docs/FORMATS.md", ("\n| `list` |", "\n| `planted` |")), "docs/FORMATS.md"),
         ("from_help", changed("docs/cclib.1", more='.\\" planted\n'), "docs/cclib.1"),
-        ("from_help", changed("docs/LANGUAGE.md", ("| Command | What it does |\n", "| Command | What it does |\n| planted | |\n")), "docs/LANGUAGE.md"),
         ("costs", changed("docs/GATE.md", ("the two programs ", "the two programs 9")), "docs/GATE.md"),
         ("costs", changed("docs/GATE.md", ("`cc_guard`, ", "")), "docs/GATE.md"),
         ("costs", changed("tools/costs.txt", ("\ncc_session ", "\n# cc_session ")), "docs/GATE.md"),

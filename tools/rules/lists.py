@@ -75,10 +75,8 @@ def commands():
 
 
 def from_help():
-    """The manual page and the table of docs/LANGUAGE.md are made from the help."""
-    wrong = differ("docs/from-help man and docs/cclib.1", said("docs/from-help", "man"), read("docs/cclib.1"))
-    table = found(r"^(\| Command \| What it does \|\n(?:\|[^\n]*\n)*)", read("docs/LANGUAGE.md"))
-    return wrong + differ("docs/from-help table and docs/LANGUAGE.md", said("docs/from-help", "table"), table)
+    """The manual page is made from the help."""
+    return differ("docs/from-help man and docs/cclib.1", said("docs/from-help", "man"), read("docs/cclib.1"))
 
 
 def example():
