@@ -75,15 +75,17 @@ def commands():
 
 
 def from_help():
-    """The manual page is made from the help."""
-    return differ("docs/from-help man and docs/cclib.1", said("docs/from-help", "man"), read("docs/cclib.1"))
+    """The manual page and the table of docs/LANGUAGE.md are made from the help."""
+    wrong = differ("docs/from-help man and docs/cclib.1", said("docs/from-help", "man"), read("docs/cclib.1"))
+    table = found(r"^(\| Command \| What it does \|\n(?:\|[^\n]*\n)*)", read("docs/LANGUAGE.md"))
+    return wrong + differ("docs/from-help table and docs/LANGUAGE.md", said("docs/from-help", "table"), table)
 
 
 def example():
-    """The program that docs/SERVICE.md shows is a test of tests_service."""
-    shown = found(r"^```rust\n(.*?)^```$", read("docs/SERVICE.md"))
+    """The program that examples/service shows is a test of tests_service."""
+    shown = found(r"^```rust\n(.*?)^```$", read("examples/service/README.md"))
     test = found(r"^(fn two_clients_add_one_name.*?)\n#\[test\]$", read("crates/tests_service/src/running/calls.rt"))
-    return differ("docs/SERVICE.md and tests_service", shown, test)
+    return differ("examples/service/README.md and tests_service", shown, test)
 
 
 def costs():
