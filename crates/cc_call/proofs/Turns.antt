@@ -1,6 +1,6 @@
 -- Line after line: one line more that was answered, and what became of all.
-use Rattle.std.proofs.Common.{◌≡◌, ◌≢◌, ◌⊎◌, inl, inr, ◌∙◌, ℕ, ◌+◌, ◌-◌, ◌^◌, Bool, true, false, ◌||◌, IsTrue, List, [], ◌∷◌, ◌++◌, length, Option, Some, None, Result, Ok, Err, OnOk, refl, sym, ap, subst, arith}
-use Rattle.std.specs.Prelude.{IfOk, IfSome}
+use Rattle.std.proofs.Common.{◌≡◌, ◌≢◌, inl, inr, ◌∙◌, ℕ, ◌+◌, ◌-◌, ◌^◌, Bool, true, false, ◌||◌, IsTrue, List, [], ◌∷◌, ◌++◌, length, Option, Some, None, refl, sym, ap, subst, arith}
+use Rattle.std.specs.Prelude.{IfSome}
 use Rattle.std.specs.List.{list_any}
 use Rattle.std.proofs.lemmas.List.Folds.{list_any-append}
 use Rattle.std.proofs.lemmas.Option.{none-some, same_Some}
@@ -8,9 +8,9 @@ use Rattle.std.proofs.KnownBytes.{Appends-kept}
 use Rattle.std.specs.Io.KnownBytes.{Appends, Keeps}
 use Rattle.std.specs.Io.BufRead.{drop_through, first_piece, strip_last, take_through}
 use Rattle.cc_rv32.specs.declared.image.Image.{Image}
-use Rattle.cc_call.specs.Call.{AnswersLine, refusal_text}
-use Rattle.cc_call.specs.Lines.{AnswersLines, CallsLines, IsRefused, LineTurn, is_bad, is_bad_end, is_lack, is_lack_end}
-use Rattle.cc_call.specs.internal.Reading.{IsNextLine, IsToldUnread}
+use Rattle.cc_call.specs.Call.{AnswersLine}
+use Rattle.cc_call.specs.Lines.{AnswersLines, CallsLines, LineTurn, is_bad, is_bad_end, is_lack, is_lack_end}
+use Rattle.cc_call.specs.internal.Reading.{IsNextLine, IsToldUnread, end_after}
 use Rattle.cc_call.specs.declared.lines.LineEnd.{LineEnd}
 use Rattle.cc_call.specs.declared.lines.LineEnd.TheVariants as line
 use Rattle.cc_call.specs.declared.lines.LinesEnd.{LinesEnd}
@@ -66,7 +66,7 @@ any_push : (p : LineTurn → Bool) (turns : List LineTurn) (turn : LineTurn) →
 any_push p turns turn = list_any-append p turns (turn ∷ []) ∙ ap (λ (b : Bool). list_any p turns || b) (or_none (p turn))
 
 none_push : (p : LineTurn → Bool) (turns : List LineTurn) (turn : LineTurn) → list_any p turns ≡ false → p turn ≡ false → list_any p (turns ++ turn ∷ []) ≡ false
-none_push p turns turn none no = any_push p turns turn ∙ none_of_two (list_any p turns) (p turn) none no
+none_push p turns turn none other = any_push p turns turn ∙ none_of_two (list_any p turns) (p turn) none other
 
 length_push : (turns : List LineTurn) (turn : LineTurn) → length (turns ++ turn ∷ []) ≡ length turns + 1
 length_push [] turn = refl
@@ -78,7 +78,7 @@ module _ (image : Image) (counted : Bool) (steps : ℕ) where
       → list_any is_lack turns ≡ false → left ≢ [] → turn.rest ≡ drop_through 10 left → AnswersLine image counted steps (first_piece 10 left) mid turn.written turn.end
       → AnswersLines image counted steps input old (turns ++ turn ∷ []) turn.rest turn.written
   answers_push input old [] left mid turn before none some rest one =
-      subst (λ (l : List ℕ). (l ≢ []) × (turn.rest ≡ drop_through 10 l) × AnswersLine image counted steps (first_piece 10 l) old turn.written turn.end × (IsTrue (is_lack turn) → [] ≡ []) × ((turn.rest ≡ turn.rest) × (turn.written ≡ turn.written)))
+      subst (λ (l : List ℕ). (l ≢ []) × (turn.rest ≡ drop_through 10 l) × AnswersLine image counted steps (first_piece 10 l) old turn.written turn.end × (IsTrue (is_lack turn) → ◌≡◌ {A = List LineTurn} [] []) × ((turn.rest ≡ turn.rest) × (turn.written ≡ turn.written)))
       before.0 (some, rest, subst (λ (m : Option (List ℕ)). AnswersLine image counted steps (first_piece 10 left) m turn.written turn.end) before.1 one, λ lack. refl, (refl, refl))
   answers_push input old (t ∷ turns) left mid turn before none some rest one =
       let both = either (is_lack t) (list_any is_lack turns) none in (
@@ -92,10 +92,6 @@ module _ (image : Image) (counted : Bool) (steps : ℕ) where
   -- no line was answered at the beginning
   pub called_none : (input : List ℕ) (old remaining : Option (List ℕ)) → remaining ≡ Some input → HasCalled image counted steps input old 0 Answered remaining old
   called_none input old remaining is = record { turns = []; left = input; remains = is; answers = (refl, refl); so_far = (refl, refl); number_is = refl }
-
-  -- the line that was read, answered
-  turn_of : (left line : List ℕ) (new : Option (List ℕ)) (end : LineEnd) → LineTurn
-  turn_of left line new end = record { rest = drop_through 10 left; written = new; end = end }
 
   so_far_answered : (turns : List LineTurn) (turn : LineTurn) (end : LinesEnd) → turn.end ≡ line.Answered → AreSoFar turns end → AreSoFar (turns ++ turn ∷ []) end
   so_far_answered turns turn Answered is before = (none_push is_bad turns turn before.0 (ap is_bad_end is), none_push is_lack turns turn before.1 (ap is_lack_end is))
@@ -122,7 +118,7 @@ module _ (image : Image) (counted : Bool) (steps : ℕ) where
         answers_push input old called.turns called.left mid (record { rest = drop_through 10 called.left; written = new; end = ended }) called.answers (no_lack called.turns end called.so_far) read.0 refl
         (subst (λ (l : List ℕ). AnswersLine image counted steps (strip_last 10 l) mid new ended) read.1 one)
 
-    pub called_answered : (after new : Option (List ℕ)) (bytes : List ℕ) → IsNextLine before after bytes true → AnswersLine image counted steps (strip_last 10 bytes) mid new line.Answered
+    called_answered : (after new : Option (List ℕ)) (bytes : List ℕ) → IsNextLine before after bytes true → AnswersLine image counted steps (strip_last 10 bytes) mid new line.Answered
         → HasCalled image counted steps input old (number + 1) end after new
     called_answered after new bytes next one = record {
       turns = called.turns ++ record { rest = drop_through 10 called.left; written = new; end = line.Answered } ∷ [];
@@ -133,7 +129,7 @@ module _ (image : Image) (counted : Bool) (steps : ℕ) where
       number_is = length_push called.turns _ ∙ ap (λ n. n + 1) called.number_is;
     }
 
-    pub called_bad : (after new : Option (List ℕ)) (bytes : List ℕ) → IsNextLine before after bytes true → AnswersLine image counted steps (strip_last 10 bytes) mid new line.BadLine
+    called_bad : (after new : Option (List ℕ)) (bytes : List ℕ) → IsNextLine before after bytes true → AnswersLine image counted steps (strip_last 10 bytes) mid new line.BadLine
         → HasCalled image counted steps input old (number + 1) Refused after new
     called_bad after new bytes next one = record {
       turns = called.turns ++ record { rest = drop_through 10 called.left; written = new; end = line.BadLine } ∷ [];
@@ -145,11 +141,24 @@ module _ (image : Image) (counted : Bool) (steps : ℕ) where
     }
 
     -- memory was refused for it
-    pub ends_in_lack : (after new : Option (List ℕ)) (bytes : List ℕ) → IsNextLine before after bytes true → AnswersLine image counted steps (strip_last 10 bytes) mid new line.OutOfMemory
+    ends_in_lack : (after new : Option (List ℕ)) (bytes : List ℕ) → IsNextLine before after bytes true → AnswersLine image counted steps (strip_last 10 bytes) mid new line.OutOfMemory
         → CallsLines image counted steps input old new Refused
     ends_in_lack after new bytes next one =
         let turn : LineTurn = record { rest = drop_through 10 called.left; written = new; end = line.OutOfMemory } in
         (called.turns ++ turn ∷ [], drop_through 10 called.left, new, pushed after new bytes line.OutOfMemory next one, inr (inl (refl, any_push is_lack called.turns turn ∙ right_of (list_any is_lack called.turns) true refl)))
+
+    -- by how the lines end with it
+    pub called_more : (after new : Option (List ℕ)) (bytes : List ℕ) (ended : LineEnd) (next : LinesEnd) → IsNextLine before after bytes true → AnswersLine image counted steps (strip_last 10 bytes) mid new ended
+        → Some next ≡ end_after end ended → HasCalled image counted steps input old (number + 1) next after new
+    called_more after new bytes line.Answered next read one is = subst (λ (e : LinesEnd). HasCalled image counted steps input old (number + 1) e after new) (sym (same_Some next end is)) (called_answered after new bytes read one)
+    called_more after new bytes line.BadLine next read one is = subst (λ (e : LinesEnd). HasCalled image counted steps input old (number + 1) e after new) (sym (same_Some next Refused is)) (called_bad after new bytes read one)
+    called_more after new bytes line.OutOfMemory next read one is = absurd (none-some next (sym is))
+
+    pub ends_here : (after new : Option (List ℕ)) (bytes : List ℕ) (ended : LineEnd) → IsNextLine before after bytes true → AnswersLine image counted steps (strip_last 10 bytes) mid new ended → end_after end ended ≡ None
+        → CallsLines image counted steps input old new Refused
+    ends_here after new bytes line.Answered read one is = absurd (none-some end (sym is))
+    ends_here after new bytes line.BadLine read one is = absurd (none-some Refused (sym is))
+    ends_here after new bytes line.OutOfMemory read one is = ends_in_lack after new bytes read one
 
     -- no line is left
     ended_by : (it : LinesEnd) → it ≡ end → called.left ≡ [] → AreSoFar called.turns it → CallsLines image counted steps input old mid it

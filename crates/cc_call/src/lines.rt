@@ -1,11 +1,11 @@
 // Runs of one image, each on the words of a line.
 
-ghost use Rattle.std.specs.Prelude.{◌≡◌, ◌⊎◌, IfOk, IfSome, OnOk};
+ghost use Rattle.std.specs.Prelude.{◌≡◌, IfOk, IfSome, OnOk};
 ghost use Rattle.std.specs.Io.KnownBytes.{Appends};
 ghost use Rattle.std.specs.Io.BufRead.{strip_last};
 ghost use Rattle.cc_call.specs.Call.{AnswersLine, answer_text, refusal_text};
 ghost use Rattle.cc_call.specs.Lines.{CallsLines};
-ghost use Rattle.cc_call.specs.internal.Reading.{IsNextLine, IsToldUnread};
+ghost use Rattle.cc_call.specs.internal.Reading.{IsNextLine, IsToldUnread, end_after};
 
 use cc_answers::{Stands, write_fault_line};
 use cc_runs::{CountedRun, run_words, words_in, write_counted_run};
@@ -145,6 +145,17 @@ fn next_line<R: BufRead>(reader: &mut R, line: &mut Vec<u8>) -> io::Result<bool>
     Ok(0 < count)
 }
 
+// How the lines so far end with one more; none if no other follows it.
+fn end_after(end: LinesEnd, line: LineEnd) -> Option<LinesEnd>
+    ensures { result ≡ end_after end line }
+{
+    match line {
+        LineEnd::Answered => Some(end),
+        LineEnd::BadLine => Some(LinesEnd::Refused),
+        LineEnd::OutOfMemory => None,
+    }
+}
+
 /// Runs an image on the words of each line of a reader, as `answer_line` does, and flushes each answer before it reads the next line. A line
 /// that is no list of words doesn't end it; lack of memory does.
 pub fn call_lines<R: BufRead, W: Write>(
@@ -167,11 +178,14 @@ pub fn call_lines<R: BufRead, W: Write>(
             Ok(false) => return end,
             Err(error) => return tell_unread(error, writer),
         }
-        match tell_line(alloc, image, steps, is_counted, line.as_slice(), writer) {
-            Ok(LineEnd::Answered) => {}
-            Ok(LineEnd::BadLine) => end = LinesEnd::Refused,
-            Ok(LineEnd::OutOfMemory) => return LinesEnd::Refused,
+        let bytes = line.as_slice();
+        let answered = match tell_line(alloc, image, steps, is_counted, bytes, writer) {
+            Ok(answered) => answered,
             Err(_) => return LinesEnd::Unwritten,
+        };
+        match end_after(end, answered) {
+            Some(next) => end = next,
+            None => return LinesEnd::Refused,
         }
     }
     // There were more lines than a number counts.

@@ -49,13 +49,19 @@ fn selection_of<S: Write, E: Write>(
     }
 }
 
-// Makes an empty file where nothing is.
+// Makes an empty file, which nothing may be yet.
 fn begin(files: &HostRuntime, path: &str) -> io::Result<()> {
     let mut how = OpenOptions::new();
     how.write(true).create_new(true).mode(OWN);
+    let file = how.open(files, path)?;
     // The umask may have taken some of the rights.
-    how.open(files, path)?
-        .set_permissions(Permissions::from_mode(OWN))
+    match file.set_permissions(Permissions::from_mode(OWN)) {
+        Ok(()) => Ok(()),
+        Err(error) => {
+            let _ = fs::remove_file(files, path);
+            Err(error)
+        }
+    }
 }
 
 // The new library in a file that is this call's, and goes again if it can't be made.

@@ -1,19 +1,19 @@
 -- One command more in the log, the room that it takes, and a refusal that changes nothing.
-use Rattle.std.proofs.Common.{◌≡◌, ◌≢◌, ◌∙◌, ℕ, zero, suc, ◌+◌, ◌<◌, ◌≤◌, Bool, true, false, IsTrue, List, [], ◌∷◌, ◌++◌, Some, None, Result, Ok, Err, refl, sym, ap, subst, arith}
+use Rattle.std.proofs.Common.{◌≡◌, ◌≢◌, ◌∙◌, ℕ, zero, suc, ◌+◌, ◌<◌, Bool, true, false, IsTrue, List, [], ◌∷◌, ◌++◌, Some, None, Result, Ok, Err, refl, sym, ap, subst, arith}
 use Rattle.std.specs.Prelude.{if◌then◌else◌, is_ok, IfErr, IsOk, OnOk, option_and_then, slice_get}
 use Rattle.std.specs.Str.{bytes_eq}
 use Rattle.std.specs.FinMap as map
 use Rattle.std.specs.FinMap.{empty}
 use Rattle.std.proofs.lemmas.Option.{none-some, same_Some}
 use Rattle.cc_disk.specs.Images.{OnlyReads}
-use Rattle.cc_journal.specs.Format.{HasHeader, HoldsAlone, HoldsRecords, records, room_of}
+use Rattle.cc_journal.specs.Format.{HasHeader, HoldsRecords, records, room_of}
 use Rattle.cc_journal.proofs.Records.{holds_alone}
 use Rattle.cc_unit.specs.declared.unit.StoredUnit.{StoredUnit}
 use Rattle.cc_library.specs.declared.command.LibraryCommand.{LibraryCommand}
 use Rattle.cc_library.specs.declared.command.LibraryCommand.TheVariants.{Add, Replace, Withdraw}
 use Rattle.cc_library.specs.declared.fault.LibraryFault.{LibraryFault}
 use Rattle.cc_library.specs.declared.fault.LibraryFault.TheVariants.{Exists, Absent as NoUnit, Full, DiskFault, Closed, Damaged, NotALibrary, OutOfMemory as NoMemory}
-use Rattle.cc_library.specs.Answers.{ChangeAnswers, ChangeLeaves, ChangesDisk, OpenFaults, room_with}
+use Rattle.cc_library.specs.Answers.{ChangeAnswers, ChangeLeaves, ChangesDisk, room_with}
 use Rattle.cc_library.specs.Apply.{Units, AreAccepted, absent, after, after_all, apply, exists, library_of}
 use Rattle.cc_library.specs.Body.{IsCommand, IsUnit, body_of}
 use Rattle.cc_library.specs.Name.{is_name}

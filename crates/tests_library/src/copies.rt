@@ -167,24 +167,29 @@ fn selected(
         Ok(selection) => selection,
         Err(fault) => return Ok((written, fault.number())),
     };
-    for name in &selection.units.names(alloc)? {
+    let found = selection.units.names(alloc)?;
+    for name in &found {
         written.extend_from_slice(name.bytes())?;
         written.push(b'\n')?;
     }
     for left in &selection.left_out {
-        tell_audit(left.name.bytes(), left.audit, &mut written)?;
+        if tell_audit(left.name.bytes(), left.audit, &mut written).is_err() {
+            return Err(Fail::from("not written"));
+        }
     }
     drop(selection);
     Ok((written, 0))
 }
 
+static ALL: [&str; 0] = [];
+
 #[test]
 fn what_is_selected(rt: HostRuntime) -> Result<(), Fail> {
     let alloc = rt.alloc();
     for (names, is_confirmed, text) in [
-        ([].as_slice(), false, b"plain\nright\nwrong\n".as_slice()),
+        (ALL.as_slice(), false, b"plain\nright\nwrong\n".as_slice()),
         (
-            &[],
+            &ALL,
             true,
             b"right\naudit plain none\naudit wrong unconfirmed\n",
         ),

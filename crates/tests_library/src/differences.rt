@@ -71,8 +71,10 @@ fn refused(alloc: Global, left: MemoryDisk, right: MemoryDisk) -> (bool, u32) {
 fn libraries_that_are_none(rt: HostRuntime) -> Result<(), Fail> {
     let alloc = rt.alloc();
     let none = MemoryDisk::new(alloc, 200)?;
-    assert!(rt; refused(alloc, left(alloc)?, none) == (false, 38));
+    let (is_left, number) = refused(alloc, left(alloc)?, none);
+    assert!(rt; !is_left && number == 38);
     let none = MemoryDisk::new(alloc, 200)?;
-    assert!(rt; refused(alloc, damaged(alloc)?, none) == (true, 37));
+    let (is_left, number) = refused(alloc, damaged(alloc)?, none);
+    assert!(rt; is_left && number == 37);
     Ok(())
 }

@@ -1,5 +1,5 @@
 -- The names so far.
-use Rattle.std.proofs.Common.{◌≡◌, ℕ, List, map, take, IsTrue}
+use Rattle.std.proofs.Common.{◌≡◌, map, take, IsTrue}
 use Rattle.std.specs.Prelude.{All, string_bytes}
 use Rattle.cc_library.specs.Name.{is_name}
 use Rattle.cc_copy.proofs.selecting.names_in.Given as goal

@@ -1,5 +1,5 @@
 -- The map from which it is selected is the one to which the disk recovers.
-use Rattle.std.proofs.Common.{◌≡◌, IsTrue, List, ℕ, map, sym, subst}
+use Rattle.std.proofs.Common.{◌≡◌, IsTrue, map, sym, subst}
 use Rattle.std.specs.Prelude.{string_bytes}
 use Rattle.cc_library.specs.Apply.{Units}
 use Rattle.cc_library.specs.Recovered.{Recovers}

@@ -1,5 +1,5 @@
 -- What is put is what the command stored, and the disk was only read before.
-use Rattle.std.proofs.Common.{◌≡◌, ℕ, List, [], ◌∷◌, ◌++◌, sym, ap, subst}
+use Rattle.std.proofs.Common.{ℕ, List, [], ◌∷◌, ◌++◌, sym, ap, subst}
 use Rattle.std.specs.FinMap as map
 use Rattle.cc_unit.specs.declared.unit.StoredUnit.{StoredUnit}
 use Rattle.cc_library.specs.Body.{IsCommand}
