@@ -5,6 +5,7 @@ use Rattle.std.specs.Fmt.{decimal}
 use Rattle.std.specs.Io.KnownBytes.{Appends}
 use Rattle.cc_link.specs.declared.audit_answer.Audit.{Audit}
 use Rattle.cc_link.specs.declared.audit_answer.Audit.TheVariants.{Confirmed, NoCertificate, Unconfirmed}
+use Rattle.cc_library.specs.declared.space.SpaceUse.{SpaceUse}
 use Rattle.cc_script.specs.Fault.{fault_number}
 use Rattle.cc_script.specs.declared.fault.ScriptFault.{ScriptFault}
 use Rattle.cc_script.specs.declared.fault.ScriptFault.TheVariants.{WriteFault}
@@ -38,6 +39,14 @@ said_text Unconfirmed = line (codes " unconfirmed")
 
 abbrev pub audit_text : (name : List ℕ) → Audit → List ℕ
 audit_text name audit = codes "audit " ++ name ++ said_text audit
+
+-- how much of its area a library takes: four numbers on a line, then `ok`
+abbrev pub space_line : SpaceUse → List ℕ
+space_line space =
+    codes "space " ++ (decimal space.area ++ (codes " " ++ (decimal space.used ++ (codes " " ++ (decimal space.compacted ++ (codes " " ++ (decimal space.units ++ codes "\n")))))))
+
+abbrev pub space_text : SpaceUse → List ℕ
+space_text space = space_line space ++ line (codes "ok")
 
 -- the line of a fault of the script; 54 has none
 abbrev pub script_fault_text : ScriptFault → List ℕ

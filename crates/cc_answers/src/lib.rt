@@ -22,7 +22,7 @@ pub use person::{Persons, Telling};
 pub use run::{ImageRun, run_image, write_run, write_words};
 pub use script::{
     Refusal, tell_audit, tell_fault, tell_names, tell_no_memory, tell_number, tell_ok,
-    tell_refusal, tell_run, tell_text,
+    tell_refusal, tell_run, tell_space, tell_text,
 };
 pub use stands::{Stands, of_fault, write_told};
 pub use words::{explain_words, words_of, words_of_task};

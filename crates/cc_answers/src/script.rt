@@ -4,14 +4,14 @@
 ghost use Rattle.std.specs.Prelude.{◌≡◌, [], OnOk, codes};
 ghost use Rattle.std.specs.Io.KnownBytes.{Appends};
 ghost use Rattle.cc_answers.specs.Text.{fault_line, line, position_text, run_text};
-ghost use Rattle.cc_answers.specs.Telling.{Tells, audit_text, names_text, number_text, said_text, script_fault_text, unit_text, units_text};
+ghost use Rattle.cc_answers.specs.Telling.{Tells, audit_text, names_text, number_text, said_text, script_fault_text, space_line, space_text, unit_text, units_text};
 ghost use Rattle.cc_answers.specs.internal.Flushing.{Flushes};
 
 use crate::line::write_fault_line;
 use crate::run::{ImageRun, write_run};
 use crate::stands::{Stands, of_fault, write_told};
 use crate::words::{explain_words, words_of};
-use cc_library::Name;
+use cc_library::{Name, SpaceUse};
 use cc_link::Audit;
 use cc_script::ScriptFault;
 use std::alloc::Global;
@@ -92,6 +92,28 @@ fn write_audit<W: Write>(name: &[u8], audit: Audit, writer: &mut W) -> io::Resul
     writer.write_all(said_of(audit))
 }
 
+// Writes how much of its area a library takes.
+fn write_space_line<W: Write>(space: SpaceUse, writer: &mut W) -> io::Result<()>
+    ensures { OnOk result (Appends (W.contents writer.old) (W.contents writer.new) (space_line space)) }
+{
+    let SpaceUse {
+        area,
+        used,
+        compacted,
+        units,
+    } = space;
+    writeln!(writer, "space {area} {used} {compacted} {units}")
+}
+
+// Writes that, and `ok`.
+#[tactic(auto, using(crate::proofs::Writing::written_on))]
+fn write_space<W: Write>(space: SpaceUse, writer: &mut W) -> io::Result<()>
+    ensures { OnOk result (Appends (W.contents writer.old) (W.contents writer.new) (space_text space)) }
+{
+    write_space_line(space, writer)?;
+    writer.write_all(b"ok\n")
+}
+
 // Writes what is told of a refusal: words, or the place in the source that was sent.
 fn explain_refusal<W: Write>(
     alloc: Global,
@@ -130,6 +152,15 @@ pub fn tell_audit<W: Write>(name: &[u8], audit: Audit, answers: &mut W) -> Resul
     ensures { Tells (W.contents answers.old) (W.contents answers.new) (audit_text name.now audit) result }
 {
     let write = write_audit(name, audit, answers);
+    flushed(write, answers)
+}
+
+/// Writes how much of its area a library takes.
+#[tactic(auto, using(crate::proofs::Writing::told))]
+pub fn tell_space<W: Write>(space: SpaceUse, answers: &mut W) -> Result<(), ScriptFault>
+    ensures { Tells (W.contents answers.old) (W.contents answers.new) (space_text space) result }
+{
+    let write = write_space(space, answers);
     flushed(write, answers)
 }
 

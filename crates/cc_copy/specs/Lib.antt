@@ -2,5 +2,7 @@
 pub mod Copy
 -- Which units are copied.
 pub mod Choice
+-- Which units of a disk are selected.
+pub mod Selected
 -- What only private contracts speak of.
 pub mod internal

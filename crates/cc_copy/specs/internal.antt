@@ -2,3 +2,5 @@
 pub mod Writing
 -- Names that were judged.
 pub mod Judged
+-- Why names are not read, or have no units.
+pub mod Named

@@ -1,5 +1,5 @@
 -- Where two libraries differ, and why they are not compared.
-use Rattle.std.specs.Prelude.{◌≡◌, ◌↔◌, ℕ, ◌&&◌, ◌||◌, Bool, true, false, List, [], ◌∷◌, ◌++◌, Option, Some, None}
+use Rattle.std.specs.Prelude.{◌≡◌, ◌↔◌, ℕ, ◌&&◌, ◌||◌, Bool, true, false, IsTrue, List, [], ◌∷◌, ◌++◌, Option, Some, None}
 use Rattle.std.specs.List.{flat_map}
 use Rattle.std.specs.Str.{bytes_eq}
 use Rattle.std.specs.FinMap.{contains_key, get, keys}
@@ -74,11 +74,15 @@ pub record IsDiffOn (seen_left seen_right : List ℕ) (lines : List DiffLine) : 
   pub is_diff : IsDiff left right lines
   pub equal : (lines ≡ []) ↔ (left ≡ right)
 
--- why they are not compared: the left library is not opened; or the left one is, and the right one is not; or memory ran out
+-- Why they are not compared: the left library is not opened, and the right disk is as it was; or the left one is opened, and the right one is not;
+-- or memory ran out.
 abbrev pub DiffFaults : (honest : Bool) (seen_left seen_right : List ℕ) (left_before left_after right_before right_after : ℕ) → DiffFault → Type 0
-DiffFaults honest seen_left seen_right left_before left_after right_before right_after (fault.Left f) = OpenFaults honest seen_left left_before left_after f
-DiffFaults honest seen_left seen_right left_before left_after right_before right_after (fault.Right f) = OpenFaults honest seen_right right_before right_after f
-DiffFaults honest seen_left seen_right left_before left_after right_before right_after fault.OutOfMemory = Unit {0}
+DiffFaults honest seen_left seen_right left_before left_after right_before right_after (fault.Left f) =
+    OpenFaults honest seen_left left_before left_after f × (right_after ≡ right_before)
+DiffFaults honest seen_left seen_right left_before left_after right_before right_after (fault.Right f) =
+    (left_after ≡ left_before) × (IsTrue honest → (left : Units) × Recovers seen_left left) × OpenFaults honest seen_right right_before right_after f
+DiffFaults honest seen_left seen_right left_before left_after right_before right_after fault.OutOfMemory =
+    (left_after ≡ left_before) × (right_after ≡ right_before)
 
 -- the number that a fault is known by
 abbrev pub fault_number : DiffFault → ℕ

@@ -1,4 +1,4 @@
-//! Emission: from a function of Linear to the items of its code for RV32IM.
+//! Emission: from the selected steps of a function to the items of its code for RV32IM.
 //!
 //! `item` has the items, `piece` the type that keeps that a function's code does what the function does. The steps of a function are those
 //! that `cc_select` selects; which items stand for a step is defined in `specs/Emission.antt`, which branch stands for a comparison in

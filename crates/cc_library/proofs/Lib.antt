@@ -12,5 +12,6 @@ pub mod Opening
 pub mod Running
 pub mod Compacting
 pub mod Whole
+pub mod Room
 mod Sizes
 pub mod Prefix

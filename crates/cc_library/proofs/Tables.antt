@@ -33,7 +33,7 @@ module _ {K X : Type 0} {R : K → K → Ordering} (o : IsTotalOrder R) where
         get-map n q ∙ u q ∙ ap (λ b. cond b None (tree.get R m q)) ((eq_by_cmp_equiv o).symm k q)
         ∙ ap (cond (eq_by_cmp R q k) None) (sym (get-map m q)) ∙ sym (get-remove o (from_entries m.entries) k q))
 
-  no_entries : entries (empty {K = K} {X = X} {R = R}) ≡ []
+  pub no_entries : entries (empty {K = K} {X = X} {R = R}) ≡ []
   no_entries = nil_from_length (entries empty) (sym (len-entries empty) ∙ len-empty R X)
 
   -- the entries of a list whose keys rise are the list

@@ -10,6 +10,8 @@ pub mod Body
 pub mod Recovered
 -- the shortest journal of a map: one Add per name
 pub mod Compact
+-- how much of its area a library takes
+pub mod Space
 -- which answer a call gives, when, and what it leaves
 pub mod Answers
 -- a run of edits

@@ -5,13 +5,14 @@ ghost use Rattle.std.specs.Option.{option_map};
 ghost use Rattle.std.specs.Arc.{arc_value};
 ghost use Rattle.std.specs.FinMap as map;
 ghost use Rattle.cc_disk.specs.Images.{LeavesAlone, LeavesOnly, OnlyReads};
-ghost use Rattle.cc_journal.specs.Format.{HoldsRecords};
+ghost use Rattle.cc_journal.specs.Format.{AllHold, HoldsRecords};
 ghost use Rattle.cc_library.specs.declared.command.LibraryCommand.{LibraryCommand};
 ghost use Rattle.cc_library.specs.declared.command.LibraryCommand.TheVariants as command;
 ghost use Rattle.cc_library.specs.Apply.{after, after_all, library_of};
 ghost use Rattle.cc_library.specs.Body.{body_of};
 ghost use Rattle.cc_library.specs.Recovered.{Recovers, RecoversAlone, StandFor, View};
 ghost use Rattle.cc_library.specs.Compact.{compacted, room_compacted};
+ghost use Rattle.cc_library.specs.Space.{IsSpace};
 ghost use Rattle.cc_library.specs.Answers.{OpenFaults, CompactLeaves, IsChanged, IsChangedAs, IsCompacted, IsCompactedAs, IsMended, room_with};
 ghost use Rattle.cc_library.specs.Runs.{AreDone, AreEdited, EditAnswers, EditLeaves, HadNoRoom, IsEdited, IsRefused, RecoversAmong, Stopped, after_edit, records_after};
 ghost use Rattle.cc_library.specs.internal.Steps.{IsOldOrNew, IsMidEdit};
@@ -21,6 +22,7 @@ use crate::command::{Edit, LibraryCommand};
 use crate::fault::LibraryFault;
 use crate::name::Name;
 use crate::replaying::replay;
+use crate::space::SpaceUse;
 use crate::unit::SharedUnit;
 use crate::units::UnitMap;
 use cc_disk::Disk;
@@ -209,6 +211,25 @@ impl<D: Disk> Library<D> {
         ensures { result ≡ self.now.closed }
     {
         self.closed
+    }
+
+    /// How much of its area the library takes. It takes no memory and makes no device call; it looks at each unit.
+    pub fn space(&self) -> SpaceUse
+        ensures space { IsSpace self.now.area self.now.bodies self.now.units result }
+        // While the library is not closed, every crash leaves these records alone.
+        ensures kept { IsTrue D.honest → self.now.closed ≡ false → AllHold (D.may_leave self.now.disk) self.now.area self.now.bodies }
+    {
+        // What the log promises of its images.
+        let _kept = self.log.is_closed();
+        let size = self.log.area();
+        let taken = self.log.used();
+        let measured = self.units.measure();
+        SpaceUse {
+            area: size,
+            used: taken,
+            compacted: measured.0,
+            units: measured.1,
+        }
     }
 
     /// The map. It takes no memory.

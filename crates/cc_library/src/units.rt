@@ -1,12 +1,12 @@
 // The units by name.
 
-ghost use Rattle.std.specs.Prelude.{◌≡◌, ◌↔◌, ◌≤◌, ◌^◌, false, OnOk, OnErr, IfOk, IsOk, IsTrue};
+ghost use Rattle.std.specs.Prelude.{◌≡◌, ◌↔◌, ◌≤◌, ◌^◌, length, false, OnOk, OnErr, IfOk, IsOk, IsTrue};
 ghost use Rattle.std.specs.Option.{option_map};
 ghost use Rattle.std.specs.Arc.{arc_value};
 ghost use Rattle.std.specs.Ordering.{nat_cmp};
 ghost use Rattle.std.specs.Cmp.Lexicographic.{slice_cmp};
 ghost use Rattle.std.specs.FinMap as map;
-ghost use Rattle.cc_journal.specs.Format.{room_of};
+ghost use Rattle.cc_journal.specs.Format.{records, room_of};
 ghost use Rattle.cc_library.specs.Apply.{apply, after, refusal};
 ghost use Rattle.cc_library.specs.Compact.{adds_of, compacted};
 ghost use Rattle.cc_library.specs.Recovered.{AreSpelled};
@@ -111,6 +111,21 @@ impl UnitMap {
             }
         }
         true
+    }
+
+    /// How many bytes the records of one Add per name take, and how many names there are. It takes no memory.
+    pub fn measure(&self) -> (usize, usize)
+        requires { room_of (compacted self.now) ≤ 2 ^ 30 }
+        ensures bytes { result.0 ≡ length (records (compacted self.now)) }
+        ensures names { result.1 ≡ map.len self.now }
+    {
+        let mut bytes = 0;
+        let mut names = 0;
+        for (name, unit) in self.units.iter() {
+            bytes += length_with(name.bytes(), Some(unit.stored())) + 5;
+            names += 1;
+        }
+        (bytes, names)
     }
 
     /// The bodies of one Add per name, in the order of the names' bytes, where an area can hold them.

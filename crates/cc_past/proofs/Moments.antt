@@ -7,13 +7,12 @@ use Rattle.cc_unit.specs.declared.unit.StoredUnit.{StoredUnit}
 use Rattle.cc_library.specs.declared.command.LibraryCommand.{LibraryCommand}
 use Rattle.cc_library.specs.declared.command.LibraryCommand.TheVariants.{Add, Replace}
 use Rattle.cc_library.specs.declared.fault.LibraryFault.{LibraryFault}
-use Rattle.cc_library.specs.declared.fault.LibraryFault.TheVariants.{Exists, Absent as NoUnit, Full, DiskFault, Closed, Damaged, NotALibrary, OutOfMemory as NoMemory}
 use Rattle.cc_library.specs.Apply.{Units, after, exists, absent, kept, library_of}
-use Rattle.cc_library.specs.Answers.{ChangeLeaves, OpenFaults}
+use Rattle.cc_library.specs.Answers.{ChangeLeaves}
 use Rattle.cc_library.specs.Recovered.{Recovers, RecoversAlone, RecoversOneOf, View}
 use Rattle.cc_log.specs.Commands.{HasCommands}
 use Rattle.cc_past.specs.Past.{IsStoredOn}
-use Rattle.cc_past.specs.Restored.{IsNotPut, MayBeRestored}
+use Rattle.cc_past.specs.Restored.{MayBeRestored}
 use Rattle.cc_past.specs.internal.Steps.{MayBe}
 
 -- ---- the map
@@ -63,18 +62,7 @@ module _ {D : Type 0} (seen : D → List ℕ) (may_leave : D → List ℕ → Ty
     before = λ t image le left. inl (reads.moments t image le left);
   }
 
--- ---- refusals
-
--- why a library is not opened is why nothing is put into it
-pub open_refused : (honest : Bool) (seen : List ℕ) (before after : ℕ) (fault : LibraryFault) → OpenFaults honest seen before after fault → IsNotPut honest seen before after fault
-open_refused honest seen before after DiskFault why = why
-open_refused honest seen before after NotALibrary why = why
-open_refused honest seen before after Damaged why = why
-open_refused honest seen before after NoMemory why = why
-open_refused honest seen before after Full why = absurd why
-open_refused honest seen before after Exists why = absurd why
-open_refused honest seen before after NoUnit why = absurd why
-open_refused honest seen before after Closed why = absurd why
+-- ---- answers
 
 -- what is said of each answer that is one
 pub on_ok : {T F : Type 0} {A B : Type 0} → (A → B) → (r : Result T F) → OnOk r A → OnOk r B

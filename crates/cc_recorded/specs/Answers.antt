@@ -6,6 +6,8 @@ use Rattle.cc_library.specs.Apply.{apply, after}
 use Rattle.cc_library.specs.Body.{body_of}
 use Rattle.cc_library.specs.Answers.{room_with}
 use Rattle.cc_library.specs.Recovered.{View}
+use Rattle.cc_library.specs.Space.{IsSpace}
+use Rattle.cc_library.specs.declared.space.SpaceUse.{SpaceUse}
 use Rattle.cc_history.specs.declared.command.Command.{Command}
 use Rattle.cc_history.specs.declared.command.Asked.{Asked}
 use Rattle.cc_history.specs.declared.command.Asked.TheVariants.{Change, Fetch, Names}
@@ -125,3 +127,8 @@ module _ {D : Type 0} where
   CompactAnswers failures before after (Err (Exists receipt)) = ⊥
   CompactAnswers failures before after (Err (Absent receipt)) = ⊥
   CompactAnswers failures before after (Err (Estranged number found)) = ⊥
+
+  -- the answer to how much of its area the library takes: 36 exactly if the device has failed before
+  abbrev pub SpaceAnswers : BookView D → Result SpaceUse BookFault → Type 0
+  SpaceAnswers book (Ok space) = (book.library.closed ≡ false) × IsSpace book.library.area book.library.bodies book.library.units space
+  SpaceAnswers book (Err fault) = (fault ≡ Closed) × (book.library.closed ≡ true)

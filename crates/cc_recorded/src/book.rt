@@ -3,7 +3,7 @@
 ghost use Rattle.std.specs.Prelude.{◌≡◌, ◌≤◌, ◌⊎◌, ℕ, List, [], ◌∷◌, ◌++◌, true, false, IsTrue, IfErr, IfOk, MatchResult, OnOk, Some, slice_get, length, map};
 ghost use Rattle.std.specs.FinMap.{empty};
 ghost use Rattle.cc_disk.specs.Images.{OnlyReads};
-ghost use Rattle.cc_journal.specs.Format.{HoldsRecords};
+ghost use Rattle.cc_journal.specs.Format.{AllHold, HoldsRecords};
 ghost use Rattle.cc_core.specs.Run.{EachUnit, IsRightOr};
 ghost use Rattle.cc_library.specs.Answers.{IsMended, OpenFaults};
 ghost use Rattle.cc_library.specs.Apply.{Units};
@@ -13,7 +13,7 @@ ghost use Rattle.cc_history.specs.Calls.{change_of};
 ghost use Rattle.cc_history.specs.Closing.{AreApart, AreOwn, IsClosed, IsNotWhole, ReceiptsStand};
 ghost use Rattle.cc_history.specs.History.{LastStands};
 ghost use Rattle.cc_recorded.specs.Book.{BookView};
-ghost use Rattle.cc_recorded.specs.Answers.{IsBegun, IsLook, IsNotClosed, LookAnswers};
+ghost use Rattle.cc_recorded.specs.Answers.{IsBegun, IsLook, IsNotClosed, LookAnswers, SpaceAnswers};
 ghost use Rattle.cc_recorded.specs.Changed.{AllRecover, ChangesAtOnce, IsBookChanged, IsBookCompacted};
 ghost use Rattle.cc_recorded.specs.Compacting.{CompactingAnswers};
 ghost use Rattle.cc_recorded.specs.Opened.{IsOpened};
@@ -30,7 +30,7 @@ use cc_core::laws::{crash_law, turn_law, units_law};
 use cc_disk::{Disk, History};
 use cc_headline::{CcBuild, made_units_are_built};
 use cc_history::{Asked, Command, Receipt, units_agree};
-use cc_library::{Library, LibraryFault, UnitMap};
+use cc_library::{Library, LibraryFault, SpaceUse, UnitMap};
 use std::alloc::Global;
 use std::marker::Model;
 use std::sync::ledger::{self, Share};
@@ -237,8 +237,8 @@ impl<N: Based, D: Disk> Book<N, D> {
         self.recorded.is_mended_by_compact(client, command)
     }
 
-    // What its type keeps of what a crash leaves now. It does nothing.
-    fn kept(&self)
+    /// What its type keeps of what a crash leaves now. It does nothing.
+    pub fn kept(&self)
         ensures images { AllRecover D.Disk self.now.book }
         ensures idle { self.now.book.library.closed ≡ false → self.now.book.failed ≡ [] }
     {
@@ -280,6 +280,19 @@ impl<N: Based, D: Disk> Book<N, D> {
         self.recorded.kept();
         self.since = self.since.and(&self.recorded);
         result
+    }
+
+    /// How much of its area the library takes. It makes no entry in the history, takes no memory and makes no device call; it looks at
+    /// each unit.
+    ///
+    /// 36 if the device has failed before: then the disk may have other records.
+    pub fn space(&self) -> Result<SpaceUse, BookFault>
+        ensures answers { SpaceAnswers self.now.book result }
+        // Every crash leaves these records alone.
+        ensures kept { IfOk result (λ _. IsTrue D.honest
+            → AllHold (D.may_leave self.now.book.library.disk) self.now.book.library.area self.now.book.library.bodies) }
+    {
+        self.recorded.space()
     }
 
     /// Whether the device has failed before: then every change and `compact` answer 36. It takes no memory.

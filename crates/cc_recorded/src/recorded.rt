@@ -1,13 +1,14 @@
 // The library with the history of its calls.
 
 ghost use Rattle.std.specs.Prelude.{◌≡◌, ◌≤◌, ℕ, List, [], false, IsTrue, IfErr, IfOk, length};
+ghost use Rattle.cc_journal.specs.Format.{AllHold};
 ghost use Rattle.cc_library.specs.Answers.{IsMended};
 ghost use Rattle.cc_library.specs.Apply.{apply};
 ghost use Rattle.cc_library.specs.Recovered.{RecoversAlone};
 ghost use Rattle.cc_history.specs.Calls.{change_of, reply_of, reply_of_change};
 ghost use Rattle.cc_history.specs.History.{HaveAgreed, LastStands, Replays};
 ghost use Rattle.cc_recorded.specs.Book.{AllAgreed, BookView, chronicle_of};
-ghost use Rattle.cc_recorded.specs.Answers.{IsLook, LookAnswers};
+ghost use Rattle.cc_recorded.specs.Answers.{IsLook, LookAnswers, SpaceAnswers};
 ghost use Rattle.cc_recorded.specs.Changed.{AllRecover, IsBookChanged, IsBookCompacted};
 ghost use Rattle.cc_recorded.specs.internal.Decide.{answer_reply};
 ghost use Rattle.cc_recorded.specs.internal.Early.{IsRefusedEarly};
@@ -20,7 +21,7 @@ use cc_disk::{Disk, History};
 use cc_history::{
     Asked, Command, Entry, NameList, Receipt, Reply, SharedEntry, calls_are_recorded, last_stands,
 };
-use cc_library::{Library, LibraryCommand, LibraryFault, SharedUnit, UnitMap};
+use cc_library::{Library, LibraryCommand, LibraryFault, SharedUnit, SpaceUse, UnitMap};
 use std::alloc::{AllocError, Global};
 use std::marker::Model;
 use std::sync::Arc;
@@ -250,6 +251,17 @@ impl<N: Based, D: Disk> RecordedLibrary<N, D> {
             return Err(BookFault::OutOfMemory);
         };
         Ok(enter(history, calls, receipts, share, owners))
+    }
+
+    /// How much of its area the library takes; 36 if the device has failed before.
+    pub(crate) fn space(&self) -> Result<SpaceUse, BookFault>
+        ensures answers { SpaceAnswers self.now result }
+        ensures kept { IfOk result (λ _. IsTrue D.honest → AllHold (D.may_leave self.now.library.disk) self.now.library.area self.now.library.bodies) }
+    {
+        if self.library.is_closed() {
+            return Err(BookFault::Closed);
+        }
+        Ok(self.library.space())
     }
 
     /// Writes the library's records anew, one Add per name. It makes no entry in the history, and the map stays, at every moment.

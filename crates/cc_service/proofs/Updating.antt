@@ -1,15 +1,17 @@
 -- An update is a look and a change with no other call between them: after a look that found the unit the book refuses the change neither by 32 nor by 36 or 39; and
 -- what the client sees of it.
-use Rattle.std.proofs.Common.{◌≡◌, ◌∙◌, ◌⊎◌, inl, inr, ℕ, ◌+◌, ◌-◌, Bool, true, false, IsTrue, IfOk, IfErr, List, [], ◌∷◌, ◌++◌, length, Option, Some, None, Result, Ok, Err, refl, sym, ap, subst, arith}
+use Rattle.std.proofs.Common.{◌≡◌, ◌∙◌, ◌⊎◌, inl, inr, ℕ, ◌+◌, ◌-◌, Bool, true, false, IsTrue, IfOk, IfErr, List, [], ◌∷◌, ◌++◌, length, Option, Some, None, Result, Ok, Err, append_assoc, refl, sym, ap, subst, arith}
 use Rattle.std.specs.Prelude.{IfSome, if◌then◌else◌, is_some, slice_get}
 use Rattle.std.specs.FinMap.{contains_key, get, insert}
 use Rattle.std.proofs.lemmas.List.{length-append}
+use Rattle.cc_disk.specs.Images.{LeavesOnly}
 use Rattle.cc_disk.specs.declared.disk.Disk.{Ghosts}
 use Rattle.cc_library.specs.unit.StoredUnit.{StoredUnit}
-use Rattle.cc_library.specs.Apply.{Units, absent}
+use Rattle.cc_library.specs.Apply.{Units, absent, after}
 use Rattle.cc_library.specs.Name.{is_name}
-use Rattle.cc_library.specs.Recovered.{View}
-use Rattle.cc_history.specs.Calls.{reply_of_change, reply_of_found}
+use Rattle.cc_library.specs.Recovered.{RecoversOneOf, View}
+use Rattle.cc_history.specs.Calls.{change_of, reply_of_change, reply_of_found}
+use Rattle.cc_history.specs.declared.command.Asked.{Asked}
 use Rattle.cc_history.specs.declared.command.Asked.TheVariants.{Fetch}
 use Rattle.cc_history.specs.declared.command.Command.{Command}
 use Rattle.cc_history.specs.declared.command.Command.TheVariants.{Replace}
@@ -20,9 +22,10 @@ use Rattle.cc_history.specs.declared.reply.Reply.TheVariants as reply
 use Rattle.cc_history.specs.History.{IsAnswered, LastStands, MemberView, Stands, entry_at}
 use Rattle.cc_recorded.specs.Answers.{CommitAnswers, CompactAnswers, LookAnswers}
 use Rattle.cc_recorded.specs.Book.{BookView}
-use Rattle.cc_recorded.specs.Changed.{IsBookChanged}
+use Rattle.cc_recorded.specs.Changed.{AllRecover, ChangesAtOnce, IsBookChanged}
 use Rattle.cc_recorded.specs.Compacting.{CommitsBehind, IsCompactedFor}
 use Rattle.cc_recorded.specs.Promise.{IsSound}
+use Rattle.cc_recorded.specs.Since.{BookSince}
 use Rattle.cc_recorded.specs.declared.fault.BookFault.{BookFault}
 use Rattle.cc_recorded.specs.declared.fault.BookFault.TheVariants as book
 use Rattle.cc_c_laws.specs.declared.mode.Mode.{Mode}
@@ -36,6 +39,7 @@ use Rattle.cc_service.specs.declared.fault.ServiceFault.TheVariants.{Opening, To
 use Rattle.cc_service.specs.internal.Under.{HasCompared, UpdatesBy, UpdatesSeen, answer_of}
 use Rattle.cc_service.proofs.Answering.{entered_as, entered_where_ok, not_there, turned_down_where_err}
 use Rattle.cc_service.proofs.Storing.{newest, stored}
+use Rattle.cc_recorded.proofs.Committing.{no_call_between}
 
 -- ---- the reply of a look
 
@@ -159,6 +163,37 @@ module _ {Disk : Type 0} (D : Ghosts Disk) where
       behind c (Ok done) compacts commits =
           (entered_where_ok D.failures c heard command after_it new (Ok receipt) commits.0, commits.0.0.recorded.number ∙ ap (λ (x : BookView Disk). length x.history + 1) compacts.3)
       behind c (Err why) compacts commits = absurd (let is = commits.0 in cc)
+
+  -- ---- what it leaves on the disk
+
+  -- a look that was refused leaves the book
+  pub look_leaves : (before after_it : BookView Disk) (old new : MemberView) (asked : Asked) (fault : BookFault) → LookAnswers before old asked after_it new (Err fault) → after_it ≡ before
+  look_leaves before after_it old new asked (book.Estranged number found) it = it.1
+  look_leaves before after_it old new asked book.OutOfMemory it = it.0
+  look_leaves before after_it old new asked (book.Exists receipt) it = absurd it
+  look_leaves before after_it old new asked (book.Absent receipt) it = absurd it
+  look_leaves before after_it old new asked book.Full it = absurd it
+  look_leaves before after_it old new asked book.Closed it = absurd it
+  look_leaves before after_it old new asked book.DiskFault it = absurd it
+
+  -- so whatever the change is that does not come
+  pub nothing_at_once : (before after_it : BookView Disk) (command : Command) → after_it ≡ before
+      → (IsTrue D.honest → (image : List ℕ) → D.left_since before.library.disk (D.moment before.library.disk) image → D.may_leave before.library.disk image) → AllRecover D before
+      → (before.library.closed ≡ false → before.failed ≡ []) → ChangesAtOnce D command before after_it
+  nothing_at_once before after_it command same only_now images idle =
+      subst (λ (b : BookView Disk). ChangesAtOnce D command before b) (sym same) (no_call_between D before (after before.library.units (change_of command)) only_now images idle)
+
+  -- a change after a look, which leaves the library
+  pub at_once_after : (before between after_it : BookView Disk) (command : Command) → between.library ≡ before.library → ChangesAtOnce D command between after_it → ChangesAtOnce D command before after_it
+  at_once_after before between after_it command same moments =
+      subst (λ (l : View Disk). IsTrue D.honest → l.closed ≡ false → LeavesOnly D.moment D.left_since l.disk after_it.library.disk (RecoversOneOf l.units (after l.units (change_of command)))) same moments
+
+  -- the books after a look, and those after what comes then
+  pub since_after : (a b c : BookSince Disk) → b.since ≡ a.since ++ b.book ∷ [] → (c ≡ b) ⊎ ((between : List (BookView Disk)) × (c.since ≡ b.since ++ (between ++ c.book ∷ [])))
+      → (c ≡ a) ⊎ ((between : List (BookView Disk)) × (c.since ≡ a.since ++ (between ++ c.book ∷ [])))
+  since_after a b c one (inl same) = inr ([], subst (λ (x : BookSince Disk). x.since ≡ a.since ++ x.book ∷ []) (sym same) one)
+  since_after a b c one (inr two) =
+      inr (b.book ∷ two.0, two.1 ∙ ap (λ (l : List (BookView Disk)). l ++ (two.0 ++ c.book ∷ [])) one ∙ append_assoc a.since (b.book ∷ []) (two.0 ++ c.book ∷ []))
 
   -- ---- of a book
 

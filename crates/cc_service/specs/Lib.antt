@@ -13,6 +13,8 @@ pub mod Serving
 pub mod Updating
 -- what a change that was answered has done to the book
 pub mod Stored
+-- what is answered to how much of its area the library takes
+pub mod Space
 -- what serves private contracts
 pub mod internal
 -- Pages of crates below that clauses here cite, handed on.

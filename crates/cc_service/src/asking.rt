@@ -85,6 +85,7 @@ impl<N: Named> Client<N> {
     ) -> Result<Receipt, BookFault>
         requires { IsLook asked }
         ensures answers { LookAnswers book.old.book self.old.member asked book.new.book self.new.member result }
+        ensures since { book.new.since ≡ book.old.since ++ book.new.book ∷ [] }
         ensures sent { self.new.sent ≡ self.old.sent }
     {
         book.look(alloc, &mut self.member, asked)
@@ -104,8 +105,12 @@ impl<N: Named> Client<N> {
         unit: CompiledUnit,
     ) -> Result<Receipt, ServiceFault>
         ensures answers { UpdatesBook D.Disk book.old.book self.old.member name expected.now (Replace name unit) book.new.book self.new.member result }
+        ensures since { (book.new ≡ book.old) ⊎ ((between : List (BookView D)) × (book.new.since ≡ book.old.since ++ (between ++ book.new.book ∷ []))) }
+        ensures moments { ChangesAtOnce D.Disk (Replace name unit) book.old.book book.new.book }
+        ensures kept { AllRecover D.Disk book.new.book }
         ensures sent { self.new.sent ≡ self.old.sent }
     {
+        book.kept();
         if book.is_closed() {
             return Err(ServiceFault::Book(BookFault::Closed));
         }
@@ -129,8 +134,12 @@ impl<N: Named> Client<N> {
         seen: Receipt,
     ) -> Result<Receipt, ServiceFault>
         ensures answers { UpdatesSeen D.Disk book.old.book self.old.member expected.now (Replace name unit) seen book.new.book self.new.member result }
+        ensures since { (book.new ≡ book.old) ⊎ ((between : List (BookView D)) × (book.new.since ≡ book.old.since ++ (between ++ book.new.book ∷ []))) }
+        ensures moments { ChangesAtOnce D.Disk (Replace name unit) book.old.book book.new.book }
+        ensures kept { AllRecover D.Disk book.new.book }
         ensures sent { self.new.sent ≡ self.old.sent }
     {
+        book.kept();
         match comparison_of(&seen, expected) {
             Compared::NoUnit => Err(ServiceFault::Book(BookFault::Absent(seen))),
             Compared::Other => Err(ServiceFault::Changed(seen)),

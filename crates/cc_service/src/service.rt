@@ -14,6 +14,7 @@ ghost use Rattle.cc_recorded.specs.Opened.{IsOpened};
 ghost use Rattle.cc_recorded.specs.Promise.{FailedByDevice, IsGivenUp, IsSound};
 ghost use Rattle.cc_recorded.specs.Since.{IsPast};
 ghost use Rattle.cc_service.specs.Serving.{Adds, GetAnswers, IsNotCompacted, IsNotEnded, IsNotOpened, IsNotStarted, IsOf, IsTurnedAway, ListAnswers, PutAnswers, Puts, Replaces, WithdrawAnswers};
+ghost use Rattle.cc_service.specs.Space.{IsSpaceThen, SpaceAnswers};
 ghost use Rattle.cc_service.specs.Stored.{IsStored};
 ghost use Rattle.cc_recorded.specs.Answers.{IsLook};
 ghost use Rattle.cc_service.specs.Updating.{UpdateAnswers};
@@ -31,7 +32,7 @@ use crate::fault::ServiceFault;
 use crate::named::{Fresh, Named};
 use cc_disk::Disk;
 use cc_history::{Asked, Command, Receipt};
-use cc_library::{Library, Name};
+use cc_library::{Library, Name, SpaceUse};
 use cc_link::{CompiledUnit, Mode};
 use cc_pool::{Gate, Pool, PoolFault};
 use cc_recorded::{Book, BookFault};
@@ -56,6 +57,18 @@ fn change_of(put: Put, name: Name, unit: CompiledUnit) -> Command
     match put {
         Put::Add => Command::Add(name, unit),
         Put::Replace => Command::Replace(name, unit),
+    }
+}
+
+// How much of its area the library of a book takes.
+fn space_of<N: Named, D: Disk>(book: &Book<N, D>) -> Result<SpaceUse, ServiceFault>
+    ensures answers { SpaceAnswers result }
+    ensures moment { IfOk result (λ space. IsSpaceThen D.Disk N.base N.from N.left space) }
+{
+    book.survives();
+    match book.space() {
+        Ok(space) => Ok(space),
+        Err(fault) => Err(ServiceFault::Book(fault)),
     }
 }
 
@@ -608,6 +621,16 @@ impl<N: Named + Send + Sync + 'static, D: Disk> Service<N, D> {
             Ok(()) => Ok(()),
             Err(fault) => Err(ServiceFault::Book(fault)),
         }
+    }
+
+    /// How much of its area the library takes. The history gets no entry.
+    ///
+    /// 36 if the device has failed.
+    pub fn space<R: Wait>(&self, rt: &R) -> Result<SpaceUse, ServiceFault>
+        ensures answers { SpaceAnswers result }
+        ensures moment { IfOk result (λ space. IsSpaceThen D.Disk N.base N.from N.left space) }
+    {
+        space_of(&self.book.lock(rt))
     }
 
     /// Ends the service, with all its clients.

@@ -1,6 +1,6 @@
 // Units, disks and libraries.
 
-use cc_disk::MemoryDisk;
+use cc_disk::{Disk, MemoryDisk};
 use cc_journal::format;
 use cc_library::{Library, LibraryCommand, Name, SharedUnit};
 use cc_rv32::image::{Code, Globals, Image};
@@ -69,6 +69,14 @@ pub fn withdraw(name: &[u8]) -> Result<LibraryCommand, Fail> {
 /// A disk with two areas of so many bytes.
 pub fn blank(alloc: Global, area: u16) -> Result<MemoryDisk, Fail> {
     Ok(MemoryDisk::new(alloc, 16 + 2 * usize::from(area))?)
+}
+
+/// A disk with the header of a library, and after it a record that does not fit its area.
+pub fn damaged(alloc: Global) -> Result<MemoryDisk, Fail> {
+    let mut disk = blank(alloc, 64)?;
+    format(&mut disk, 64)?;
+    disk.write_at(16, &[0xa5, 60, 0, 0, 0])?;
+    Ok(disk)
 }
 
 /// A disk with a library in which these commands were done, in areas of 1,024 bytes.

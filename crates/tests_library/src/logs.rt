@@ -107,3 +107,23 @@ fn what_goes_back(rt: HostRuntime) -> Result<(), Fail> {
     assert!(rt; none.1 == 32);
     Ok(())
 }
+
+// A record that does not fit is refused, and nothing is compacted for it.
+#[test]
+fn what_does_not_fit(rt: HostRuntime) -> Result<(), Fail> {
+    let alloc = rt.alloc();
+    let text = [b' '; 400];
+    let mut commands = Vec::new(alloc);
+    commands.push(add(b"a", unit(alloc, &text, &[1], None)?)?)?;
+    commands.push(replace(b"a", unit(alloc, &text, &[2], None)?)?)?;
+    let (answer, disk) = restore(alloc, with_commands(alloc, commands)?, b"a", 1);
+    let number = match &answer {
+        Ok(()) => 0,
+        Err(fault) => fault.number(),
+    };
+    drop(answer);
+    assert!(rt; number == 34);
+    let lines = log_of(alloc, disk, None)?;
+    assert!(rt; lines.as_slice() == b"1 add a 400 1\n2 replace a 400 1\n".as_slice());
+    Ok(())
+}

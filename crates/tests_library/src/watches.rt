@@ -60,6 +60,7 @@ fn lines_so_far(rt: HostRuntime) -> Result<(), Fail> {
         Vec::new(alloc),
         Ticks { next: Cell::new(7) },
         Some(&mut screen),
+        "lines of answers",
     );
     for line in [b"ok 1\n".as_slice(), b"ok 2\n", b"unit a\nok"] {
         writer.write_all(line)?;
