@@ -1,4 +1,4 @@
--- The whole number that a word stands for, and each operation on words as a formula over whole numbers.
+-- The whole number that a word represents, and each operation on words as a formula over whole numbers.
 pub mod Words
 -- The operators of the intermediate languages: their values, and their names.
 pub mod Operators
