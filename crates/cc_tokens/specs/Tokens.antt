@@ -108,8 +108,8 @@ piece_bytes (blank b) = b ∷ []
 piece_bytes (comment c) = c
 piece_bytes (token k text) = text
 
--- the piece is right, given what follows it: a comment has no line splice; no token begins where a comment begins; a token is the
--- longest possible, and is what its bytes spell
+-- the piece is right, given what follows it: a comment has no line splice; a token does not begin like a comment, is the longest
+-- possible, and is what its bytes spell
 abbrev pub StandsBefore : TextPiece → List ℕ → Type 0
 StandsBefore (blank b) after = IsTrue (is_blank b)
 StandsBefore (comment c) after = IsComment c after × Nowhere begins_splice c after

@@ -304,7 +304,7 @@ abbrev mutual
   called_in_statements end = []
   called_in_statements (next first rest) = called_in_statement first ++ called_in_statements rest
 
--- the calls in constant expressions, each of which breaks a rule already
+-- the calls in constant expressions; each of these breaks a rule already
 abbrev pub called_in_constant : ConstantExpr → List Name
 called_in_constant c = called_in c.expr
 
