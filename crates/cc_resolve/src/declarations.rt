@@ -1,4 +1,4 @@
-// The names that declarations of locals bring into scope.
+// Names that declarations of locals bring into scope.
 
 ghost use Rattle.std.specs.Prelude.{◌≡◌, OnOk};
 ghost use Rattle.cc_ast.specs.Erase.{declarator_trees, beginning_tree, statement_tree};
@@ -37,7 +37,7 @@ pub fn declare_beginning<'a>(
     }
 }
 
-/// Brings the names that a statement declares in the scope around it into scope.
+/// Brings the names that a statement declares into the scope around it.
 pub fn declare_statement<'a>(
     names: &mut Environment<'a>,
     tree: &'a Statement,

@@ -44,7 +44,7 @@ nil-cons x xs e = cc
 some-none : (o : Option State) (m : State) → o ≡ Some m → o ≡ None → ⊥
 some-none o m h k = let e : Some m ≡ None = sym h ∙ k in cc
 
--- a run over more tokens continues where the run over the first ones ends
+-- a run over more tokens continues from the end of the run over the first ones
 follow : (ps us : List Measured) (a s e : State) (zs : List Lexeme) → Runs a ps s → Runs a us e → plain_tokens us ≡ plain_tokens ps ++ zs → (vs : List Measured) × (us ≡ ps ++ vs) × Runs s vs e × (plain_tokens vs ≡ zs)
 follow [] us a s e zs h k t = (us, refl, subst (λ (z : State). Runs z us e) h k, t)
 follow (p ∷ ps) [] a s e zs h k t = absurd (nil-cons _ _ t)

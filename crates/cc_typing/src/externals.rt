@@ -16,7 +16,7 @@ use cc_ast::{ConstantExpression, External, Identifier, Object, Parameter, Scalar
 use cc_types::{Entity, Rule, Scope, array_length, constant_word, differs};
 use std::alloc::AllocError;
 
-// A constant expression.
+// Checks a constant expression.
 fn constant(scope: &Scope, findings: &mut Findings, tree: &ConstantExpression)
     ensures { findings.new ≡ after findings.old (constant_errors (in_scope scope.now) (constant_tree tree.now)) (called_in_constant (constant_tree tree.now)) }
 {
@@ -32,7 +32,7 @@ fn optional_constant(scope: &Scope, findings: &mut Findings, tree: &Option<Const
     }
 }
 
-// The values of a list.
+// Checks the values of an initialiser list.
 fn constants(scope: &Scope, findings: &mut Findings, trees: &[ConstantExpression])
     ensures { findings.new ≡ after findings.old (constants_errors (in_scope scope.now) (constant_trees trees.now)) (called_in_constants (constant_trees trees.now)) }
 {
@@ -41,7 +41,7 @@ fn constants(scope: &Scope, findings: &mut Findings, trees: &[ConstantExpression
     }
 }
 
-// Whether an array has no element, or fewer than its list has values.
+// Whether an array has no elements, or fewer than its list has values.
 fn is_bad_length(length: Option<usize>, given: usize) -> bool
     ensures { result ≡ is_bad_length length given }
 {
@@ -51,7 +51,7 @@ fn is_bad_length(length: Option<usize>, given: usize) -> bool
     }
 }
 
-// One name of a declaration of objects.
+// Checks one name in a declaration of objects, and declares it.
 fn object<'a>(
     scope: &mut Scope<'a>,
     findings: &mut Findings,
@@ -86,7 +86,7 @@ fn object<'a>(
     Ok(())
 }
 
-// An array: its name, its length, and its list.
+// Checks an array's name, length and initialiser list, and declares the array.
 fn array<'a>(
     scope: &mut Scope<'a>,
     findings: &mut Findings,
@@ -109,7 +109,7 @@ fn array<'a>(
     Ok(())
 }
 
-// A declaration of objects.
+// Checks a declaration of objects.
 fn objects<'a>(
     scope: &mut Scope<'a>,
     findings: &mut Findings,
@@ -155,7 +155,7 @@ fn parameters<'a>(
     Ok(())
 }
 
-// What is said of a function. After it, the names of its parameters are in scope.
+// Checks the head of a function. Afterwards the names of its parameters are in scope.
 fn signature<'a>(
     scope: &mut Scope<'a>,
     findings: &mut Findings,
@@ -175,7 +175,7 @@ fn signature<'a>(
     parameters(scope, findings, tree.parameters.as_slice())
 }
 
-// An external declaration, with the definitions that stand before it.
+// Checks an external declaration. `findings` has the functions that are defined before it.
 fn external<'a>(
     scope: &mut Scope<'a>,
     findings: &mut Findings<'a>,
@@ -210,7 +210,7 @@ fn external<'a>(
     Ok(())
 }
 
-/// The external declarations of a unit.
+/// Checks the external declarations of a unit.
 pub fn all_externals<'a>(
     scope: &mut Scope<'a>,
     findings: &mut Findings<'a>,

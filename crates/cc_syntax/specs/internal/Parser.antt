@@ -59,7 +59,7 @@ pub data Test : Type 0 where
   ForWhile : Test
   ForDo : Stmt → Test
 
--- where a declaration of locals is: directly in a block, or in a `for` header
+-- what a declaration of locals belongs to: a block directly, or a `for` header
 pub data Position : Type 0 where
   AsLocal : Position
   AsHeader : Position
@@ -195,7 +195,7 @@ full_of c ws n = record { context = c; waiting = ws; count = n }
 abbrev pub goes_on : Full → List Waiting → Phase → Option State
 goes_on f ws p = Some (InFull (full_of f.context ws (suc f.count)) p)
 
--- a full expression of which this many tokens have been read
+-- a full expression after this many of its tokens
 abbrev pub begins_full : Context → ℕ → Option State
 begins_full c n = Some (InFull (full_of c [] n) Operand)
 

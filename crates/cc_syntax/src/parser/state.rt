@@ -59,7 +59,7 @@ pub enum Test {
     Do(Box<Statement>),
 }
 
-/// Where a declaration of locals is: directly in a block, or in a `for` header.
+/// What a declaration of locals belongs to: a block directly, or a `for` header.
 #[derive(Clone, Copy)]
 pub enum Position {
     Local,
@@ -186,8 +186,8 @@ pub enum Stage {
     Stepped(StepOperator, Target),
 }
 
-/// A function's body so far: its finished statements, the open statements with the innermost last, what comes next, where the
-/// action being read is, and the declaration being read.
+/// A function's body so far: its finished statements, the open statements with the innermost last, what comes next, the place of
+/// the action being read, and the declaration being read.
 #[derive(Drop)]
 pub struct Body {
     pub finished: Vec<Statement>,
@@ -373,7 +373,7 @@ impl Parser {
         }
     }
 
-    /// Begins a full expression of which this many tokens have been read.
+    /// Begins a full expression after this many of its tokens.
     pub fn open_full(&mut self, context: Context, count: Count)
         ensures full { full_view self.new ≡ full_of (context_of self.old context) [] count.tokens }
         ensures state { parser_view self.new ≡ InFull (full_of (context_of self.old context) [] count.tokens) Operand }
