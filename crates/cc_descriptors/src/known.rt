@@ -1,4 +1,4 @@
-// A system whose descriptors 0 to 2 contracts see.
+// A system whose descriptors 0 to 2 contracts can see.
 
 ghost use Rattle.std.specs.Prelude.{◌≡◌, Some, IfSome, OnOk, OnErr};
 ghost use Rattle.cc_descriptors.specs.Uses.{is_used, opened, use_of};
@@ -6,7 +6,7 @@ ghost use Rattle.cc_descriptors.specs.Uses.{is_used, opened, use_of};
 use crate::descriptors::{Access, Descriptors, Standard, Use, Uses};
 use std::io;
 
-/// A system whose descriptors 0 to 2 are known, and which refuses no stand-in: for tests.
+/// A system whose descriptors 0 to 2 are known, and which refuses no stand-in. For tests.
 #[derive(Clone, Copy, Debug, Drop)]
 pub struct KnownDescriptors {
     pub uses: Uses,
