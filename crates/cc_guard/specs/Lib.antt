@@ -6,7 +6,7 @@ pub mod Held
 pub mod Laws
 -- units in which no function needs a guard
 pub mod Safe
--- the number of a fault
+-- the numbers of the faults
 pub mod Fault
 pub mod internal
 -- worked examples
