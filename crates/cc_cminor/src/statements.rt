@@ -3,9 +3,9 @@
 // Only loops make blocks: `break` leaves the block around the loop, `continue` the block of the body. So a loop's condition and
 // what follows its body are between the two. The recursion is as deep as the tree: at most 64 levels.
 
-ghost use Rattle.std.specs.Prelude.{◌≡◌, ◌≤◌, ◌-◌, ◌∷◌, ◌++◌, true, length, drop, IfOk, OnOk};
+ghost use Rattle.std.specs.Prelude.{◌≡◌, ◌≤◌, ◌-◌, ◌++◌, true, length, drop, IfOk, OnOk};
 ghost use Rattle.cc_ast.specs.Tree as tree;
-ghost use Rattle.cc_ast.specs.Erase.{expression_tree, optional_tree, optional_action, declarator_tree, declarator_trees, beginning_tree, statement_tree, statements_of};
+ghost use Rattle.cc_ast.specs.Erase.{optional_tree, optional_action, declarator_tree, declarator_trees, beginning_tree, statement_tree, statements_of};
 ghost use Rattle.cc_types.specs.Bindings.{closed};
 ghost use Rattle.cc_resolve.specs.Environment.{inner, behind, behind_beginning, with_local, with_locals};
 ghost use Rattle.cc_cminor.specs.Cminor as cminor;

@@ -1,6 +1,6 @@
 // The disk on a file.
 
-ghost use Rattle.std.specs.Prelude.{true, false, ◌≡◌, ◌+◌, ◌↔◌, [], ⊤, length, IfOk, IsOkAnd, IsTrue, OnOk, OnErr, is_ok, if◌then◌else◌};
+ghost use Rattle.std.specs.Prelude.{true, false, ◌≡◌, ◌+◌, ◌↔◌, [], ⊤, IfOk, IsOkAnd, IsTrue, is_ok, if◌then◌else◌};
 ghost use Rattle.std.proofs.lemmas.Bool.{false≢true};
 
 use crate::count::FailureCount;

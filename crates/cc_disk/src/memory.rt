@@ -1,7 +1,7 @@
 // The disk in memory: the model itself, call by call. It never fails.
 
-ghost use Rattle.std.specs.Prelude.{◌≡◌, ◌+◌, ◌-◌, ◌^◌, ◌<◌, ◌≤◌, min, true, IsTrue, List, ℕ, [], ◌∷◌, ◌++◌, length, take, drop, map, IfOk, IsOk, OnOk, OnErr, is_ok, if◌then◌else◌};
-ghost use Rattle.cc_disk.specs.Images.{IsWritten, DiffersWithin, UnsettlesWithin, AddsNone, LeavesAlone, Elapses};
+ghost use Rattle.std.specs.Prelude.{◌≡◌, ◌+◌, ◌-◌, ◌<◌, ◌≤◌, true, IsTrue, [], ◌∷◌, ◌++◌, length, take, drop, map, IfOk, IsOk};
+ghost use Rattle.cc_disk.specs.Images.{IsWritten, UnsettlesWithin, AddsNone, LeavesAlone, Elapses};
 ghost use Rattle.cc_disk.specs.Model.{bytes_of, IsImage, new_cells, written, synced, crashed};
 ghost use Rattle.cc_disk.specs.Past.{LeftSince};
 ghost use Rattle.cc_disk.specs.internal.Laws.{only_now_left, bytes_are_image};

@@ -1,8 +1,8 @@
 // The solver.
 
-ghost use Rattle.std.specs.Prelude.{◌≡◌, ℕ, ◌<◌, length, set, IfOk, IsTrue, IsFalse, All, sum_by, Bool, true, Contains};
+ghost use Rattle.std.specs.Prelude.{◌≡◌, ℕ, ◌<◌, length, set, IfOk, IsTrue, IsFalse, All, sum_by, true, Contains};
 ghost use Rattle.cc_flow.specs.Lattice.{Equivalent};
-ghost use Rattle.cc_flow.specs.Flow.{joined, carried, facts_at, successors_of, Solves, LiesUnder};
+ghost use Rattle.cc_flow.specs.Flow.{joined, carried, facts_at, Solves, LiesUnder};
 ghost use Rattle.cc_flow.specs.internal.Waiting.{waits};
 
 use crate::facts::{Facts, Transfer};

@@ -1,6 +1,6 @@
 // The nodes that wait for a visit.
 
-ghost use Rattle.std.specs.Prelude.{◌≡◌, ◌<◌, ℕ, Bool, true, false, replicate, slice_set, slice_get, Some, All, IfOk, IfSome, IfNone, length};
+ghost use Rattle.std.specs.Prelude.{◌≡◌, ◌<◌, ℕ, Bool, true, false, replicate, slice_set, Some, IfOk, IfSome, IfNone, length};
 ghost use Rattle.cc_flow.specs.internal.Waiting.{waits};
 
 use std::alloc::{AllocError, Global};

@@ -10,7 +10,7 @@ ghost use Rattle.std.specs.Prelude.{◌≡◌, IfOk};
 ghost use Rattle.cc_cminor.specs.Cminor as cminor;
 ghost use Rattle.cc_cminor.specs.Code.{expression_of, expressions_of, statement_of, in_sequence};
 ghost use Rattle.cc_cminor.specs.internal.Statements.{statements_of};
-ghost use Rattle.cc_guard.specs.Guard.{guarded, guarded_all, first_index, stored_word, told, with_told, kept, sets, met, falls, known_within, known_after, turn, narrowed, found, if_again, head};
+ghost use Rattle.cc_guard.specs.Guard.{guarded, guarded_all, first_index, stored_word, told, with_told, kept, sets, met, falls, known_after, turn, narrowed, found, head};
 ghost use Rattle.cc_guard.specs.internal.Written.{sizes_of};
 
 use crate::changed::{add_told, falls, kept, kept_but, kept_set, leaves, set_to};

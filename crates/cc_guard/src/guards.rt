@@ -4,7 +4,6 @@ ghost use Rattle.std.specs.Prelude.{◌≡◌, ◌∷◌, [], ◌+◌, ◌++◌,
 ghost use Rattle.cc_cminor.specs.Cminor as cminor;
 ghost use Rattle.cc_cminor.specs.Code.{expression_of, statement_of, in_sequence};
 ghost use Rattle.cc_cminor.specs.internal.Statements.{statements_of};
-ghost use Rattle.cc_words.specs.declared.operators.Unary.TheVariants as one;
 ghost use Rattle.cc_words.specs.declared.operators.Binary.TheVariants as two;
 ghost use Rattle.cc_guard.specs.Guard as guard;
 ghost use Rattle.cc_guard.specs.Guard.{Stop, StopBoth, guard_code, asked_signed, asked, learned, waiting, bounded, forever, with_loop};

@@ -2,7 +2,7 @@
 
 ghost use Rattle.std.specs.Prelude.{◌≡◌, ◌++◌, IfOk};
 ghost use Rattle.cc_cminor.specs.Code.{statement_of};
-ghost use Rattle.cc_guard.specs.Guard.{either, joined, kept, unset, met, at_most, all_again, still, widened};
+ghost use Rattle.cc_guard.specs.Guard.{joined, kept, unset, at_most, all_again, still, widened};
 
 use crate::changed::kept_set;
 use crate::known::{Limit, most_in};

@@ -1,6 +1,6 @@
 // An image's text: rows of 16 bytes, first those of its code and then those of its globals.
 
-ghost use Rattle.std.specs.Prelude.{◌≡◌, ◌+◌, ◌++◌, ◌^◌, ◌≤◌, length, IfOk, OnOk};
+ghost use Rattle.std.specs.Prelude.{◌≡◌, ◌+◌, ◌++◌, ◌≤◌, length, IfOk, OnOk};
 ghost use Rattle.cc_hex.specs.Contents.{bytes_of_words, Holds, Says};
 ghost use Rattle.cc_hex.specs.Layout.{base_line, row, block, image_text};
 

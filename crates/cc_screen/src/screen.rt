@@ -1,8 +1,8 @@
 // A writer that may be a terminal.
 
-ghost use Rattle.std.specs.Prelude.{◌≡◌, true, false, None, IfOk, if◌then◌else◌, take};
+ghost use Rattle.std.specs.Prelude.{◌≡◌, None, IfOk, if◌then◌else◌, take};
 ghost use Rattle.std.specs.Io.{WritesAtMost};
-ghost use Rattle.std.specs.Io.KnownBytes.{Appends, WriteAppends};
+ghost use Rattle.std.specs.Io.KnownBytes.{Appends};
 ghost use Rattle.cc_screen.specs.internal.Shown.{is_control, last_of, shown, shown_byte};
 
 use std::io::{self, Write};

@@ -1,6 +1,6 @@
 // Lines and columns.
 
-ghost use Rattle.std.specs.Prelude.{◌≡◌, ◌+◌, ◌≤◌, ◌<◌, ◌^◌, ◌==◌, length, count_by, not};
+ghost use Rattle.std.specs.Prelude.{◌≡◌, ◌+◌, ◌≤◌, ◌==◌, length, count_by};
 ghost use Rattle.std.specs.List.{take_while};
 ghost use Rattle.cc_tokens.specs.Place.{place_of, last_line_reversed};
 

@@ -3,14 +3,14 @@
 // Each function returns what the function of the same name in specs/internal/Scan.antt gives. proofs/ shows that those agree with
 // the definition of a text's tokens.
 
-ghost use Rattle.std.specs.Prelude.{◌≡◌, ◌+◌, ◌*◌, ◌<◌, ◌≤◌, ◌||◌, ◌&&◌, ◌==◌, true, length, take, drop, min, slice_index};
+ghost use Rattle.std.specs.Prelude.{◌≡◌, ◌+◌, ◌*◌, ◌<◌, ◌≤◌, ◌||◌, ◌&&◌, ◌==◌, true, length, drop, min, slice_index};
 ghost use Rattle.std.specs.List.{find, fold, prefix_len, starts_with};
 ghost use Rattle.std.specs.Str.{bytes_eq};
 ghost use Rattle.std.specs.Char.{digit_value};
 ghost use Rattle.cc_tokens.specs.Spelling.{keyword_bytes, punctuator_bytes};
 ghost use Rattle.cc_tokens.specs.Constant.{is_digit_of, type_of_value};
 ghost use Rattle.cc_tokens.specs.Tokens.{is_blank, is_nondigit, is_exponent_letter, begins_comment};
-ghost use Rattle.cc_tokens.specs.internal.Scan.{begins, offset_within, goes_on, run_of, keywords_with, punctuators_with, keyword_named, punctuator_at, word_kind, base_of, prefix_of_base, suffix_of, constant_spelled, constant_kind, typed, number_head, comment_of, comment_head, head_of};
+ghost use Rattle.cc_tokens.specs.internal.Scan.{begins, offset_within, goes_on, run_of, keywords_with, punctuators_with, keyword_named, punctuator_at, word_kind, base_of, prefix_of_base, suffix_of, constant_spelled, constant_kind, typed, comment_of, comment_head, head_of};
 
 use super::lexical_error::LexicalError;
 use super::scalar::Scalar;

@@ -1,8 +1,8 @@
 // What names denote.
 
-ghost use Rattle.std.specs.Prelude.{◌≡◌, length, map, option_map, Some};
+ghost use Rattle.std.specs.Prelude.{◌≡◌, Some};
 ghost use Rattle.cc_ast.specs.Erase.{parameter_trees, signature_tree};
-ghost use Rattle.cc_types.specs.Entities.{entity_of, optional_entity};
+ghost use Rattle.cc_types.specs.Entities.{optional_entity};
 ghost use Rattle.cc_types.specs.internal.Scopes.{scalars};
 ghost use Rattle.cc_types.specs.Scope.{function_entity, same_scalar, same_scalars, same_result};
 ghost use Rattle.cc_types.specs.Rules.{differs};

@@ -1,6 +1,6 @@
 // The names in scope, scope by scope.
 
-ghost use Rattle.std.specs.Prelude.{◌≡◌, ◌≤◌, [], length, drop, IfOk, OnOk, option_map};
+ghost use Rattle.std.specs.Prelude.{◌≡◌, ◌≤◌, [], length, drop, IfOk, OnOk};
 ghost use Rattle.cc_types.specs.Scope.{opened, declared, in_scope, is_declared, found, with_declared, first_file_scope};
 ghost use Rattle.cc_types.specs.Entities.{entity_of, optional_entity};
 ghost use Rattle.cc_types.specs.Bindings.{closed, file_level, number_of};

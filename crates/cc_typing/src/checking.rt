@@ -8,7 +8,7 @@ ghost use Rattle.cc_typing.specs.internal.Counts.{all_defined};
 ghost use Rattle.cc_types.specs.internal.Externals.{defined_in};
 ghost use Rattle.cc_types.specs.Fault.{fault_of};
 ghost use Rattle.cc_typing.specs.internal.Findings.{noted};
-ghost use Rattle.cc_types.specs.Rules.{errors, is_main, defines_main, undefined_calls};
+ghost use Rattle.cc_types.specs.Rules.{is_main, defines_main, undefined_calls};
 ghost use Rattle.cc_types.specs.Scope.{first_file_scope};
 ghost use Rattle.cc_types.specs.Typed.{IsTyped, IsWithinLimits, IsTypeRefusal, TypeAnswersAreOne, UnitsHaveTypeAnswers, all_errors};
 

@@ -3,10 +3,9 @@
 // The walk continues after an error, because the first error in the text need not be the first that the walk meets. The recursion
 // is as deep as the tree, which has at most 512 tokens in a full expression.
 
-ghost use Rattle.std.specs.Prelude.{◌≡◌, ◌==◌, [], not, length};
+ghost use Rattle.std.specs.Prelude.{◌≡◌, ◌==◌, [], not};
 ghost use Rattle.cc_ast.specs.Erase.{expression_tree, optional_tree, target_tree, action_tree, optional_action};
 ghost use Rattle.cc_ast.specs.internal.Arguments.{expressions_of};
-ghost use Rattle.cc_types.specs.Entities.{optional_entity};
 ghost use Rattle.cc_typing.specs.internal.Findings.{after};
 ghost use Rattle.cc_types.specs.declared.rule.Rule.TheVariants.{WrongCount};
 ghost use Rattle.cc_types.specs.Types.{result_type};

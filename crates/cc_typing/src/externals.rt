@@ -1,12 +1,12 @@
 // The rules of file scope (C99 6.2.1, 6.6, 6.7, 6.9).
 
-ghost use Rattle.std.specs.Prelude.{◌≡◌, ◌++◌, ℕ, List, [], length, option_map, OnOk};
+ghost use Rattle.std.specs.Prelude.{◌≡◌, ◌++◌, [], length, OnOk};
 ghost use Rattle.cc_ast.specs.Erase.{name_tree, constant_tree, optional_constant, constant_trees, object_tree, object_trees, parameter_tree, parameter_trees, signature_tree, external_tree, external_trees};
 ghost use Rattle.cc_types.specs.Bindings.{file_level, file_of, file_with};
 ghost use Rattle.cc_types.specs.internal.Externals.{defined_in};
 ghost use Rattle.cc_typing.specs.internal.Findings.{after, noted, is_bad_length, with_before};
 ghost use Rattle.cc_types.specs.Rules.{constant_errors, optional_constant_errors, constants_errors, named_array_errors, object_errors, objects_errors, parameter_errors, parameters_errors, signature_errors, external_errors, externals_errors, called_in_constant, called_in_optional_constant, called_in_constants, called_in_object, called_in_objects, called_in_external, called, undefined_among};
-ghost use Rattle.cc_types.specs.Scope.{Elements, in_scope, has_name, with_declared, with_object, with_objects, parameter_declared, parameters_declared, body_scope, file_scope_behind};
+ghost use Rattle.cc_types.specs.Scope.{Elements, in_scope, with_declared, with_object, with_objects, parameter_declared, parameters_declared, body_scope, file_scope_behind};
 
 use super::around::Surroundings;
 use super::expressions::value;

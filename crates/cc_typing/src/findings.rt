@@ -1,9 +1,9 @@
 // What the check has found so far.
 
-ghost use Rattle.std.specs.Prelude.{◌≡◌, [], ◌∷◌, ◌≤◌, OnOk};
+ghost use Rattle.std.specs.Prelude.{◌≡◌, [], ◌∷◌, OnOk};
 ghost use Rattle.cc_ast.specs.Erase.{name_tree};
 ghost use Rattle.cc_types.specs.Fault.{rule_number};
-ghost use Rattle.cc_typing.specs.internal.Findings.{is_before, earlier, after, noted, nothing_found, with_before};
+ghost use Rattle.cc_typing.specs.internal.Findings.{is_before, earlier, after, nothing_found, with_before};
 ghost use Rattle.cc_types.specs.Rules.{broken, broken_if};
 ghost use Rattle.cc_types.specs.Scope.{has_name};
 

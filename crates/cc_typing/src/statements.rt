@@ -3,7 +3,7 @@
 // The recursion is as deep as the tree: at most 64 levels.
 
 ghost use Rattle.std.specs.Prelude.{◌≡◌, OnOk};
-ghost use Rattle.cc_ast.specs.Erase.{expression_tree, optional_tree, optional_action, declarator_tree, declarator_trees, beginning_tree, statement_tree, statements_of};
+ghost use Rattle.cc_ast.specs.Erase.{optional_tree, optional_action, declarator_tree, declarator_trees, beginning_tree, statement_tree, statements_of};
 ghost use Rattle.cc_ast.specs.Tree as tree;
 ghost use Rattle.cc_typing.specs.internal.Findings.{after, around_of, declarator_errors, is_bad_return};
 ghost use Rattle.cc_types.specs.Rules.{within_loop, declared_errors, beginning_errors, return_errors, statement_errors, statements_errors, called_in_optional, called_in_declared, called_in_beginning, called_in_statement, called_in_statements};

@@ -1,6 +1,6 @@
 // Functions, external declarations, and the form of a unit.
 
-ghost use Rattle.std.specs.Prelude.{◌≡◌, ◌≤◌, [], ◌∷◌, ◌++◌, length, OnOk, IfOk};
+ghost use Rattle.std.specs.Prelude.{◌≡◌, [], ◌∷◌, ◌++◌, length, OnOk, IfOk};
 ghost use Rattle.cc_ast.specs.Erase.{signature_tree, statements_of, external_tree, external_trees};
 ghost use Rattle.cc_types.specs.Bindings.{file_level, file_of};
 ghost use Rattle.cc_meaning.specs.internal.FormErase.{form_tree, Resolves};

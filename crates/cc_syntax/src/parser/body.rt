@@ -1,7 +1,7 @@
 // The statements and declarations of a function's body, without the full expressions in them.
 
 ghost use Rattle.std.specs.Prelude.{◌≡◌, [], ◌∷◌, ◌++◌, IfOk, Some, None};
-ghost use Rattle.cc_ast.specs.Erase.{name_tree, expression_tree, statement_tree, beginning_tree, optional_tree, declarator_trees, target_tree};
+ghost use Rattle.cc_ast.specs.Erase.{name_tree, expression_tree, statement_tree, beginning_tree, optional_tree, declarator_trees};
 ghost use Rattle.cc_syntax.specs.internal.Parser.{action_step, item_step, do_step, resting_step, else_step, testing_step, ending_step, returning_step, for_opening_step, for_starting_step, for_testing_step, for_stepping_step, declaring_step, local_sign_step, declared_step, stepping_step, step_named_step, body_step, declared, InBody, Ending};
 ghost use Rattle.cc_syntax.specs.internal.ParserView.{name_at, body_view, stage_of, spot_view, test_view, position_view, Gives};
 

@@ -1,6 +1,6 @@
 // The token after a full expression: reading continues with what the expression is a part of.
 
-ghost use Rattle.std.specs.Prelude.{◌≡◌, suc, Some};
+ghost use Rattle.std.specs.Prelude.{suc, Some};
 ghost use Rattle.cc_ast.specs.Erase.{name_tree, expression_tree, declarator_trees, target_tree, external_trees, constant_tree, constant_trees, optional_constant};
 ghost use Rattle.cc_syntax.specs.internal.Parser.{end_full, end_in_body, end_in_object, end_list_value, ToInitialise, InBody, Stepped};
 ghost use Rattle.cc_syntax.specs.internal.ParserView.{body_view, context_of, purpose_view, position_view, spot_view, naming_view, part_view, Gives};

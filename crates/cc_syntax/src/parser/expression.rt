@@ -1,6 +1,6 @@
 // The pending parts of an expression, which await an operand, and how tightly they bind.
 
-ghost use Rattle.std.specs.Prelude.{◌≡◌, ◌≤◌, suc, IfOk};
+ghost use Rattle.std.specs.Prelude.{◌≡◌, IfOk};
 ghost use Rattle.cc_ast.specs.Grammar.{precedence};
 ghost use Rattle.cc_ast.specs.Tree.{Call};
 ghost use Rattle.cc_ast.specs.Erase.{name_tree, expression_tree};

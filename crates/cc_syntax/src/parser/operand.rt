@@ -1,6 +1,6 @@
 // The tokens of a full expression in places where an operand is due, and those of a cast.
 
-ghost use Rattle.std.specs.Prelude.{◌≡◌, ◌∷◌};
+ghost use Rattle.std.specs.Prelude.{◌∷◌};
 ghost use Rattle.cc_syntax.specs.internal.Parser.{goes_on, cast, call_of_none, operand_step, cast_step, cast_sign_step, full_step, first_step, Operand};
 ghost use Rattle.cc_syntax.specs.internal.ParserView.{name_at, waiting_view, waiting_views, context_of, full_view, phase_view, Gives};
 

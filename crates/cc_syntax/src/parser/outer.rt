@@ -5,7 +5,7 @@ ghost use Rattle.std.specs.Prelude.{◌≡◌, IfOk, Some, None};
 ghost use Rattle.std.specs.Option.{option_map};
 ghost use Rattle.cc_ast.specs.Erase.{name_tree, external_trees, signature_tree, parameter_trees};
 ghost use Rattle.cc_syntax.specs.internal.Parser.{external_step, typed_step, result_sign_step, named_step, parameter_step, parameters_step, only_void_step, parameter_named_step, parameter_typed_step, parameter_sign_step, headed_step, outer_step, with_parameter, all_named};
-ghost use Rattle.cc_syntax.specs.internal.ParserView.{name_at, naming_view, outer_of, Gives};
+ghost use Rattle.cc_syntax.specs.internal.ParserView.{name_at, outer_of, Gives};
 
 use crate::parser::cursor::Cursor;
 use crate::parser::role::Role;

@@ -4,7 +4,7 @@
 // put into a list. Making the list finds the first error of the text, and reading it finds the first token that breaks the
 // grammar or a limit.
 
-ghost use Rattle.std.specs.Prelude.{◌≡◌, ◌≤◌, length, IfSome, MatchResult};
+ghost use Rattle.std.specs.Prelude.{◌≡◌, length, IfSome, MatchResult};
 ghost use Rattle.std.specs.Option.{option_map};
 ghost use Rattle.cc_ast.specs.Erase.{external_trees};
 ghost use Rattle.cc_syntax.specs.internal.Parser.{tree_of};

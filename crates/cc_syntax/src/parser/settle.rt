@@ -1,6 +1,6 @@
 // Statements that are complete, and statements that begin.
 
-ghost use Rattle.std.specs.Prelude.{◌≡◌, IfOk, Some, None, true, false};
+ghost use Rattle.std.specs.Prelude.{◌≡◌, IfOk, Some, None, true};
 ghost use Rattle.cc_ast.specs.Erase.{statement_tree, statements_of, expression_tree, declarator_trees, action_tree};
 ghost use Rattle.cc_ast.specs.Tree.{Block};
 ghost use Rattle.cc_syntax.specs.internal.Parser.{with_last, settled, settle, opens, declares, acted, tested, close_block, declare};

@@ -1,6 +1,5 @@
 // Live variables among three, with a count of the visits.
 
-ghost use Rattle.std.specs.Prelude.{◌≡◌, IfOk};
 ghost use Rattle.std.proofs.Common.{arith};
 ghost use Rattle.tests_rtl.specs.Live.{below, none, both, room, laws, carried, carried_up};
 
