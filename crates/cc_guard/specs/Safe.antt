@@ -1,7 +1,7 @@
 -- Units in which no function needs a guard: their source goes wrong only because calls are nested too deep.
 use Rattle.std.specs.Prelude.{◌≡◌, ℕ, ◌^◌, ◌<◌, List, [], ◌∷◌, length}
-use Rattle.cc_resolve.specs.Tree.{External, Source}
-use Rattle.cc_resolve.specs.Typed.{IsTyped}
+use Rattle.cc_ast.specs.Tree.{External, Source}
+use Rattle.cc_types.specs.Typed.{IsTyped}
 use Rattle.cc_simulation.specs.World.{IsWorld}
 use Rattle.cc_c_laws.specs.Outcome.{Wrong}
 use Rattle.cc_c_laws.specs.Meaning.{functions, source_behavior}
