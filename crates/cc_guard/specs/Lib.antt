@@ -8,6 +8,7 @@ pub mod Laws
 pub mod Safe
 -- the numbers of the faults
 pub mod Fault
+-- definitions that only private contracts and proofs use
 pub mod internal
 -- worked examples
 pub mod rows

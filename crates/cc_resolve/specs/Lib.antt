@@ -6,6 +6,7 @@ pub mod Environment
 pub mod Operations
 -- how the code keeps the numbers of names
 pub mod Numberings
+-- definitions that only private contracts and proofs use
 pub mod internal
 -- Modules of the crates below that clauses here use, passed on.
 pub use Rattle.cc_ast.specs.Tree
