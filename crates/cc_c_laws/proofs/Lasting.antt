@@ -177,7 +177,7 @@ lasts_begin V W low s body go bodies later within f g grows grows' =
     (λ flow u le. lasts_body W flow go u later (g u (omega arith))) (λ flow b u. begins_body flow (later b) u (grows' b u)))
     (λ b u. begins_then u.output (bodies b u) (λ flow v. behind_body flow (later b) v) (grows b u) (λ flow v. begins_body flow (later b) v (grows' b v)))
 
--- ---- parts of which this holds from every state
+-- ---- parts for which this holds from every state
 
 pub record Steady {A B : Type 0} (W : ℕ → B → Type 0) (part : B → State → Run A) : Type 0 where
   pub grows : (b : B) (s : State) → IsPrefixOf s.output (written (part b s))

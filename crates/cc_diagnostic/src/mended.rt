@@ -165,7 +165,7 @@ impl Mended {
         }
     }
 
-    // Where the constant expression ends that begins at an offset.
+    // The offset at which the constant expression ends that begins at an offset.
     fn end_of_constant(&self, tokens: &[Token], at: usize) -> usize {
         let mut depth: usize = 0;
         for token in tokens {

@@ -525,8 +525,8 @@ fn of_unit(alloc: Global, unit: &Unit, fault: &TypeFault, at: usize) -> Result<T
     of_note(alloc, unit, note, fault, at)
 }
 
-/// Makes a diagnostic of the fault that `check` returned for a text's tree: the name, what it denotes and where that was first
-/// declared, the counts, or the limit that was passed. `None` for a text without a tree.
+/// Makes a diagnostic of the fault that `check` returned for a text's tree: the name, what it denotes and the place of its first
+/// declaration, the counts, or the limit that was exceeded. `None` for a text without a tree.
 ///
 /// `AllocError` if memory runs out.
 pub fn of_typing(

@@ -5,7 +5,7 @@ ghost use Rattle.cc_flow.specs.Lattice.{Equivalent, IsLattice};
 
 use std::alloc::{AllocError, Global};
 
-/// What may be known at a node, ordered by how much is said.
+/// What may be known at a node, ordered by how much it says.
 ///
 /// `below` is the order, `bottom` its least value, `lub` the join. `room` says how often a value can still rise; no value rises
 /// more than `height` times from the least.

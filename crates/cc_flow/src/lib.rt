@@ -1,6 +1,6 @@
 //! The least facts at the nodes of a graph, carried backward: the frame of every backward dataflow analysis.
 //!
-//! A pass supplies three things. A type with `Facts` says what can be known at a node, ordered by how much is said, with a least
+//! A pass supplies three things. A type with `Facts` says what can be known at a node, ordered by how much it says, with a least
 //! value and a join. A type with `Transfer` says what a node makes of the facts after it. A `Graph` says which nodes lead where.
 //! `solve_backward` then returns the solution that is below every other. A solution has, at each node, at least what the node
 //! makes of the join of its successors' facts. The least solution is the one to test: if any solution has a property that

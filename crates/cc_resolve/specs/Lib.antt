@@ -1,4 +1,4 @@
--- where objects are, and the numbers of functions
+-- the positions of objects, and the numbers of functions
 pub mod Layout
 -- which local a name refers to, and the environment of a statement
 pub mod Environment

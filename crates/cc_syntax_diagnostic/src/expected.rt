@@ -60,7 +60,7 @@ impl Outline {
     }
 }
 
-// Where the external declaration begins that has the token at an offset: after the one before it.
+// The offset at which the external declaration begins that has the token at an offset: after the declaration before it.
 fn start_of_external(tokens: &[Token], at: usize) -> usize {
     let mut outline = Outline {
         start: 0,
@@ -154,8 +154,8 @@ impl Prefix {
         Ok(Others::All)
     }
 
-    /// Words for the tokens that could come next; none if nothing is known. After an operand, where operators could come too,
-    /// only what ends the expression is reported.
+    /// Words for the tokens that could come next; none if nothing is known. After an operand, only what ends the expression is
+    /// reported, though operators could come too.
     pub fn expected(&mut self, alloc: Global) -> Result<Vec<&'static str>, AllocError> {
         let mut words: Vec<&'static str> = Vec::new(alloc);
         let others = if self.accepts(alloc, "*")? {
