@@ -312,7 +312,7 @@ impl<'a> Walk<'a> {
         })
     }
 
-    // Puts the old value of what is written to below the newest word.
+    // Puts the old value of what is written below the newest word.
     fn old_value(&mut self, slot: Slot<'a>) {
         match slot {
             Slot::Local(number) => self.emit(Instruction::Local(number)),
