@@ -31,7 +31,7 @@ impl Model for Graph {
 }
 
 impl Graph {
-    /// Makes a graph of this many nodes without edges.
+    /// Makes a graph of this many nodes without edges. `AllocError` if memory runs out.
     pub fn new(alloc: Global, nodes: usize) -> Result<Graph, AllocError>
         ensures { IfOk result (λ graph. graph ≡ replicate nodes []) }
     {

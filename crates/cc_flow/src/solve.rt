@@ -42,7 +42,7 @@ impl<F> Solution<F> {
     }
 }
 
-/// Returns the solution that is below every other.
+/// Returns the solution that is below every other. `AllocError` if memory runs out.
 ///
 /// Each node gets what its transfer makes of the join of its successors' facts.
 pub fn solve_backward<F: Facts, T: Transfer<F>>(

@@ -75,6 +75,8 @@ fn guarded(alloc: Global, pair: &CminorPair) -> Result<Box<Statement>, GuardFaul
 /// Whether a function needs no guard: the pass puts none before any of its operations. Then its code, unchanged, keeps up with
 /// the checked function (`needs`). A unit in which no function needs a guard goes wrong only because calls are nested too deep:
 /// `only_depth_is_left`.
+///
+/// `AllocError` if memory runs out.
 pub fn needs_no_guard(alloc: Global, pair: &CminorPair) -> Result<bool, AllocError>
     requires exits { ExitsFit 0 (code_of pair.now) }
     requires fails_alike { FailsAlike (tree_of pair.now) pair.now.function (code_of pair.now) }
@@ -93,7 +95,7 @@ pub fn needs_no_guard(alloc: Global, pair: &CminorPair) -> Result<bool, AllocErr
 /// The Cminor of a function with a test before each operation that may have no value, except an operation that evidently has one.
 /// If a test fails the run goes on for ever: it writes nothing more and never ends. So the code keeps up with the checked
 /// function, as the type of the pair guarantees. Constants that conditions in loops compare with may be held in variables
-/// (`code`). A function without guards keeps its code, but for these (`unguarded`).
+/// (`code`). A function without guards keeps its code unchanged (`unguarded`).
 ///
 /// Fails with `FunctionTooLarge` (22) if the guards would set more variables than code may have, and with `OutOfMemory` (40) if
 /// memory runs out. On an error the pair that was passed is dropped.

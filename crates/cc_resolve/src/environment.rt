@@ -35,7 +35,7 @@ impl<'a> Model for Environment<'a> {
 }
 
 impl<'a> Environment<'a> {
-    /// Returns file scope at the start of a text: the builtins, and no locals.
+    /// Returns file scope at the start of a text: the builtins, and no locals. `AllocError` if memory runs out.
     pub fn new(alloc: Global, layout: Layout<'a>) -> Result<Environment<'a>, AllocError>
         ensures { IfOk result (λ v. v ≡ record { visible = file_level first_file_scope.bindings; locals = []; layout = layout.entry }) }
     {

@@ -36,7 +36,8 @@ fn declare_parameters<'a>(
     Ok(())
 }
 
-/// Brings the name of a function into file scope, if it is new.
+/// Brings the name of a function into file scope, if it is new. `AllocError` if memory runs out; nothing is known of the
+/// environment then.
 pub fn declare_function<'a>(
     names: &mut Environment<'a>,
     tree: &'a Signature,
@@ -48,6 +49,7 @@ pub fn declare_function<'a>(
 }
 
 /// Enters a function's body from file scope: the function's name is in scope, and its parameters are the first locals.
+/// `AllocError` if memory runs out; nothing is known of the environment then.
 pub fn enter_function<'a>(
     names: &mut Environment<'a>,
     tree: &'a Signature,
@@ -96,7 +98,8 @@ fn add_external<'a>(
     }
 }
 
-/// Returns what the names of a unit refer to, and appends the initial words of its objects to an empty list.
+/// Returns what the names of a unit refer to, and appends the initial words of its objects to an empty list. `AllocError` if
+/// memory runs out; nothing is known of the list then.
 pub fn lay_out<'a>(
     alloc: Global,
     words: &mut Vec<u32>,
@@ -144,7 +147,7 @@ fn enter_definition<'a>(
 }
 
 /// Returns the environment at the beginning of the body of the function with this number. Functions are numbered from 0 in the
-/// order of their definitions.
+/// order of their definitions. `AllocError` if memory runs out.
 pub fn function_environment(
     alloc: Global,
     unit: &TypedUnit,

@@ -120,7 +120,7 @@ impl Rtl {
         label as usize
     }
 
-    /// Returns the graph of the nodes by their positions, for `cc_flow`.
+    /// Returns the graph of the nodes by their positions, for `cc_flow`. `AllocError` if memory runs out.
     pub fn graph(&self, alloc: Global) -> Result<Graph, AllocError>
         ensures { IfOk result (λ graph. graph ≡ graph_of self.now.nodes) }
     {

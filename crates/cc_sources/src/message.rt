@@ -74,7 +74,7 @@ fn with_names(
 }
 
 /// Returns a message about the joined text that may have words like `declared at 2:5`. If there are several texts, the place gets
-/// the name of its text and the line and column there: `declared at B.c:1:5`.
+/// the name of its text and the line and column there: `declared at B.c:1:5`. `AllocError` if memory runs out.
 pub fn named_message(
     alloc: Global,
     texts: &[NamedText],

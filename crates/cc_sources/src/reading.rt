@@ -34,7 +34,8 @@ impl From<AllocError> for NoText {
     }
 }
 
-/// Returns the bytes of a reader up to its end, or the first `MOST_READ` of them.
+/// Returns the bytes of a reader up to its end, or the first `MOST_READ` of them. Fails with `Unread` if a read fails, and with
+/// `OutOfMemory` if memory runs out.
 pub fn read_text<R: Read>(alloc: Global, reader: &mut R) -> Result<Vec<u8>, NoText>
     ensures few { IfOk result (λ text. vec_len text ≤ MOST_READ) }
     ensures text { IfOk result (λ text. IsTextOf (R.remaining reader.old) text.items) }
@@ -91,7 +92,8 @@ fn named<R: Input, F: Files>(
 }
 
 /// Reads the files with these names, in their order; `-` is standard input. Once they have more bytes together than a text may
-/// have, no further one is read.
+/// have, no further one is read. Fails at the first text that cannot be read or for which memory runs out, and returns its number
+/// and the reason.
 pub fn read_texts<R: Input, F: Files>(
     rt: &R,
     files: &F,

@@ -17,7 +17,7 @@ pub enum Origin<'a> {
     Texts(&'a [NamedText]),
 }
 
-/// Writes the name of a text. A byte that could control a terminal is shown as `?`.
+/// Writes the name of a text. A byte that could control a terminal is shown as `?`. Fails if the writer does.
 pub fn write_name<W: Write>(name: &str, writer: &mut W) -> io::Result<()> {
     for byte in name.bytes() {
         let shown = if byte < 32 || byte == 127 { b'?' } else { byte };
@@ -99,7 +99,8 @@ fn write_of_texts<W: Write>(
 }
 
 /// Writes a diagnostic of a text as `Diagnostic` does, such as `-:4:2: 'totl' is not declared`. If the text is made of others,
-/// name, line and column are those of the text that has the place: `B.c:4:2: 'totl' is not declared`.
+/// name, line and column are those of the text that has the place: `B.c:4:2: 'totl' is not declared`. Fails if the writer does or
+/// memory runs out; some lines may have been written then.
 pub fn write_diagnostic<W: Write>(
     alloc: Global,
     text: &[u8],
@@ -113,7 +114,7 @@ pub fn write_diagnostic<W: Write>(
     }
 }
 
-/// Writes which text could not be read, and why.
+/// Writes which text could not be read, and why. Fails if the writer does.
 pub fn tell_unread<W: Write>(name: &str, why: &io::Error, writer: &mut W) -> io::Result<()> {
     writer.write_all(b"cclib: ")?;
     if name == INPUT {

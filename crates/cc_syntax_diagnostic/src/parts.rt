@@ -45,7 +45,7 @@ impl fmt::Display for MessagePart<'_> {
     }
 }
 
-/// Joins these parts to a message.
+/// Joins these parts to a message. `AllocError` if memory runs out.
 pub fn message(alloc: Global, parts: &[MessagePart<'_>]) -> Result<String, AllocError> {
     let mut text = String::new(alloc);
     for part in parts {
@@ -54,7 +54,7 @@ pub fn message(alloc: Global, parts: &[MessagePart<'_>]) -> Result<String, Alloc
     Ok(text)
 }
 
-/// Makes a message of these words.
+/// Makes a message of these words. `AllocError` if memory runs out.
 pub fn words(alloc: Global, words: &str) -> Result<String, AllocError> {
     String::from_str(alloc, words)
 }

@@ -55,7 +55,7 @@ fn is_from(binding: Option<Newest<'_>>, first: usize) -> bool
 }
 
 impl<'a> Scope<'a> {
-    /// Returns file scope at the start of a text: it has the builtins.
+    /// Returns file scope at the start of a text: it has the builtins. `AllocError` if memory runs out.
     pub fn new(alloc: Global) -> Result<Scope<'a>, AllocError>
         ensures { IfOk result (λ s. s ≡ file_level first_file_scope.bindings) }
     {
@@ -92,7 +92,8 @@ impl<'a> Scope<'a> {
         self.inner = around;
     }
 
-    /// Declares a name in the innermost scope, and returns whether this scope had declared it already.
+    /// Declares a name in the innermost scope, and returns whether this scope had declared it already. `AllocError` if memory
+    /// runs out; nothing is known of the scope then.
     pub fn declare(&mut self, name: &'a [u8], entity: Entity<'a>) -> Result<bool, AllocError>
         ensures scope { OnOk result (self.new ≡ declared name.now (entity_of entity.entry) self.old) }
         ensures again { IfOk result (λ b. b ≡ is_declared self.old.inner name.now) }
@@ -114,7 +115,7 @@ impl<'a> Scope<'a> {
     }
 
     /// Declares a name in file scope if it is new; an earlier declaration stays as it is. Returns whether the name was declared
-    /// already.
+    /// already. `AllocError` if memory runs out; nothing is known of the scope then.
     pub fn declare_in_file(
         &mut self,
         name: &'a [u8],
