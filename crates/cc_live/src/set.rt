@@ -30,7 +30,7 @@ impl Model for RegisterSet {
 }
 
 impl RegisterSet {
-    /// Its words: register r is bit r % 64 of word r / 64, and none past their end is in the set.
+    /// Its words: register r is bit r % 64 of word r / 64. No register past their end is in the set.
     pub fn words(&self) -> &[u64]
         ensures { result.now ≡ self.now }
     {
@@ -44,7 +44,7 @@ impl RegisterSet {
         self.row.contains(register as usize)
     }
 
-    /// The same set once more.
+    /// A copy of the set.
     pub(crate) fn copy(&self, alloc: Global) -> Result<RegisterSet, AllocError>
         ensures { IfOk result (λ made. made ≡ self.now) }
     {
@@ -53,7 +53,7 @@ impl RegisterSet {
         })
     }
 
-    /// Puts a register in. Without memory the set stays as it was.
+    /// Puts a register in. If memory runs out, the set stays as it was.
     pub(crate) fn insert(&mut self, register: u32) -> Result<(), AllocError>
         ensures added { IfOk result (λ _. (r : ℕ) → holds self.new r ≡ (register == r || holds self.old r)) }
         ensures leaves { IfErr result (λ _. self.new ≡ self.old) }
@@ -75,7 +75,7 @@ pub struct Liveness {
     sets: Vec<RegisterSet>,
 }
 
-// By hand, so that crates above call it and do not prove anew how each part is dropped.
+// Written by hand, so that crates above call it and need not prove again how each part is dropped.
 impl Drop for Liveness {
     fn drop(self) {
         let Liveness { sets } = self;
@@ -91,14 +91,14 @@ impl Model for Liveness {
 }
 
 impl Liveness {
-    /// These sets.
+    /// Takes these sets.
     pub(crate) fn new(sets: Vec<RegisterSet>) -> Liveness
         ensures { result ≡ sets.items }
     {
         Liveness { sets }
     }
 
-    /// The sets, each beside its node.
+    /// The sets, in the order of the nodes.
     pub fn as_slice(&self) -> &[RegisterSet]
         ensures { result.now ≡ self.now }
     {
