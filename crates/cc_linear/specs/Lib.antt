@@ -1,4 +1,4 @@
--- to which labels items lead
+-- the labels to which items lead
 pub mod Targets
 -- why a function has no Linear
 pub mod Fault

@@ -25,7 +25,7 @@ pub fn place(labels: &[u32], label: u32) -> usize
     ensures place { result ≡ place_in labels.now label }
     ensures inside { result < length labels.now }
 {
-    // As a rule a label is the number of its place.
+    // Usually a label is the number of its place.
     let own = label as usize;
     if own < labels.len() && labels[own] == label {
         return own;
