@@ -1,6 +1,6 @@
 -- Functions that call only functions of lower ranks.
 pub mod Falling
--- What is said of one number after another.
+-- Statements about one number after another.
 pub mod Numbers
 -- Both laws together.
 pub mod Safe
