@@ -1,4 +1,4 @@
-// What is written of a comparison.
+// The lines that are written for a comparison.
 
 ghost use Rattle.std.specs.Prelude.{◌≡◌, OnOk};
 ghost use Rattle.std.specs.Io.KnownBytes.{Appends};
