@@ -1,3 +1,3 @@
--- Bodies that spell one command more (Reading), and lines that follow one another (Writing).
+-- Bodies that spell one more command (Reading), and lines that follow one another (Writing).
 pub mod Reading
 pub mod Writing
