@@ -1,6 +1,6 @@
--- A new library of the units of a map.
+-- A new library with the units of a map.
 pub mod Copy
 -- Which units are copied.
 pub mod Choice
--- What only private contracts speak of.
+-- Definitions for private contracts.
 pub mod internal

@@ -1,7 +1,8 @@
 //! Copying the units of a library into a new one.
 //!
-//! `choosing` takes the units of some names out of a map, `judging` says which an audit confirms, `filling` makes a new library of the units
-//! of a map. Hands out `choose`, `confirm`, `copy_units`, `least_area`, their types, and the definitions that the contracts name (`specs/`).
+//! `choosing` takes the units with some names out of a map, `judging` says which of them an audit confirms, `filling` makes a new library
+//! with the units of a map. The crate hands out `choose`, `confirm`, `copy_units`, `least_area`, their types, and the definitions that the
+//! contracts cite (`specs/`).
 #![tactic(auto)]
 
 mod choosing;
