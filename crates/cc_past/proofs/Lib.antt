@@ -1,3 +1,3 @@
--- What is said of commands, said of the disk that has their records (Past); what is put back (Moments).
+-- What holds for commands holds for the disk that has their records (Past); and what is put back (Moments).
 pub mod Past
 pub mod Moments
