@@ -1,4 +1,4 @@
--- What a call of a unit answers.
+-- The answer to a call of a unit.
 pub mod Call
--- What the image of a unit takes.
+-- How much memory the image of a unit takes.
 pub mod Measured
