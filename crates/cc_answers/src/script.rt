@@ -1,5 +1,5 @@
-// What is written of an answer to a script, and what explains its faults. Each answer goes to `answers`, which is flushed after it; what helps a
-// person with a fault goes to `explanations`. If that cannot be written it is left out.
+// What is written for an answer to a script, and the explanations of its faults. Each answer goes to `answers`, which is flushed after it.
+// Explanations for a person go to `explanations`; if one cannot be written, it is left out.
 
 ghost use Rattle.std.specs.Prelude.{◌≡◌, [], OnOk, codes};
 ghost use Rattle.std.specs.Io.KnownBytes.{Appends};
@@ -82,7 +82,7 @@ fn said_of(audit: Audit) -> &'static [u8]
     }
 }
 
-// Writes what an audit says of a name's unit.
+// Writes the result of an audit of the unit with a name.
 #[tactic(auto, using(crate::proofs::Writing::written_third))]
 fn write_audit<W: Write>(name: &[u8], audit: Audit, writer: &mut W) -> io::Result<()>
     ensures { OnOk result (Appends (W.contents writer.old) (W.contents writer.new) (audit_text name.now audit)) }
@@ -92,7 +92,7 @@ fn write_audit<W: Write>(name: &[u8], audit: Audit, writer: &mut W) -> io::Resul
     writer.write_all(said_of(audit))
 }
 
-// Writes what is told of a refusal: words, or the place in the source that was sent.
+// Writes the explanation of a refusal: words, or the place in the source that was sent.
 fn explain_refusal<W: Write>(
     alloc: Global,
     refusal: Refusal<'_>,
@@ -124,7 +124,7 @@ pub fn tell_run<W: Write>(run: &ImageRun, answers: &mut W) -> Result<(), ScriptF
     flushed(write, answers)
 }
 
-/// Writes what an audit says of a name's unit.
+/// Writes the result of an audit of the unit with a name.
 #[tactic(auto, using(crate::proofs::Writing::told))]
 pub fn tell_audit<W: Write>(name: &[u8], audit: Audit, answers: &mut W) -> Result<(), ScriptFault>
     ensures { Tells (W.contents answers.old) (W.contents answers.new) (audit_text name.now audit) result }
@@ -133,7 +133,7 @@ pub fn tell_audit<W: Write>(name: &[u8], audit: Audit, answers: &mut W) -> Resul
     flushed(write, answers)
 }
 
-/// Writes lines that are there as a whole.
+/// Writes lines that are given as a whole.
 #[tactic(auto, using(crate::proofs::Writing::told))]
 pub fn tell_text<W: Write>(text: &[u8], answers: &mut W) -> Result<(), ScriptFault>
     ensures { Tells (W.contents answers.old) (W.contents answers.new) text.now result }
@@ -158,7 +158,7 @@ pub fn tell_ok<W: Write>(answers: &mut W) -> Result<(), ScriptFault>
     tell_text(b"ok\n", answers)
 }
 
-// Writes the line of a fault with this number.
+// Writes the line of the fault with this number.
 #[tactic(auto, using(crate::proofs::Writing::told))]
 fn tell_line<W: Write>(
     number: u32,
@@ -172,7 +172,7 @@ fn tell_line<W: Write>(
     flushed(write, answers)
 }
 
-// Writes the line of a fault of the script, if it has one.
+// Writes the line of a script's fault, if it has one.
 fn tell_script_fault<W: Write>(fault: ScriptFault, answers: &mut W) -> Result<(), ScriptFault>
     ensures { Tells (W.contents answers.old) (W.contents answers.new) (script_fault_text fault) result }
 {
@@ -183,7 +183,7 @@ fn tell_script_fault<W: Write>(fault: ScriptFault, answers: &mut W) -> Result<()
     tell_line(number, Stands::Nowhere, &[], answers)
 }
 
-/// Writes the line of a fault of the script, and explains it. 54, a fault of the answers, has no line.
+/// Writes the line of a script's fault, and explains it. 54, a fault of the answers themselves, has no line.
 pub fn tell_fault<W: Write, E: Write>(
     fault: ScriptFault,
     answers: &mut W,
