@@ -1,6 +1,7 @@
--- How a library is shown to be its log, read through the records. What an image holds alone it recovers to alone, since a body is spelled
--- by one command (Commands, Standing); so each clause of a change is the log's clause (Changing). Names compare as the numbers of their
--- first eight bytes do, where these differ: a number that is larger so far stays larger, whatever comes after it (Prefix).
+-- How a library is shown to be its log, read through the records. If an image has only these records, it recovers only to their map, since
+-- a body is spelled by one command (Commands, Standing). So each clause of a change is the log's clause (Changing). Names compare as the
+-- numbers of their first eight bytes do, if these differ: if the number so far is larger, it stays larger, whatever comes after it
+-- (Prefix).
 pub mod Tables
 pub mod Words
 pub mod Fields
