@@ -1,6 +1,6 @@
--- The shortest journal of a map never takes more room than any journal that stands for it, and stands for it too. How: by entries.
--- A command puts one entry in or takes some out, so the records of the entries never take more than those of the commands; and
--- each entry has a name and a unit that some command had.
+-- The shortest journal of a map never takes more room than any journal that represents the map, and represents it too. The reason, by
+-- entries: a command puts one entry in or takes some out, so the records of the entries never take more room than those of the commands;
+-- and each entry has a name and a unit that some command had.
 use Rattle.std.proofs.Common.{◌≡◌, ℕ, ◌+◌, ◌≤◌, Bool, true, false, cond, not, Option, None, List, [], ◌∷◌, length, refl, sym, ap, subst, ◌∙◌, arith, length-append}
 use Rattle.std.specs.Prelude.{T, Ok, Err}
 use Rattle.std.specs.declared.cmp.Ordering.{Ordering}
@@ -38,7 +38,7 @@ one name unit = length (record_bytes (body_of (Add name unit)))
 size-more : (name : List ℕ) (unit : StoredUnit) (es : List Entry) → size ((name, unit) ∷ es) ≡ one name unit + size es
 size-more name unit es = length-append (record_bytes (body_of (Add name unit))) (records (bodies_of (adds es)))
 
--- each entry is a name and a unit that can be
+-- each entry is a name and a possible unit
 abbrev AreRight : List Entry → Type 0
 AreRight es = AllByRecursion (λ (e : Entry). IsCommand (Add e.0 e.1)) es
 
@@ -106,7 +106,7 @@ entries-remove units name = (p, ap map.entries same ∙ map.entries-from_sorted 
 
 -- ---- commands
 
--- what a map's entries take and are, and so those of another
+-- a bound for the entries of one map, and from it one for those of another
 abbrev Grows : ℕ → Units → Units → Type 0
 Grows n old new = (size (map.entries new) ≤ n + size (map.entries old)) × (AreRight (map.entries old) → AreRight (map.entries new))
 
@@ -170,7 +170,7 @@ no_entries = nothing_in (map.entries map.empty) (sym (map.len-entries map.empty)
 of_map : (bodies : List (List ℕ)) (units : Units) → StandFor bodies units → Grows (length (records bodies)) map.empty units
 of_map bodies units stand = subst (Grows (length (records bodies)) map.empty) (sym stand.map_is) (grows_all map.empty bodies stand.commands stand.spelled)
 
--- takes no more room than any that stands for the map
+-- it takes no more room than any journal that represents the map
 pub compacted_fits : (bodies : List (List ℕ)) (units : Units) → StandFor bodies units → room_of (compacted units) ≤ room_of bodies
 compacted_fits bodies units stand =
     let grows = (of_map bodies units stand).0 in
@@ -181,7 +181,7 @@ spelled_adds : (es : List Entry) → AreRight es → AreSpelled (bodies_of (adds
 spelled_adds [] all = tt
 spelled_adds (e ∷ es) all = (written (Add e.0 e.1) all.0, spelled_adds es all.1)
 
--- and stands for it
+-- and it represents the map
 pub compacted_stands : (bodies : List (List ℕ)) (units : Units) → StandFor bodies units → StandFor (compacted units) units
 compacted_stands bodies units stand =
     let right = (of_map bodies units stand).1 (subst AreRight (sym no_entries) tt) in

@@ -19,7 +19,7 @@ use crate::table::Table;
 use cc_library::{LibraryCommand, UnitMap};
 use std::alloc::Global;
 
-// The disk crashes; the live map is gone.
+// The disk crashes; the live map is lost.
 fn crash_core(alloc: Global, core: &mut Core, choice: &Sequence<u8>) -> Answer
     ensures { Answers (Crashes choice.now core.old) result core.old core.new }
 {
@@ -29,7 +29,7 @@ fn crash_core(alloc: Global, core: &mut Core, choice: &Sequence<u8>) -> Answer
     Ok(None)
 }
 
-// The disk crashes; the live map, jobs and workers are gone.
+// The disk crashes; the live map, jobs and workers are lost.
 pub(crate) fn crash<P: Drop>(
     alloc: Global,
     contents: &mut Contents<P>,
@@ -62,7 +62,7 @@ fn is_in_effect(library: &UnitMap, command: &LibraryCommand) -> bool
     }
 }
 
-// Drops the last command where the map is not as it leaves it.
+// Drops the last command if the map is not as that command leaves it.
 fn drop_undone(order: &mut Sequence<Numbered>, library: &UnitMap)
     ensures { IsPrefixKept library.now order.old order.new }
 {

@@ -1,4 +1,4 @@
-// The device steps of a rewrite, and their failure. What they write is one commit of the journal, made before the first of them.
+// The device steps of a rewrite, and their failure. All that they write is one commit of the journal, made before the first step.
 
 ghost use Rattle.std.specs.Prelude.{◌≡◌, ◌⊎◌, Option, IfOk, OnErr, IsErrOf};
 ghost use Rattle.cc_core.specs.declared.command.Reply.{Reply};
@@ -14,8 +14,8 @@ use crate::events::Answer;
 use crate::fault::CoreFault;
 use std::alloc::Global;
 
-// The first write is done: one Add per name, and the closed gate, into the area that is not in use. They always fit, since they
-// never take more room than the records that stand for the map.
+// Does the first write: one Add per name, and the closed gate, to the area that is not in use. They always fit, since they never take more
+// room than the records that represent the map.
 pub(crate) fn rewrite_all(alloc: Global, core: &mut Core) -> Answer
     requires { IsReady core.old }
     ensures { Answers (RewritesAll core.old) result core.old core.new }
@@ -23,7 +23,7 @@ pub(crate) fn rewrite_all(alloc: Global, core: &mut Core) -> Answer
     let Phase::Idle = &core.phase else {
         return Err(CoreFault::NotNow);
     };
-    // What the type keeps of an area's size.
+    // What the type keeps about the size of an area.
     let _kept = core.store.used();
     let bodies = core.library.bodies(alloc)?;
     let commit = core.store.rewrite(alloc, &bodies)?;
@@ -32,7 +32,7 @@ pub(crate) fn rewrite_all(alloc: Global, core: &mut Core) -> Answer
     Ok(None)
 }
 
-// The sync after it is done.
+// Does the sync after it.
 pub(crate) fn sync_all(core: &mut Core) -> Answer
     ensures { Answers (RewriteAdvances left.SyncAll core.old) result core.old core.new }
 {
@@ -44,7 +44,7 @@ pub(crate) fn sync_all(core: &mut Core) -> Answer
     Ok(None)
 }
 
-// The write of the area byte is done.
+// Does the write of the area byte.
 pub(crate) fn write_area(core: &mut Core) -> Answer
     requires { IsReady core.old }
     ensures { Answers (RewriteAdvances left.WriteArea core.old) result core.old core.new }
@@ -60,7 +60,7 @@ pub(crate) fn write_area(core: &mut Core) -> Answer
     Ok(None)
 }
 
-// The sync after it is done: the other area is in use, and its records are the journal's.
+// Does the sync after it: the other area is now in use, and its records are the journal's.
 pub(crate) fn sync_area(core: &mut Core) -> Answer
     requires { IsReady core.old }
     ensures { Answers (RewriteAdvances left.SyncArea core.old) result core.old core.new }
@@ -79,7 +79,7 @@ pub(crate) fn sync_area(core: &mut Core) -> Answer
     Ok(None)
 }
 
-// The device step of a rewrite that is due fails. A write has reached the disk then, in whole, unsettled.
+// The device step of a rewrite that is due fails. A write has then reached the disk as a whole, unsettled.
 fn fail_rewrite(core: &mut Core) -> Answer
     requires { IsReady core.old }
     ensures { Answers (RewriteFails core.old) result core.old core.new }
