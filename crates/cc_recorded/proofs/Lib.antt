@@ -1,6 +1,6 @@
--- How the book is shown. Two layers: the library with its history says in one relation what each call answers and what it does to the
--- disk's bytes, whatever the exit (Committing); the book round it has one goal a call, that its tie to the core goes on, by a lemma over
--- those relations (Tying, Sinces). A commit is the core's steps by cases of its answer (Cores, Rewriting): the only work is that the
+-- How the book is shown. There are two layers. The library with its history says in one relation what each call answers and what it does to
+-- the disk's bytes, whatever the exit (Committing). The book around it has one goal for each call: its tie to the core goes on, by a lemma
+-- over those relations (Tying, Sinces). A commit is the core's steps, by cases of its answer (Cores, Rewriting); the only work is that the
 -- bytes and images of the library's disk are those of the core's store (Disks).
 pub mod Committing
 pub mod Disks
