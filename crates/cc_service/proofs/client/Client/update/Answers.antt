@@ -1,4 +1,4 @@
--- A look at the name, and what comes after it.
+-- A look-up of the name, and what comes after it.
 use Rattle.std.proofs.Common.{◌≡◌, List, ℕ, Err, Ok, rules, subst}
 use Rattle.cc_history.specs.declared.command.Asked.TheVariants.{Fetch}
 use Rattle.cc_history.specs.declared.command.Command.TheVariants.{Replace}
