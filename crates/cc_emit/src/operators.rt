@@ -93,7 +93,7 @@ fn is_zero(to: u8) -> Instr
     operate_immediate(ImmediateOperation::Sltiu, to, SCRATCH, 1)
 }
 
-// Whether it is not.
+// Whether the scratch register's word is not 0.
 fn is_nonzero(to: u8) -> Instr
     requires { to < 32 }
     ensures { result ≡ Op Sltu to 0 5 }
