@@ -1,4 +1,4 @@
-// What a copy of a library has.
+// What a copy of a library contains.
 
 use crate::helpers::{SUM, add, blank, unit, with_commands};
 use cc_copy::{ChooseFault, choose, confirm, copy_units, least_area};
@@ -7,7 +7,7 @@ use cc_library::{Library, Name, UnitMap};
 use std::alloc::Global;
 use std::test::Fail;
 
-// A library of three units, of which none has a certificate that an audit confirms.
+// A library of three units, none of which has a certificate that an audit confirms.
 fn three(alloc: Global) -> Result<UnitMap, Fail> {
     let mut commands = Vec::new(alloc);
     commands.push(add(b"b", unit(alloc, b"b", &SUM, Some(b"no certificate"))?)?)?;
@@ -21,7 +21,7 @@ fn three(alloc: Global) -> Result<UnitMap, Fail> {
     Ok(units)
 }
 
-// How many lines there are between a map and its copy in areas of so many bytes, or the number of the refusal.
+// How many lines differ between a map and its copy in areas of this many bytes, or the number of the refusal.
 fn copied(alloc: Global, units: &UnitMap, area: u32) -> Result<Result<usize, u32>, Fail> {
     if area < 64 || area > 1_073_741_824 {
         return Err(Fail::from("no area has so many bytes"));
@@ -41,7 +41,7 @@ fn copied(alloc: Global, units: &UnitMap, area: u32) -> Result<Result<usize, u32
     Ok(Ok(count))
 }
 
-// The bodies take 75, 21 and 24 bytes, each with 5 more, and the last gate one: 136.
+// The bodies take 75, 21 and 24 bytes, each with 5 more, and the last gate takes one: 136.
 #[test]
 fn all_units_to_the_byte(rt: HostRuntime) -> Result<(), Fail> {
     let alloc = rt.alloc();
