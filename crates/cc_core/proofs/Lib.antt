@@ -7,19 +7,36 @@
 -- puts at most one entry into the map, whose record is as long as that command's (Compacted).
 --
 -- From small to large: lists and orders, what the disk holds during a commit and a rewrite, what each step keeps, whole runs.
+--
+-- structs without fields at run time
 pub mod Walks
+-- a write to one piece of one job
 pub mod Jobs
+-- lists with one element written or one more
 pub mod Lists
+-- a command that a job begins has a right unit
 pub mod Whole
+-- orders with one more command, and what a recovery keeps of them
 pub mod Orders
+-- what the images hold during a commit, step by step
 pub mod Held
+-- the shortest journal of a map never takes more room than another
 pub mod Compacted
+-- what the images hold during a rewrite, step by step
 pub mod Rewrites
+-- what each image recovers to, by phase
 pub mod Ending
+-- what an event asks for gives it its step
 pub mod Possible
+-- what the records of an opened disk show
 pub mod Beginnings
+-- the recovery after a crash has its step
 pub mod Reopening
+-- what holds for the contents after any events
 pub mod Sound
+-- a run goes on by one turn
 pub mod Runs
+-- what holds for a run, whatever pieces are handed in
 pub mod Anyhow
+-- how a run goes on
 pub mod Turns

@@ -34,9 +34,11 @@ pub mod Returning
 pub mod Emitted
 -- the frame that is chosen
 pub mod Choosing
--- what comes before a frame, its steps, and the rest after it
+-- what comes before a frame
 pub mod Heads
+-- its steps, and what the rest saves
 pub mod Headed
+-- the rest in its frame after it
 pub mod Earlier
 -- every item has a word
 pub mod Encoding

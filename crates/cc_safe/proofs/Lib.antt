@@ -4,4 +4,5 @@ pub mod Falling
 pub mod Numbers
 -- Both laws together.
 pub mod Safe
+-- The trees of expressions with two or three parts.
 pub mod Trees

@@ -35,16 +35,21 @@ pub mod Fit
 pub mod Parameters
 -- what a pair of Selected keeps
 pub mod Selecting
--- sets of registers as bits, and known words
+-- sets of registers as bits
 pub mod Bits
+-- known words, as the code keeps them
 pub mod Knowing
--- the sweeps, and the two passes
+-- the sweeps over the table of labels
 pub mod Sweeping
+-- the two passes, one more step at a time
 pub mod Passing
--- tests that go before labels, and the run with them there
+-- tests that go before labels
 pub mod Tests
+-- a run with tests before labels keeps up as without them
 pub mod Threaded
+-- with tests before labels the items are still those of a function
 pub mod Threading_fits
+-- the table of the tests, as the code makes it
 pub mod Gathering
 -- from the pass to a pair
 pub mod Handing
