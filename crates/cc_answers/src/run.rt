@@ -1,6 +1,6 @@
 // What an image does.
 
-ghost use Rattle.std.specs.Prelude.{◌≡◌, IfOk, OnOk};
+ghost use Rattle.std.specs.Prelude.{IfOk, OnOk};
 ghost use Rattle.std.specs.Io.KnownBytes.{Appends};
 ghost use Rattle.cc_answers.specs.Run.{IsRunOf};
 ghost use Rattle.cc_answers.specs.Text.{machine_outcome_text, run_text, words_text};

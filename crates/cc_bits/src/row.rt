@@ -1,6 +1,6 @@
 // One row of bits: a set of numbers.
 
-ghost use Rattle.std.specs.Prelude.{◌≡◌, ℕ, ◌+◌, ◌*◌, ◌/◌, ◌%◌, ◌^◌, ◌<◌, ◌≤◌, ◌==◌, ◌||◌, ◌&&◌, not, [], get_or, length, slice_index, IsTrue, IsFalse, IfOk, IfErr};
+ghost use Rattle.std.specs.Prelude.{◌≡◌, ℕ, ◌+◌, ◌*◌, ◌/◌, ◌%◌, ◌<◌, ◌≤◌, ◌==◌, ◌||◌, ◌&&◌, not, [], get_or, length, slice_index, IsTrue, IsFalse, IfOk, IfErr};
 ghost use Rattle.std.specs.Int.{bit_at};
 ghost use Rattle.cc_bits.specs.Rows.{holds, AreRows, moved as moved_of, column_moved, most_words};
 ghost use Rattle.cc_bits.specs.internal.Holding.{bit as bit_of};

@@ -1,10 +1,9 @@
 // Running the image of a library's unit on input words.
 
-ghost use Rattle.std.specs.Prelude.{◌≡◌, IfOk, IfErr, IsTrue};
+ghost use Rattle.std.specs.Prelude.{IfOk, IfErr, IsTrue};
 ghost use Rattle.std.specs.Arc.{arc_value};
 ghost use Rattle.cc_disk.specs.Images.{OnlyReads};
 ghost use Rattle.cc_tasks.specs.Part.{IsFound, IsNoPartIn, IsNoPartOn};
-ghost use Rattle.cc_runs.specs.Count.{IsCounted};
 ghost use Rattle.cc_call.specs.Call.{IsCallOn, IsUnitOn};
 
 use cc_disk::Disk;

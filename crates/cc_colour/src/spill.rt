@@ -3,7 +3,7 @@
 // A block reloads its operands, does its operation, and spills the result; at entry the parameters go to their slots. So no word stays in a
 // register from block to block, and only a function with more pseudo-registers than slots is refused.
 
-ghost use Rattle.std.specs.Prelude.{◌≡◌, ◌<◌, ◌≤◌, ◌^◌, [], length, IfOk};
+ghost use Rattle.std.specs.Prelude.{◌≡◌, ◌<◌, ◌≤◌, ◌^◌, length, IfOk};
 
 use crate::operation::{Used, operation_of};
 use crate::slots::Slots;

@@ -1,8 +1,7 @@
 // Which units are copied.
 
-ghost use Rattle.std.specs.Prelude.{◌≡◌, ◌∷◌, ℕ, List, Some, IfOk, IfErr, OnOk, if◌then◌else◌};
+ghost use Rattle.std.specs.Prelude.{◌≡◌, Some, IfOk, IfErr, OnOk};
 ghost use Rattle.std.specs.Arc.{arc_value};
-ghost use Rattle.std.specs.FinMap as map;
 ghost use Rattle.cc_library.specs.Apply.{after};
 ghost use Rattle.cc_library.specs.declared.command.LibraryCommand.TheVariants as command;
 ghost use Rattle.cc_copy.specs.Choice.{IsChosen, IsNotChosen};

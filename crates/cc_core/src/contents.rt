@@ -53,7 +53,7 @@ pub enum Phase {
 }
 
 impl Phase {
-    ghost use Rattle.std.specs.Prelude.{◌≡◌, ℕ};
+    ghost use Rattle.std.specs.Prelude.{◌≡◌};
     ghost use Rattle.cc_core.specs.declared.command.Numbered.{Numbered};
     ghost use Rattle.cc_journal.specs.Commit as journal;
     ghost use Rattle.cc_core.specs.declared.contents.Due.{Due};

@@ -1,7 +1,6 @@
 // The device steps of a command's commit, and their failure.
 
-ghost use Rattle.std.specs.Prelude.{◌≡◌, ◌≤◌, ◌^◌, ℕ, List, Option, Some, IfOk, OnErr, IsErrOf, length};
-ghost use Rattle.cc_library.specs.Body.{body_of};
+ghost use Rattle.std.specs.Prelude.{◌≡◌, Some, IfOk, length};
 ghost use Rattle.cc_core.specs.declared.command.Reply.{Reply};
 ghost use Rattle.cc_core.specs.declared.contents.Contents.{Contents};
 ghost use Rattle.cc_core.specs.declared.contents.Due.TheVariants as due;

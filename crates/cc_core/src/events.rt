@@ -1,6 +1,6 @@
 // The step of each event: whether it is possible, what it changes, and what it answers.
 
-ghost use Rattle.std.specs.Prelude.{◌≡◌, ◌↔◌, ◌++◌, ◌∷◌, [], ℕ, Option, None, Some, Ok, Result, IfOk, IfErr, OnErr, IsErrOf, OnOk, IsTrue};
+ghost use Rattle.std.specs.Prelude.{◌≡◌, ◌↔◌, ℕ, Option, None, Some, Ok, Result, IfOk, IfErr, OnErr, OnOk, IsTrue};
 ghost use Rattle.std.specs.FinMap as table;
 ghost use Rattle.cc_core.specs.declared.command.Reply.{Reply};
 ghost use Rattle.cc_core.specs.declared.contents.Contents.{Contents};

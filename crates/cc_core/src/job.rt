@@ -1,7 +1,6 @@
 // What a client has handed in, piece by piece, and what a worker has taken of it.
 
-ghost use Rattle.std.specs.Prelude.{◌≡◌, ℕ, IfOk, map, replicate};
-ghost use Rattle.std.specs.Ordering.{nat_cmp};
+ghost use Rattle.std.specs.Prelude.{◌≡◌, IfOk, map, replicate};
 ghost use Rattle.std.specs.FinMap as table;
 ghost use Rattle.cc_core.specs.Job.{is_there, all_there, first_refused, made_pieces, with_piece};
 ghost use Rattle.cc_core.specs.declared.job.Job.{Job};

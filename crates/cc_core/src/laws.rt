@@ -1,6 +1,6 @@
 // Laws of the protocol core. Each is the contract of a function that does nothing: what holds after every run, and how a run can go on.
 
-ghost use Rattle.std.specs.Prelude.{◌≡◌, ◌++◌, ℕ, Option, None, Some, List};
+ghost use Rattle.std.specs.Prelude.{◌≡◌, ◌++◌, ℕ, Option, None, List};
 ghost use Rattle.std.specs.FinMap.{get, empty};
 ghost use Rattle.cc_library.specs.Apply.{Units, after};
 ghost use Rattle.cc_library.specs.declared.command.LibraryCommand.{LibraryCommand};

@@ -1,9 +1,9 @@
 // Opening a disk: what its records represent, and the point from which a run goes on.
 
-ghost use Rattle.std.specs.Prelude.{◌≡◌, ◌^◌, ◌≤◌, true, List, ℕ, IfOk, IfErr, MatchResult, length};
+ghost use Rattle.std.specs.Prelude.{◌≡◌, ◌^◌, ◌≤◌, true, IfOk, IfErr, MatchResult, length};
 ghost use Rattle.cc_disk.specs.Model.{bytes_of, IsImage};
 ghost use Rattle.cc_disk.specs.Images.{AddsNone};
-ghost use Rattle.cc_journal.specs.Format.{HoldsRecords, records, room_of};
+ghost use Rattle.cc_journal.specs.Format.{records, room_of};
 ghost use Rattle.cc_library.specs.Answers.{OpenFaults};
 ghost use Rattle.cc_core.specs.Run.{IsOrderOf};
 ghost use Rattle.cc_core.specs.internal.Opening.{IsFound, IsOpenedAt};

@@ -1,13 +1,10 @@
 // The crash, and the opening after it.
 
-ghost use Rattle.std.specs.Prelude.{◌≡◌, ◌↔◌, ◌-◌, ℕ, List, Option, Some, IfOk, OnErr, IsErrOf, IsTrue, length, take};
-ghost use Rattle.std.specs.Arc.{arc_value};
+ghost use Rattle.std.specs.Prelude.{◌↔◌, ◌-◌, Some, IsTrue};
 ghost use Rattle.cc_core.specs.declared.command.Numbered.{Numbered};
-ghost use Rattle.cc_core.specs.declared.command.Reply.{Reply};
 ghost use Rattle.cc_core.specs.declared.contents.Contents.{Contents};
 ghost use Rattle.cc_core.specs.Step.{Crashes, EndsAll, Reopens};
 ghost use Rattle.cc_core.specs.internal.Answers.{Answers};
-ghost use Rattle.cc_core.specs.Run.{but_last};
 ghost use Rattle.cc_core.specs.internal.Ready.{IsReady, IsInEffect, IsPrefixKept};
 
 use crate::command::Numbered;

@@ -1,7 +1,5 @@
 // The device steps of a rewrite, and their failure. All that they write is one commit of the journal, made before the first step.
 
-ghost use Rattle.std.specs.Prelude.{◌≡◌, ◌⊎◌, Option, IfOk, OnErr, IsErrOf};
-ghost use Rattle.cc_core.specs.declared.command.Reply.{Reply};
 ghost use Rattle.cc_core.specs.declared.contents.Contents.{Contents};
 ghost use Rattle.cc_core.specs.declared.contents.RewriteDue.TheVariants as left;
 ghost use Rattle.cc_core.specs.internal.Answers.{Answers};

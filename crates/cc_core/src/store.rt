@@ -1,7 +1,7 @@
 // The core's disk: a journal in one of its two areas, written one device step at a time, by the journal's own commits.
 
-ghost use Rattle.std.specs.Prelude.{◌≡◌, ◌↔◌, ◌+◌, ◌^◌, ◌≤◌, [], ◌∷◌, List, ℕ, IsTrue, length, IfOk, IfErr, OnOk, OnErr};
-ghost use Rattle.cc_disk.specs.Model.{bytes_of, IsImage, synced};
+ghost use Rattle.std.specs.Prelude.{◌≡◌, ◌↔◌, ◌+◌, ◌^◌, ◌≤◌, [], List, ℕ, IsTrue, length, IfOk, IfErr, OnOk, OnErr};
+ghost use Rattle.cc_disk.specs.Model.{bytes_of, IsImage};
 ghost use Rattle.cc_disk.specs.Images.{LeavesAlone};
 ghost use Rattle.cc_journal.specs.Commit.{append_commit, rewrite_commit};
 ghost use Rattle.cc_journal.specs.Format.{HoldsRecords, IsArea, records, room_of};

@@ -1,6 +1,6 @@
 // Operators: the items of each, by its recipe.
 
-ghost use Rattle.std.specs.Prelude.{◌≡◌, ◌<◌, ◌≤◌, ◌%◌, ◌++◌, OnOk};
+ghost use Rattle.std.specs.Prelude.{◌≡◌, ◌<◌, ◌++◌, OnOk};
 ghost use Rattle.cc_emit.specs.Emission.{recipe, recipe_items, word_recipe, word_recipe_items, unary_instr};
 ghost use Rattle.cc_rv32.specs.declared.instr.Instr.TheVariants.{Op, OpImm};
 ghost use Rattle.cc_rv32.specs.declared.instr.RegisterOperation.TheVariants.{Sltu};

@@ -9,7 +9,7 @@ ghost use Rattle.std.specs.List.{AllByRecursion};
 ghost use Rattle.cc_words.specs.Widths.{same_width};
 ghost use Rattle.cc_select.specs.declared.step.Step.TheVariants.{One};
 ghost use Rattle.cc_select.specs.Selected.{labels};
-ghost use Rattle.cc_emit.specs.Emission.{recipe, word_recipe};
+ghost use Rattle.cc_emit.specs.Emission.{recipe};
 ghost use Rattle.cc_emit.specs.Branches.{against_zero};
 ghost use Rattle.cc_emit.specs.Scratch.{nothing, is_upper, is_address, is_in_reach, known_of, known_at, remembered, without, without_address, upper_behind, sum_base, step_access_size, loop_weight, accesses_size, gains, behind_move, behind_recipe, behind_word_recipe, behind_word_branch, behind_element, behind_at, behind_one, behind_step, addressed};
 ghost use Rattle.cc_emit.specs.internal.Bases.{base_in};

@@ -3,8 +3,8 @@
 // An entry counts 256 bytes, plus the unit that a change handed in or the names that answered a list. A unit that answered a `fetch` is
 // shared with the library, or with the entry that put it there, and is not counted again.
 
-ghost use Rattle.std.specs.Prelude.{◌≡◌, ◌+◌, ◌≤◌};
-ghost use Rattle.cc_history.specs.Held.{asked_bytes, at_most_told, certificate_bytes, command_bytes, entry_bytes, receipts_bytes, reply_bytes, unit_bytes};
+ghost use Rattle.std.specs.Prelude.{◌≡◌, ◌+◌};
+ghost use Rattle.cc_history.specs.Held.{asked_bytes, at_most_told, certificate_bytes, entry_bytes, receipts_bytes, reply_bytes, unit_bytes};
 
 use crate::command::{Asked, Command};
 use crate::entry::{Entry, Receipt};

@@ -1,6 +1,6 @@
 // Labels to which nothing leads are left out.
 
-ghost use Rattle.std.specs.Prelude.{◌≡◌, ℕ, ◌↔◌, ◌<◌, ◌≤◌, length, get_or, IfOk};
+ghost use Rattle.std.specs.Prelude.{◌≡◌, ℕ, ◌↔◌, ◌<◌, IfOk};
 ghost use Rattle.std.specs.List.{Contains};
 ghost use Rattle.cc_linear.specs.Targets.{targets};
 ghost use Rattle.cc_linear.specs.internal.Idle.{IsRising, stays as has_its_place, kept as without};

@@ -1,7 +1,6 @@
 // Sets of registers, as rows of bits: register r is bit r % 64 of word r / 64.
 
 ghost use Rattle.std.specs.Prelude.{◌≡◌, ℕ, ◌==◌, ◌||◌, ◌&&◌, not, IfOk, IfErr};
-ghost use Rattle.cc_flow.specs.Lattice.{Equivalent};
 ghost use Rattle.cc_bits.specs.Rows.{holds};
 ghost use Rattle.cc_live.specs.internal.Facts.{Below, nothing, either};
 ghost use Rattle.cc_live.specs.internal.Room.{room as room_of, height as height_of, bounded as room_bounded};

@@ -1,7 +1,6 @@
 // What a command stored.
 
 ghost use Rattle.std.specs.Prelude.{◌≡◌, option_map};
-ghost use Rattle.std.specs.Str.{bytes_eq};
 ghost use Rattle.cc_log.specs.Commands.{stored_at, stored_by};
 
 use cc_library::{LibraryCommand, Name, SharedUnit};

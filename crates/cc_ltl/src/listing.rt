@@ -1,6 +1,6 @@
 // A function as text: its slots and its entry, and a line for each block.
 
-ghost use Rattle.std.specs.Prelude.{◌≡◌, Some};
+ghost use Rattle.std.specs.Prelude.{Some};
 ghost use Rattle.cc_ltl.specs.Listing.{register_text, slot_text, move_text, operation_text, next_text, block_text, ltl_text};
 
 use crate::block::Block;

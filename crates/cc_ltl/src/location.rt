@@ -1,6 +1,6 @@
 // Where a word can be: an allocatable register, or a slot of the frame.
 
-ghost use Rattle.std.specs.Prelude.{◌≡◌, ◌<◌, ◌≤◌, IsSome, IfSome, ◌↔◌};
+ghost use Rattle.std.specs.Prelude.{◌≡◌, ◌<◌, IsSome, IfSome, ◌↔◌};
 ghost use Rattle.cc_ltl.specs.Registers.{IsAllocatable, most_slots};
 
 use std::marker::Model;

@@ -1,6 +1,6 @@
 // A function of LTL: its blocks, in the order of their labels.
 
-ghost use Rattle.std.specs.Prelude.{◌≡◌, ◌↔◌, length, not, IsTrue, IsOk, MatchResult, OnOk};
+ghost use Rattle.std.specs.Prelude.{◌≡◌, ◌↔◌, not, IsTrue, IsOk, MatchResult};
 ghost use Rattle.std.specs.List.{AllByRecursion};
 ghost use Rattle.cc_ltl.specs.Ltl.{Ltl as Function, IsLtl, IsMove, IsOperation, IsBlock, IsBelowFirst, Ascend, goes_on};
 

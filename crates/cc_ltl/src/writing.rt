@@ -1,7 +1,7 @@
 // A function as bytes.
 
 ghost use Rattle.std.specs.Prelude.{◌≡◌, ◌++◌, ◌<◌, ◌^◌, length, IfOk, OnOk};
-ghost use Rattle.cc_ltl.specs.Bytes.{Spells, ltl_bytes, block_bytes, moves_bytes, move_bytes, operation_bytes, word_bytes, unary_number, binary_number};
+ghost use Rattle.cc_ltl.specs.Bytes.{Spells, block_bytes, moves_bytes, move_bytes, operation_bytes, word_bytes, unary_number, binary_number};
 
 use crate::block::Block;
 use crate::ltl::Ltl;

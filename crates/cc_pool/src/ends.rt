@@ -3,7 +3,7 @@
 // Whoever holds one end holds the other. A worker that waits on the queue keeps it open itself, so its receive ends with an item and never
 // because all senders are gone.
 
-ghost use Rattle.std.specs.Prelude.{◌≡◌, [], IfOk, OnErr, OnOk, IfSome, IfNone};
+ghost use Rattle.std.specs.Prelude.{◌≡◌, OnErr, OnOk, IfSome, IfNone};
 ghost use Rattle.cc_pool.specs.declared.rule.Role.TheVariants.{Owner, Out};
 ghost use Rattle.cc_pool.specs.Rule.{sends_one, takes_one, splits_one, joins_one, new_hand, first_hand, is_live};
 ghost use Rattle.cc_pool.specs.internal.AllTaken.{AllTaken};

@@ -1,6 +1,6 @@
 // Puts an entry into the history and its receipt to its client, after the memory for both has been taken.
 
-ghost use Rattle.std.specs.Prelude.{◌≡◌, ◌+◌, ◌<◌, ◌++◌, [], ◌∷◌, length, vec_len, OnOk, OnErr, IfOk};
+ghost use Rattle.std.specs.Prelude.{◌≡◌, ◌+◌, ◌<◌, ◌++◌, [], ◌∷◌, length, vec_len, OnOk, IfOk};
 ghost use Rattle.std.specs.Vec.{vec_capacity};
 
 use crate::named::Based;

@@ -5,10 +5,8 @@
 
 ghost use Rattle.std.specs.Prelude.{◌≡◌, ◌≤◌, true, IfOk, Some};
 ghost use Rattle.cc_rv32.specs.Machine.{machine_behavior};
-ghost use Rattle.cc_rv32.specs.declared.outcome.MachineOutcome.{MachineOutcome as Outcome};
 ghost use Rattle.cc_rv32.specs.declared.outcome.MachineOutcome.TheVariants.{Going};
-ghost use Rattle.cc_answers.specs.Run.{IsRunOf};
-ghost use Rattle.cc_runs.specs.Count.{IsCount, IsCounted};
+ghost use Rattle.cc_runs.specs.Count.{IsCounted};
 
 use cc_answers::{ImageRun, run_image};
 use cc_rv32::image::Image;

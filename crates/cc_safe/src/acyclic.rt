@@ -4,7 +4,7 @@
 // a unit can have functions. If there is no cycle, the ranks then fall from call to call. No proof depends on how they were found: the
 // answer comes from checking the ranks at the end.
 
-ghost use Rattle.std.specs.Prelude.{◌≡◌, ◌<◌, true, codes, IfOk};
+ghost use Rattle.std.specs.Prelude.{◌≡◌, ◌<◌, true, IfOk};
 ghost use Rattle.std.specs.List.{AllByRecursion};
 ghost use Rattle.cc_ast.specs.Erase.{external_trees};
 ghost use Rattle.cc_ast.specs.Source.{source};

@@ -1,6 +1,6 @@
 // The steps without the constants that nobody reads.
 
-ghost use Rattle.std.specs.Prelude.{◌≡◌, ℕ, Bool, length, IfOk};
+ghost use Rattle.std.specs.Prelude.{◌≡◌, length, IfOk};
 ghost use Rattle.cc_select.specs.Live.{Registers as set};
 ghost use Rattle.cc_select.specs.Table.{Table};
 ghost use Rattle.cc_select.specs.Selection.{lean};

@@ -1,6 +1,6 @@
 // A comparison, and the test of its truth value directly after it, become one branch if nothing else reads that value.
 
-ghost use Rattle.std.specs.Prelude.{◌≡◌, ◌<◌, ℕ, Bool, length, IfOk, MatchOption, drop, None, Some};
+ghost use Rattle.std.specs.Prelude.{◌≡◌, ◌<◌, length, IfOk, MatchOption, drop, None, Some};
 ghost use Rattle.cc_select.specs.Table.{Table};
 ghost use Rattle.cc_select.specs.Selection.{fused};
 ghost use Rattle.cc_select.specs.internal.Sets.{table_of, SameTable, AreBehind};

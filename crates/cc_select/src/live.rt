@@ -1,10 +1,9 @@
 // Which registers are live before a step, from those after it and a table of the labels.
 
-ghost use Rattle.std.specs.Prelude.{◌≡◌, get_or, IfOk, ◌==◌, if◌then◌else◌, ℕ, Bool};
+ghost use Rattle.std.specs.Prelude.{◌≡◌, IfOk, ◌==◌, if◌then◌else◌, ℕ};
 ghost use Rattle.cc_select.specs.Live.{live_move, live_item, live_before};
 ghost use Rattle.cc_select.specs.Table.{nowhere, everywhere};
 ghost use Rattle.cc_select.specs.internal.Sets.{holds, row_of, table_of, SameTable};
-ghost use Rattle.cc_select.specs.declared.registers.Registers.{Registers as bits};
 
 use crate::registers::{DESTROYED, RESULT, Registers};
 use crate::step::Step;

@@ -2,7 +2,7 @@
 // the access is to the element whose number is that register's word plus the added word. So the sum need not be made for it, and accesses
 // to nearby elements share one register. Only the last such sum is known.
 
-ghost use Rattle.std.specs.Prelude.{◌≡◌, ◌++◌, IfOk, None};
+ghost use Rattle.std.specs.Prelude.{◌≡◌, IfOk, None};
 ghost use Rattle.cc_select.specs.Near.{unless, summed, sum_item, sum_behind, sum_in, with_sum, near, nearer};
 ghost use Rattle.cc_select.specs.declared.step.Step.TheVariants.{One, LoadNear, StoreNear};
 

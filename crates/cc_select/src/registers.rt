@@ -1,6 +1,6 @@
 // Sets of registers.
 
-ghost use Rattle.std.specs.Prelude.{◌≡◌, ◌<◌, ◌||◌, not};
+ghost use Rattle.std.specs.Prelude.{◌≡◌, ◌<◌};
 ghost use Rattle.cc_select.specs.Live.{nothing, with, without, either};
 ghost use Rattle.cc_select.specs.internal.Sets.{holds, surviving, every, alone, before_call, within};
 

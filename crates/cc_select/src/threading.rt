@@ -7,7 +7,7 @@
 ghost use Rattle.std.specs.Prelude.{◌≡◌, ◌++◌, ◌∷◌, [], ℕ, ◌+◌, ◌≤◌, drop, None, false, not, IfOk, vec_len, vec_capacity, if◌then◌else◌, ◌==◌};
 ghost use Rattle.cc_linear_language.specs.declared.item.LinearItem.TheVariants.{Jump};
 ghost use Rattle.cc_select.specs.Known.{unknown, is_taken, chosen};
-ghost use Rattle.cc_select.specs.Threading.{branches_to, first_test, test_behind, tests, way, is_jump, before_label, before_jump, in_jump, piece, is_before_gone, threaded_by, threaded};
+ghost use Rattle.cc_select.specs.Threading.{branches_to, first_test, test_behind, tests, way, is_jump, before_label, in_jump, piece, is_before_gone, threaded_by, threaded};
 ghost use Rattle.cc_select.specs.internal.Sets.{known_in, tests_in};
 ghost use Rattle.cc_select.specs.internal.Passes.{branched_to};
 

@@ -1,6 +1,6 @@
 // The end of a service's book, with all its clients.
 
-ghost use Rattle.std.specs.Prelude.{◌≡◌, ◌+◌, ◌≤◌, [], IsTrue, IfErr, IfOk, OnOk, length, map, vec_len};
+ghost use Rattle.std.specs.Prelude.{◌≡◌, ◌+◌, ◌≤◌, [], IfErr, IfOk, OnOk, length, map, vec_len};
 ghost use Rattle.std.specs.Vec.{vec_capacity};
 ghost use Rattle.cc_history.specs.Closing.{AreApart, AreOwn, IsClosed, ReceiptsStand, receipts_of};
 ghost use Rattle.cc_recorded.specs.Answers.{IsNotClosed};

@@ -1,6 +1,6 @@
 // From a text to a compiled unit, by the workers of a pool: handed in first, collected later. No lock is held here.
 
-ghost use Rattle.std.specs.Prelude.{◌≡◌, ℕ, List, length, All, IfErr, IfOk};
+ghost use Rattle.std.specs.Prelude.{◌≡◌, List, length, All, IfErr, IfOk};
 ghost use Rattle.std.specs.Arc.{arc_value};
 ghost use Rattle.cc_ast.specs.Source.{source};
 ghost use Rattle.cc_ast.specs.Tree.{External};
@@ -44,7 +44,7 @@ impl<N: Named> Drop for Prepared<N> {
 }
 
 impl<N: Named> Model for Prepared<N> {
-    ghost use Rattle.std.specs.Prelude.{◌≡◌, ℕ, List, length};
+    ghost use Rattle.std.specs.Prelude.{◌≡◌, List, length};
     ghost use Rattle.std.specs.Arc.{arc_value};
     ghost use Rattle.cc_ast.specs.Source.{source};
     ghost use Rattle.cc_types.specs.Typed.{defined_names};

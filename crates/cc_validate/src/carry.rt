@@ -1,7 +1,7 @@
 // Carries equations backward over a node and its block: through the moves after the operation, the operation, and the moves before it. The
 // operands' equations join them in front of the operation.
 
-ghost use Rattle.std.specs.Prelude.{◌≡◌, ◌≤◌, Some, IfOk};
+ghost use Rattle.std.specs.Prelude.{◌≤◌, Some, IfOk};
 ghost use Rattle.cc_flow.specs.Lattice.{Equivalent};
 ghost use Rattle.cc_bits.specs.Rows.{most_width};
 ghost use Rattle.cc_rtl_language.specs.Code.{node_of};

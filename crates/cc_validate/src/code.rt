@@ -22,9 +22,7 @@ pub struct Code<'a> {
 }
 
 impl<'a> Model for Code<'a> {
-    ghost use Rattle.std.specs.Prelude.{List};
     ghost use Rattle.cc_rtl_language.specs.Rtl as rtl;
-    ghost use Rattle.cc_ltl.specs.declared.block.Block as ltl;
     ghost use Rattle.cc_validate.specs.internal.Positions.{IsCode, Sides};
 
     ghost Value = { Sides };

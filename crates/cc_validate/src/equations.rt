@@ -11,7 +11,7 @@ ghost use Rattle.cc_validate.specs.Equations.{before_moves, equation};
 ghost use Rattle.cc_validate.specs.Solution.{IsAtEntry};
 ghost use Rattle.cc_validate.specs.internal.Facts.{Below, join as join_of};
 ghost use Rattle.cc_validate.specs.internal.Room.{room as room_of, IsPlace, most_places};
-ghost use Rattle.cc_validate.specs.internal.Table.{number as number_of, listed, AreEquations};
+ghost use Rattle.cc_validate.specs.internal.Table.{listed, AreEquations};
 ghost use Rattle.cc_validate.specs.internal.Carried.{AreCarried, AreLeft, AreWith, IsEntryBit};
 ghost use Rattle.cc_validate.specs.internal.Origins.{AreSent};
 ghost use Rattle.cc_ltl.specs.declared.location.Location.TheVariants.{Register as in_register};

@@ -4,7 +4,7 @@ ghost use Rattle.std.specs.Prelude.{◌≡◌, ◌↔◌, ◌≤◌, length, All
 ghost use Rattle.cc_bits.specs.Rows.{most_width};
 ghost use Rattle.cc_rtl_language.specs.Rtl.{node_at};
 ghost use Rattle.cc_ltl.specs.Ltl.{IsLtl};
-ghost use Rattle.cc_validate.specs.Solution.{IsAtEntry, HasSolution};
+ghost use Rattle.cc_validate.specs.Solution.{HasSolution};
 ghost use Rattle.cc_validate.specs.Fault.{IsRefusal};
 ghost use Rattle.cc_validate.specs.Pair.{tree_of, FollowsRtl};
 ghost use Rattle.cc_validate.specs.internal.Facts.{IsClean, HoldsParametersAlone};

@@ -10,7 +10,7 @@
 // 4. the blocks that lead into a loop.
 
 ghost use Rattle.std.specs.Prelude.{◌≡◌, ◌<◌, length, vec_len, IfOk, All};
-ghost use Rattle.cc_linear.specs.internal.Reached.{InGraph, WaysBelow};
+ghost use Rattle.cc_linear.specs.internal.Reached.{InGraph};
 
 use super::ways::Ways;
 use std::alloc::{AllocError, Global};

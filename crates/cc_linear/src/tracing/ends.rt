@@ -1,6 +1,6 @@
 // Branch tunnelling: where the chain of empty blocks from each label ends.
 
-ghost use Rattle.std.specs.Prelude.{◌≡◌, ℕ, ◌<◌, length, IfOk, All};
+ghost use Rattle.std.specs.Prelude.{◌≡◌, ◌<◌, length, IfOk, All};
 ghost use Rattle.cc_linear.specs.internal.Ends.{Sound, HasEnds};
 
 use std::alloc::{AllocError, Global};

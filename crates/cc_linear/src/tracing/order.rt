@@ -1,6 +1,6 @@
 // The order in which blocks are laid out.
 
-ghost use Rattle.std.specs.Prelude.{◌≡◌, ℕ, ◌<◌, length, get_or, IfOk, All};
+ghost use Rattle.std.specs.Prelude.{◌≡◌, ◌<◌, length, IfOk, All};
 ghost use Rattle.std.specs.List.{AllPairs, Contains};
 ghost use Rattle.cc_linear.specs.internal.Reached.{InGraph, IsClosed};
 

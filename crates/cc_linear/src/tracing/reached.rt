@@ -1,6 +1,6 @@
 // The labels to which the entry leads.
 
-ghost use Rattle.std.specs.Prelude.{◌≡◌, ℕ, ◌<◌, length, IfOk, All};
+ghost use Rattle.std.specs.Prelude.{◌≡◌, ◌<◌, length, IfOk, All};
 ghost use Rattle.std.specs.List.{Contains};
 ghost use Rattle.cc_linear.specs.internal.Reached.{InGraph, ClosedTo, WaysBelow, HasWays, Found, Grew};
 
