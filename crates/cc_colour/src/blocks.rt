@@ -10,7 +10,8 @@ use crate::operation::{Used, nothing_used, operation_of};
 use crate::parallel::{Transfer, in_parallel, push_move};
 use crate::places::Places;
 use crate::registers::{
-    DESTROYED, Place, RESULT, Registers, argument_register, first_free, numbered, only,
+    ARGUMENT_REGISTERS, DESTROYED, DUMMY, Place, RESULT, Registers, argument_register, first_free,
+    numbered, only,
 };
 use crate::webs::{Crossing, Crossings};
 use cc_ltl::{Block, Move, Moves, Operation, Register};
@@ -212,7 +213,7 @@ impl Draft<'_> {
             Some(register) => register,
             None => {
                 self.short = true;
-                31
+                DUMMY
             }
         }
     }
@@ -279,7 +280,7 @@ impl Draft<'_> {
                 self.move_before(Place::Register(to), Place::Slot(slot));
                 numbered(to)
             }
-            None => numbered(31),
+            None => numbered(DUMMY),
         }
     }
 
@@ -297,7 +298,7 @@ impl Draft<'_> {
     }
 
     fn take_parameters(&mut self, parameters: u32) {
-        for parameter in 0..parameters.min(22) {
+        for parameter in 0..parameters.min(ARGUMENT_REGISTERS) {
             if let Some(to) = self.operand(parameter)
                 && let Some(register) = argument_register(parameter as usize)
             {

@@ -6,7 +6,9 @@
 
 use crate::bits::Matrix;
 use crate::nodes::{Shape, beside_constant, operands};
-use crate::registers::{DESTROYED, RESULT, Registers, SERVICE, argument_register, only};
+use crate::registers::{
+    ARGUMENT_REGISTERS, DESTROYED, RESULT, Registers, SERVICE, argument_register, only,
+};
 use crate::webs::{Crossing, Crossings, Webs};
 use cc_rtl_language::Node;
 use std::alloc::{AllocError, Global};
@@ -158,7 +160,7 @@ impl Graph {
 
     // Parameters are set all at once, before the entry.
     fn add_entry(&mut self, code: Code<'_>, at: usize) -> Result<(), AllocError> {
-        for parameter in 0..code.shape.rtl.parameters().min(22) {
+        for parameter in 0..code.shape.rtl.parameters().min(ARGUMENT_REGISTERS) {
             if let Some(web) = code.at(at, parameter) {
                 self.count_set(web, 1);
                 self.add_edges(code.webs.in_front(at), web, None);

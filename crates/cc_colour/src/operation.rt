@@ -1,6 +1,6 @@
 // The operation of LTL for a node, once its registers are chosen.
 
-use crate::registers::numbered;
+use crate::registers::{DUMMY, numbered};
 use cc_ltl::{Operation, Register};
 use cc_rtl_language::Node;
 
@@ -15,7 +15,7 @@ pub struct Used {
 
 /// Any registers, for a node without operands and result.
 pub fn nothing_used() -> Used {
-    let any = numbered(31);
+    let any = numbered(DUMMY);
     Used {
         first: any,
         second: any,

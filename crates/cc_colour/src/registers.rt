@@ -35,6 +35,12 @@ pub const RESULT: u8 = 10;
 /// What a read and a write destroy.
 pub const SERVICE: u8 = 17;
 
+/// The register that an operation gets if it needs none, or if none is free.
+pub const DUMMY: u8 = 31;
+
+/// How many arguments have a register: x10 to x31.
+pub const ARGUMENT_REGISTERS: u32 = 22;
+
 /// The registers in the order in which they are tried if nothing else decides: first those that calls destroy and that no argument is in,
 /// then the argument registers from the last to the first, then those that a function has to save.
 pub const ORDER: [u8; 25] = [
