@@ -27,7 +27,6 @@ use crate::job::{
 };
 use crate::recovery::{crash, recover};
 use crate::rewriting::{fail, rewrite_all, sync_all, sync_area, write_area};
-use crate::sequence::Sequence;
 use cc_library::{LibraryCommand, SharedUnit, UnitMap, body_length};
 use std::alloc::{AllocError, Global};
 

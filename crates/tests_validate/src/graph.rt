@@ -1,7 +1,7 @@
 // A small interpreter of RTL.
 
 use super::world::{Next, Stop, World};
-use cc_rtl::{Node, Rtl, RtlPair};
+use cc_rtl::{Node, RtlPair};
 use std::alloc::{AllocError, Global};
 
 /// The words of registers, 0 for each that was never written.
