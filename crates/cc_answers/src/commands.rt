@@ -36,7 +36,7 @@ fn write_commands<W: Write>(dialect: Dialect, is_line: bool, writer: &mut W) -> 
     Ok(())
 }
 
-/// Writes what a person who types a session's script may enter.
+/// Writes what a person who types a session's script may enter. Err: the writer failed.
 pub fn greet<W: Write>(writer: &mut W) -> io::Result<()> {
     writer.write_all(b"cclib: ")?;
     write_commands(Dialect::Plain, true, writer)?;
@@ -44,7 +44,7 @@ pub fn greet<W: Write>(writer: &mut W) -> io::Result<()> {
     writer.flush()
 }
 
-/// Writes an explanation for a line that is no command of a script in this dialect.
+/// Writes an explanation for a line that is no command of a script in this dialect. Err: the writer failed.
 pub fn explain_bad_line<W: Write>(dialect: Dialect, writer: &mut W) -> io::Result<()> {
     writer.write_all(b"cclib: the line is no command: ")?;
     write_commands(dialect, true, writer)?;
@@ -52,7 +52,7 @@ pub fn explain_bad_line<W: Write>(dialect: Dialect, writer: &mut W) -> io::Resul
     writer.flush()
 }
 
-/// Writes an explanation for words of `submit` that are no command.
+/// Writes an explanation for words of `submit` that are no command. Err: the writer failed.
 pub fn explain_no_command<W: Write>(writer: &mut W) -> io::Result<()> {
     writer.write_all(b"cclib: the words are no command of a script: ")?;
     write_commands(Dialect::Served, false, writer)?;

@@ -106,7 +106,7 @@ fn explain_refusal<W: Write>(
     writer.flush()
 }
 
-/// Writes the names of a library's units, and the number of the receipt that has them.
+/// Writes the names of a library's units, and the number of the receipt that has them. Err: 54 `WriteFault`, the writer failed.
 #[tactic(auto, using(crate::proofs::Writing::told))]
 pub fn tell_names<W: Write>(names: &[Name], number: u64, answers: &mut W) -> Result<(), ScriptFault>
     ensures { Tells (W.contents answers.old) (W.contents answers.new) (names_text names.now number) result }
@@ -115,7 +115,7 @@ pub fn tell_names<W: Write>(names: &[Name], number: u64, answers: &mut W) -> Res
     flushed(write, answers)
 }
 
-/// Writes what a unit's image did.
+/// Writes what a unit's image did. Err: 54 `WriteFault`, the writer failed.
 #[tactic(auto, using(crate::proofs::Writing::told))]
 pub fn tell_run<W: Write>(run: &ImageRun, answers: &mut W) -> Result<(), ScriptFault>
     ensures { Tells (W.contents answers.old) (W.contents answers.new) (run_text run.now) result }
@@ -124,7 +124,7 @@ pub fn tell_run<W: Write>(run: &ImageRun, answers: &mut W) -> Result<(), ScriptF
     flushed(write, answers)
 }
 
-/// Writes the result of an audit of the unit with a name.
+/// Writes the result of an audit of the unit with a name. Err: 54 `WriteFault`, the writer failed.
 #[tactic(auto, using(crate::proofs::Writing::told))]
 pub fn tell_audit<W: Write>(name: &[u8], audit: Audit, answers: &mut W) -> Result<(), ScriptFault>
     ensures { Tells (W.contents answers.old) (W.contents answers.new) (audit_text name.now audit) result }
@@ -133,7 +133,7 @@ pub fn tell_audit<W: Write>(name: &[u8], audit: Audit, answers: &mut W) -> Resul
     flushed(write, answers)
 }
 
-/// Writes lines that are given as a whole.
+/// Writes lines that are given as a whole. Err: 54 `WriteFault`, the writer failed.
 #[tactic(auto, using(crate::proofs::Writing::told))]
 pub fn tell_text<W: Write>(text: &[u8], answers: &mut W) -> Result<(), ScriptFault>
     ensures { Tells (W.contents answers.old) (W.contents answers.new) text.now result }
@@ -142,7 +142,7 @@ pub fn tell_text<W: Write>(text: &[u8], answers: &mut W) -> Result<(), ScriptFau
     flushed(write, answers)
 }
 
-/// Writes that a change was made, and the number of its receipt.
+/// Writes that a change was made, and the number of its receipt. Err: 54 `WriteFault`, the writer failed.
 #[tactic(auto, using(crate::proofs::Writing::told))]
 pub fn tell_number<W: Write>(number: u64, answers: &mut W) -> Result<(), ScriptFault>
     ensures { Tells (W.contents answers.old) (W.contents answers.new) (number_text number) result }
@@ -151,7 +151,7 @@ pub fn tell_number<W: Write>(number: u64, answers: &mut W) -> Result<(), ScriptF
     flushed(write, answers)
 }
 
-/// Writes that what was asked for is done.
+/// Writes that what was asked for is done. Err: 54 `WriteFault`, the writer failed.
 pub fn tell_ok<W: Write>(answers: &mut W) -> Result<(), ScriptFault>
     ensures { Tells (W.contents answers.old) (W.contents answers.new) (line (codes "ok")) result }
 {

@@ -40,7 +40,7 @@ pub fn words_of_task(number: u32) -> Option<&'static str> {
     }
 }
 
-/// Writes the explanation of the fault with this number, of a session's script or of a library, if there is one.
+/// Writes the explanation of the fault with this number, of a session's script or of a library, if there is one. Err: the writer failed.
 pub fn explain_words<W: Write>(number: u32, writer: &mut W) -> io::Result<()> {
     if number == ScriptFault::BadLine.number() {
         return explain_bad_line(Dialect::Plain, writer);

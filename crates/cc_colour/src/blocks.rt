@@ -102,7 +102,7 @@ struct Draft<'a> {
     crossings: Crossings,
 }
 
-/// All blocks; None if a register was needed and none was free.
+/// All blocks; None if a register was needed and none was free. Err: memory ran out.
 pub fn blocks(alloc: Global, placed: Placed<'_>) -> Result<Option<Vec<Block>>, AllocError> {
     let rtl = placed.code.shape.rtl;
     let mut blocks = Vec::with_capacity(alloc, rtl.len())?;

@@ -48,7 +48,7 @@ impl Shape<'_> {
     }
 }
 
-/// The places to which each node leads.
+/// The places to which each node leads. Err: memory ran out.
 pub fn next_places(alloc: Global, rtl: &Rtl) -> Result<Vec<Next>, AllocError> {
     let mut all = Vec::with_capacity(alloc, rtl.len())?;
     for at in 0..rtl.len() {
@@ -58,7 +58,7 @@ pub fn next_places(alloc: Global, rtl: &Rtl) -> Result<Vec<Next>, AllocError> {
     Ok(all)
 }
 
-/// The only place that leads to each node; None if several places do, or none.
+/// The only place that leads to each node; None if several places do, or none. Err: memory ran out.
 pub fn sole_places(alloc: Global, next: &[Next]) -> Result<Vec<Option<usize>>, AllocError> {
     let mut sole = vec![in alloc; None; next.len()]?;
     let mut is_led_to = vec![in alloc; false; next.len()]?;
@@ -152,7 +152,7 @@ pub fn operands(node: &Node) -> [Option<u32>; 2] {
 }
 
 /// How often each node may be executed: 1, and ten times as often for each loop around it, up to four loops. A loop is everything from a
-/// node to the last node after it that leads back to it.
+/// node to the last node after it that leads back to it. Err: memory ran out.
 pub fn weights(alloc: Global, next: &[Next]) -> Result<Vec<u32>, AllocError> {
     let mut weights = vec![in alloc; 1; next.len()]?;
     if !has_loop(next) {

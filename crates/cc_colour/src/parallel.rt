@@ -15,7 +15,7 @@ pub struct Transfer {
 }
 
 /// Adds moves that do all the pending ones, which write different places. No register of `kept` is changed apart from their targets.
-/// Answers whether there was a spare register for each cycle; if not, some moves are left out.
+/// Answers whether there was a spare register for each cycle; if not, some moves are left out. Err: memory ran out.
 pub fn in_parallel(
     pending: &mut Vec<Transfer>,
     kept: Registers,
@@ -41,7 +41,7 @@ pub fn in_parallel(
     Ok(true)
 }
 
-/// Adds one move. There is no move from slot to slot: nothing is added then.
+/// Adds one move. There is no move from slot to slot: nothing is added then. Err: memory ran out.
 pub fn push_move(into: &mut Vec<Move>, transfer: Transfer) -> Result<(), AllocError> {
     match as_move(transfer) {
         Some(one) => put(into, one),

@@ -10,7 +10,7 @@ pub struct Points {
 }
 
 impl Points {
-    /// The points of this many nodes.
+    /// The points of this many nodes. Err: memory ran out.
     pub fn of(alloc: Global, nodes: usize, live: Live<'_>) -> Result<Points, AllocError> {
         let mut firsts = Vec::with_capacity(alloc, nodes.saturating_add(1))?;
         let mut count = 0usize;
@@ -49,7 +49,7 @@ impl Points {
         Some(point.saturating_add(ones(bits & bit.wrapping_sub(1))))
     }
 
-    /// Fills a list with the two points of each register that is live before both nodes, except one register.
+    /// Fills a list with the two points of each register that is live before both nodes, except one register. Err: memory ran out.
     pub fn common(
         &self,
         live: Live<'_>,

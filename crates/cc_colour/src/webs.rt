@@ -149,7 +149,7 @@ impl Webs {
         self.results.get(node).copied().flatten()
     }
 
-    /// The whole web of each piece.
+    /// The whole web of each piece. Err: memory ran out.
     pub fn origins(&self, alloc: Global, whole: &Webs) -> Result<Origins, AllocError> {
         let mut origins = vec![in alloc; 0u32; self.count as usize]?;
         for (piece, web) in self.webs.iter().zip(whole.webs.iter()) {
@@ -161,7 +161,8 @@ impl Webs {
         Ok(Origins { origins })
     }
 
-    /// For each register that a call keeps, puts its webs before and after the call in a list; at another node the list is empty.
+    /// For each register that a call keeps, puts its webs before and after the call in a list; at another node the list is empty. Err:
+    /// memory ran out.
     pub fn crossings(
         &self,
         shape: &Shape<'_>,

@@ -43,7 +43,7 @@ impl<T: Drop> From<AllocFailed<T>> for ReadFault {
     }
 }
 
-/// The command that all these bytes together spell.
+/// The command that all these bytes together spell. Err: they spell no command, or memory ran out.
 pub fn read_command(alloc: Global, bytes: &[u8]) -> Result<LibraryCommand, ReadFault>
     // The bytes spell the command that is read.
     ensures answer { IfOk result (λ command. Spells bytes.now command) }

@@ -84,7 +84,7 @@ fn ways(labels: &[u32], ends: &[usize], operation: &Operation) -> Ways
     }
 }
 
-/// The graph of blocks.
+/// The graph of blocks. Err: memory ran out.
 pub fn graph(
     alloc: Global,
     labels: &[u32],

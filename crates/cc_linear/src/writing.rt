@@ -11,7 +11,7 @@ use cc_linear_language::LinearItem;
 use cc_ltl::{Block, Move, Operation, Register};
 use std::alloc::AllocError;
 
-/// Puts moves after the items, and an item after them, if there is one.
+/// Puts moves after the items, and an item after them, if there is one. Err: memory ran out.
 pub fn put(
     items: &mut Vec<LinearItem>,
     moves: &[Move],

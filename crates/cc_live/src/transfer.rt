@@ -131,7 +131,7 @@ fn add_all(before: &mut RegisterSet, registers: &[u32]) -> Result<(), AllocError
     Ok(())
 }
 
-/// The least live sets of a function, one for each node; with `strong`, the least strongly live sets.
+/// The least live sets of a function, one for each node; with `strong`, the least strongly live sets. Err: memory ran out.
 pub fn solve(alloc: Global, rtl: &Rtl, strong: bool) -> Result<Vec<RegisterSet>, AllocError>
     ensures long { IfOk result (λ sets. length sets.items ≡ length rtl.now.nodes) }
     ensures least { IfOk result (λ sets. AreLeastAs strong rtl.now.nodes (rows_at rtl.now.nodes sets.items)) }

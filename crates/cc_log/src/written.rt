@@ -80,7 +80,7 @@ fn write_line<W: Write>(
 }
 
 /// Writes the line of each command, or of each that is about this name: its number from 1 on, what it does, and for a unit the number of
-/// bytes of its source and the number of words of its code.
+/// bytes of its source and the number of words of its code. Err: the writer failed.
 pub fn write_log<W: Write>(
     commands: &[LibraryCommand],
     name: Option<&Name>,

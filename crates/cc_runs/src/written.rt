@@ -18,7 +18,7 @@ fn write_count<W: Write>(executed: Option<u64>, writer: &mut W) -> io::Result<()
     }
 }
 
-/// Writes the output words, one on each line, how the run ended, and the line of its count, if that was asked for.
+/// Writes the output words, one on each line, how the run ended, and the line of its count, if that was asked for. Err: the writer failed.
 #[tactic(auto, using(cc_answers::proofs::Writing::written_on))]
 pub fn write_counted_run<W: Write>(done: &CountedRun, writer: &mut W) -> io::Result<()>
     ensures { OnOk result (Appends (W.contents writer.old) (W.contents writer.new) (counted_text done.now)) }

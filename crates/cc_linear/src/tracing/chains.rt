@@ -180,7 +180,7 @@ fn listed(alloc: Global, chains: &Chains, found: &[usize]) -> Result<Vec<usize>,
     Ok(order)
 }
 
-/// The labels that were found, chain by chain.
+/// The labels that were found, chain by chain. Err: memory ran out.
 pub fn in_chains(alloc: Global, graph: &[Ways], found: &[usize]) -> Result<Vec<usize>, AllocError>
     requires graph { InGraph graph.now }
     requires inside { All (λ l. l < length graph.now) found.now }

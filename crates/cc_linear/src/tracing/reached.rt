@@ -42,7 +42,7 @@ fn find_ways(seen: &mut Vec<bool>, found: &mut Vec<usize>, ways: Ways) -> Result
     }
 }
 
-/// The entry and all labels to which it leads.
+/// The entry and all labels to which it leads. Err: memory ran out.
 pub fn reached(alloc: Global, graph: &[Ways], entry: usize) -> Result<Vec<usize>, AllocError>
     requires graph { InGraph graph.now }
     requires entry { entry < length graph.now }
