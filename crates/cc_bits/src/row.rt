@@ -90,7 +90,7 @@ impl BitRow {
         Ok(BitRow { words })
     }
 
-    /// Puts a number in. If memory runs out, the set stays as it was.
+    /// Adds a number. If memory runs out, the set stays as it was.
     pub fn insert(&mut self, k: usize) -> Result<(), AllocError>
         requires { k / 64 < most_words }
         ensures added { IfOk result (λ _. (i : ℕ) → holds self.new i ≡ (k == i || holds self.old i)) }
@@ -103,7 +103,7 @@ impl BitRow {
         Ok(())
     }
 
-    /// Takes a number out, if it is in.
+    /// Removes a number, if it is in the set.
     pub fn remove(&mut self, k: usize)
         ensures removed { (i : ℕ) → holds self.new i ≡ (holds self.old i && not (k == i)) }
         ensures long { length self.new ≡ length self.old }
@@ -137,7 +137,7 @@ impl BitRow {
         Ok(())
     }
 
-    /// If the number of this bit of this word is in, replaces it by another number. If memory runs out, it may be missing.
+    /// If the number of this bit of this word is in the set, replaces it by another number. If memory runs out, it may be missing.
     fn move_bit(&mut self, at: usize, bit: usize, to: usize) -> Result<(), AllocError>
         requires at { at < length self.old }
         requires bit { bit < 64 }
@@ -153,7 +153,7 @@ impl BitRow {
         Ok(())
     }
 
-    /// Takes out all numbers of one word.
+    /// Removes all numbers of one word.
     pub(crate) fn clear_word(&mut self, at: usize)
         ensures cleared { (i : ℕ) → holds self.new i ≡ (holds self.old i && not (at == i / 64)) }
         ensures long { length self.new ≡ length self.old }
@@ -163,7 +163,7 @@ impl BitRow {
         }
     }
 
-    /// Puts in the numbers of the word at this index whose bits are set in `word`. If memory runs out, the set stays as it was.
+    /// Adds the numbers of the word at this index whose bits are set in `word`. If memory runs out, the set stays as it was.
     pub(crate) fn put_word(&mut self, at: usize, word: u64) -> Result<(), AllocError>
         requires { at < most_words }
         ensures put { IfOk result (λ _. (i : ℕ) → holds self.new i ≡ (holds self.old i || (at == i / 64 && bit_at word (i % 64) == 1))) }
@@ -175,7 +175,7 @@ impl BitRow {
         Ok(())
     }
 
-    /// Puts in all numbers of another set, and answers whether any of them was missing. If memory runs out, the set stays as it was.
+    /// Adds all numbers of another set, and answers whether any of them was missing. If memory runs out, the set stays as it was.
     pub fn join(&mut self, other: &BitRow) -> Result<bool, AllocError>
         ensures both { IfOk result (λ _. (k : ℕ) → holds self.new k ≡ (holds self.old k || holds other.now k)) }
         ensures unchanged { IfOk result (λ rose. IsFalse rose → self.new ≡ self.old) }

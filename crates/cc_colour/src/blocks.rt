@@ -27,7 +27,7 @@ pub struct Placed<'a> {
     pub sole: &'a [Option<usize>],
 }
 
-/// A word that is fetched from its slot to a register before the node in front of the one that takes it.
+/// A word that is fetched from its slot into a register one node before the one that takes it.
 #[derive(Clone, Copy)]
 struct Early {
     slot: u16,

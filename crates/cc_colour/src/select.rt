@@ -157,7 +157,8 @@ impl Choice {
         }
     }
 
-    // Counts the wishes of interfering webs that have no register yet against a web, and answers the registers of the others.
+    // Counts against each register the wishes that interfering webs without a register have for it, and answers the registers of the
+    // others.
     fn count_beside(&self, scores: &mut Scores, graph: &Graph, beside: &[u64]) -> Registers {
         let mut taken = 0;
         let mut base = 0u32;
@@ -179,7 +180,7 @@ impl Choice {
         taken
     }
 
-    // Counts the wishes of an interfering web against, if nothing was chosen for it yet.
+    // Counts the wishes of an interfering web against the registers, if nothing was chosen for it yet.
     fn count_against(&self, scores: &mut Scores, graph: &Graph, other: u32) {
         if let Some(known) = self.undecided(graph, other) {
             self.count_wishes(scores, graph, known, true);

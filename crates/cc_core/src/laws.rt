@@ -19,11 +19,11 @@ ghost use Rattle.cc_core.specs.Turns.{BeginsSpelled, IsNoSubmit, IsNoTake, CanBe
 
 use crate::build::Build;
 
-/// For any rules by which units are made, any pieces that workers hand in, and any events, from a fresh disk or from an opened one with any
-/// units on it, if each command that goes into the order has a spelling, as the types of names and units keep. Whatever a crash leaves of
-/// the disk survives, and the live map is what the order gives. In a crashed state the recovery is possible, and otherwise only another
-/// crash. A commit leaves exactly the bytes of its record. Between two commits a rewrite is always possible, since it never takes more room
-/// than the records do, and it leaves one Add per name.
+/// Holds for any rules by which units are made, any pieces that workers hand in, and any events, from a fresh disk or from an opened one
+/// with any units on it, if each command that goes into the order has a spelling, as the types of names and units keep. Whatever a crash
+/// leaves of the disk survives, and the live map is what the order gives. In a crashed state the recovery is possible, and otherwise only
+/// another crash. A commit leaves exactly the bytes of its record. Between two commits a rewrite is always possible, since it never takes
+/// more room than the records do, and it leaves one Add per name.
 pub fn survival_law<B: Build>()
     ensures survives { (first new : Contents B.Piece) (events : List (Event B.Piece))
         → IsBeginning first → Run B.rules IsAnyPiece first events new → EachImageSurvives new.core }

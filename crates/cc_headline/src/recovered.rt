@@ -17,9 +17,9 @@ use cc_emit::Piece;
 use cc_link::linked_units_follow;
 use std::alloc::Global;
 
-/// For every interleaving of clients, workers and committer, with crashes and failures of the disk at any point, starting from a fresh disk
-/// or from one that was opened with a library on it. Each command that goes into the order has a spelling, as the types of names and units
-/// keep.
+/// Holds for every interleaving of clients, workers and committer, with crashes and failures of the disk at any point, starting from a
+/// fresh disk or from one that was opened with a library on it. Each command that goes into the order has a spelling, as the types of names
+/// and units keep.
 pub fn headline<B: Build>()
     // Whatever a crash leaves of the disk recovers: to the library of a prefix of the commands in the order of their commits, which has
     // every acknowledged command and lacks at most the last one. This holds for any build, so also for the one that compiles, whatever

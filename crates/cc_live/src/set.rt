@@ -52,7 +52,7 @@ impl RegisterSet {
         })
     }
 
-    /// Puts a register in. If memory runs out, the set stays as it was.
+    /// Adds a register. If memory runs out, the set stays as it was.
     pub(crate) fn insert(&mut self, register: u32) -> Result<(), AllocError>
         ensures added { IfOk result (λ _. (r : ℕ) → holds self.new r ≡ (register == r || holds self.old r)) }
         ensures leaves { IfErr result (λ _. self.new ≡ self.old) }
@@ -61,7 +61,7 @@ impl RegisterSet {
         Ok(())
     }
 
-    /// Takes a register out.
+    /// Removes a register.
     pub(crate) fn remove(&mut self, register: u32)
         ensures { (r : ℕ) → holds self.new r ≡ (holds self.old r && not (register == r)) }
     {
@@ -90,7 +90,7 @@ impl Model for Liveness {
 }
 
 impl Liveness {
-    /// Takes these sets.
+    /// These live sets, one for each node.
     pub(crate) fn new(sets: Vec<RegisterSet>) -> Liveness
         ensures { result ≡ sets.items }
     {

@@ -56,7 +56,7 @@ fn live_before(
     Ok(before)
 }
 
-/// Takes out the register that gets a node's result.
+/// Removes the register that gets a node's result.
 fn drop_result(before: &mut RegisterSet, node: &Node)
     ensures { (r : ℕ) → holds before.new r ≡ (holds before.old r && not (is_result (result_of (node_of node.now)) r)) }
 {
@@ -103,7 +103,7 @@ fn result(node: &Node) -> Option<u32>
     }
 }
 
-/// Puts in what a node reads.
+/// Adds what a node reads.
 fn add_reads(before: &mut RegisterSet, node: &Node) -> Result<(), AllocError>
     ensures { IfOk result (λ _. (r : ℕ) → holds before.new r ≡ (among (reads (node_of node.now)) r || holds before.old r)) }
 {
@@ -121,7 +121,7 @@ fn add_reads(before: &mut RegisterSet, node: &Node) -> Result<(), AllocError>
     }
 }
 
-/// Puts some registers in.
+/// Adds some registers.
 fn add_all(before: &mut RegisterSet, registers: &[u32]) -> Result<(), AllocError>
     ensures { IfOk result (λ _. (r : ℕ) → holds before.new r ≡ (among registers.now r || holds before.old r)) }
 {

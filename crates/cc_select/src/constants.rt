@@ -32,7 +32,7 @@ fn stays(step: &Step, behind: Registers) -> bool
     }
 }
 
-/// The steps that stay, if these registers are live after each of them. Err: memory ran out.
+/// The steps that stay, given the registers that are live after each of them. Err: memory ran out.
 pub(crate) fn without_unread(
     alloc: Global,
     steps: &[Step],

@@ -126,7 +126,8 @@ fn branch_at(table: &LiveTable, steps: &[Step], behind: &[Registers], at: usize)
     branch_on(&steps[at], test)
 }
 
-/// The steps with such branches, if these registers are live after each step. Err: memory ran out.
+/// The steps, with comparisons and the tests of their values joined into branches, given the registers that are live after each step. Err:
+/// memory ran out.
 pub(crate) fn fused(
     alloc: Global,
     table: &LiveTable,

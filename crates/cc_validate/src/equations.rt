@@ -74,7 +74,7 @@ impl Equations {
         })
     }
 
-    /// Puts an equation in. If memory runs out, the set stays as it was.
+    /// Adds an equation. If memory runs out, the set stays as it was.
     pub fn add(&mut self, e: Equation) -> Result<(), AllocError>
         ensures added { IfOk result (λ _. AreWith (e ∷ []) self.old self.new) }
         ensures leaves { IfErr result (λ _. self.new ≡ self.old) }
@@ -83,7 +83,7 @@ impl Equations {
         Ok(())
     }
 
-    /// Puts in all equations of another set, and answers whether any of them was missing. If memory runs out, the set stays as it was.
+    /// Adds all equations of another set, and answers whether any of them was missing. If memory runs out, the set stays as it was.
     pub fn join(&mut self, other: &Equations) -> Result<bool, AllocError>
         ensures both { IfOk result (λ _. Equivalent Below (Some self.new) (join_of (Some self.old) (Some other.now))) }
         ensures unchanged { IfOk result (λ rose. IsFalse rose → self.new ≡ self.old) }
@@ -116,7 +116,7 @@ impl Equations {
         Ok(Equations { bits })
     }
 
-    /// Takes an equation out.
+    /// Removes an equation.
     pub fn remove(&mut self, e: Equation)
         ensures { AreLeft (λ x. e.register == x.register && same_location e.location x.location) self.old self.new }
     {
@@ -185,7 +185,7 @@ fn carry_at_once(alloc: Global, bits: &BitRows, moves: &[Move]) -> Result<BitRow
     Ok(made)
 }
 
-/// Puts in the bits of row r, after those of the rows before it.
+/// Adds the bits of row r, after those of the rows before it.
 fn put_row(
     bits: &BitRows,
     r: usize,
