@@ -20,4 +20,5 @@ pub mod Function
 pub mod Piece
 -- Worked examples of emission, by computation. No contract depends on them.
 pub mod rows
+-- for private contracts and proofs only
 pub mod internal

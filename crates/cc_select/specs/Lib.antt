@@ -8,8 +8,9 @@ pub mod Known
 pub mod Near
 -- tests that go before labels and into jumps
 pub mod Threading
--- which registers are live, and the table of labels
+-- which registers are live before a step
 pub mod Live
+-- the registers that are live at labels, found by sweeps
 pub mod Table
 -- the steps of a function's items
 pub mod Selection
