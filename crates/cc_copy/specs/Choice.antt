@@ -33,7 +33,7 @@ IsNotChosen units names fault.OutOfMemory = Unit {0}
 abbrev pub IsAuditOf : Units → (name : List ℕ) → Audit → Type 0
 IsAuditOf units name audit = (unit : StoredUnit) × (get units name ≡ Some unit) × AuditSays unit.source unit.certificate unit.image audit
 
--- the same for each of these names
+-- the results of an audit of the units with these names, one for each name
 abbrev pub AreAudits : Units → (names : List (List ℕ)) → List Audit → Type 0
 AreAudits units [] [] = Unit {0}
 AreAudits units [] (audit ∷ audits) = ⊥

@@ -58,7 +58,7 @@ operation_on_zero Slt a = Some (compares Blt 0 a)
 operation_on_zero Sltu a = Some (compares Bne a 0)
 operation_on_zero operation a = None
 
--- the same for a recipe
+-- the condition under which a recipe gives a word that is not 0
 abbrev pub against_zero : WordRecipe → (from : ℕ) → Option Condition
 against_zero (WithImmediate o n) a = immediate_against_zero o n a
 against_zero (ZeroOfImmediate o n) a = option_map opposed (immediate_against_zero o n a)

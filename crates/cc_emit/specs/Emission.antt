@@ -260,8 +260,8 @@ load_at known width to address = upper_items known address ++ load_element width
 abbrev pub store_at : Remembered → Width → (from address : ℕ) → List PieceItem
 store_at known width from address = upper_items known address ++ store_element width (base_register known) from (part_of known address) ∷ []
 
--- the items of a step at a place; `known` is how much of its address is there; a nearby element is one of an object that begins further on
--- by that much
+-- the items of a step at a place; `known` is how much of its address is there; a nearby element is an element of an object that begins that
+-- much further on
 abbrev pub items_of_step : (base : ℕ → ℕ) → Frame → (near : ℕ → Bool) → (labels : ℕ → ℕ) → (place : ℕ) → Remembered → Step → List PieceItem
 items_of_step base f near labels place known (One item) = items_of_one base f near labels place known item
 items_of_step base f near labels place known (Immediate operator to from word) = word_recipe_items (word_recipe operator word) to from
@@ -405,7 +405,7 @@ emitted base f near labels long place [] = []
 emitted base f near labels long place (s ∷ steps) =
     items_of base f (near long) labels place s ++ emitted base f near labels (long + long_size f s) (place + size f (near long) s) steps
 
--- the same in a frame
+-- the items of a function's code: those of its steps, after the prologue
 abbrev pub framed_items : (base : ℕ → ℕ) → Frame → List Addressed → List PieceItem
 framed_items base f steps =
     prologue f ++ emitted base f (is_near f steps) (short_place f (is_near f steps) 0 (prologue_size f) steps) 0 (prologue_size f) steps

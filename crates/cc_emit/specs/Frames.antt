@@ -13,7 +13,7 @@ pub record Frame : Type 0 where
   pub slots : ℕ
   pub saved : List ℕ
 
--- in bytes
+-- the size of a frame in bytes
 abbrev pub frame_size : Frame → ℕ
 frame_size f = 4 * (f.slots + length f.saved)
 

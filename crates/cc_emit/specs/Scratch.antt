@@ -55,8 +55,8 @@ is_address (Some a) width index sum_base = same_width a.width width && ((a.index
 abbrev pub is_in_reach : (address : ℕ) → Bool
 is_in_reach a = nat_le globals_from a && nat_lt a (globals_from + 4096)
 
--- of the address of an element whose number is in a register; `sets_pointer` says whether x3 is the global pointer. An address in x5 needs
--- no instruction, so it has priority
+-- how much is there of the address of an element whose number is in a register; `sets_pointer` says whether x3 is the global pointer. An
+-- address in x5 needs no instruction, so it has priority
 abbrev pub known_of : (sets_pointer : Bool) → Scratch → Width → (base index : ℕ) → Remembered
 known_of sets_pointer k width base index =
     if is_address k.address width index (high base * 2 ^ 12) then Element
@@ -64,7 +64,7 @@ known_of sets_pointer k width base index =
     else if is_upper k.upper (high base) then Upper
     else Nothing
 
--- of an address
+-- how much is there of a known address
 abbrev pub known_at : (sets_pointer : Bool) → Scratch → (address : ℕ) → Remembered
 known_at sets_pointer k address = if sets_pointer && is_in_reach address then ByPointer else if is_upper k.upper (high address) then Upper else Nothing
 

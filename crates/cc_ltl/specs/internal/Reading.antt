@@ -45,7 +45,7 @@ both f g bytes = f bytes >>= λ a. g a.1 >>= λ b. Some ((a.0, b.0), b.1)
 abbrev pub mapped : {A B : Type 0} → (A → B) → Reader A → Reader B
 mapped make f bytes = f bytes >>= λ a. Some (make a.0, a.1)
 
--- the same this many times
+-- this many values, one after the other
 unfoldable pub times : {A : Type 0} → Reader A → ℕ → Reader (List A)
 times f zero bytes = Some ([], bytes)
 times f (suc n) bytes = f bytes >>= λ first. times f n first.1 >>= λ others. Some (first.0 ∷ others.0, others.1)

@@ -16,7 +16,7 @@ FallsIn rank (Definition s body) = InStatements (λ g. rank g < rank s.name.byte
 FallsIn rank (Declaration s) = Unit {0}
 FallsIn rank (Objects t os) = Unit {0}
 
--- so does each of some declarations
+-- each function that these declarations define calls only functions of lower ranks
 abbrev pub AllFall : (rank : List ℕ → ℕ) → List External → Type 0
 AllFall rank [] = Unit {0}
 AllFall rank (e ∷ es) = FallsIn rank e × AllFall rank es
