@@ -29,7 +29,7 @@ fn append_of(alloc: Global, store: &Store, command: &LibraryCommand) -> Result<C
     store.append(alloc, &body)
 }
 
-// Does the write of the body. The bytes are made before the device is called.
+// Writes the body. The bytes are made before the device is called.
 pub(crate) fn write_body(alloc: Global, core: &mut Core) -> Answer
     requires { IsReady core.old }
     ensures { Answers (Advances due.WriteBody core.old) result core.old core.new }
@@ -46,7 +46,7 @@ pub(crate) fn write_body(alloc: Global, core: &mut Core) -> Answer
     Ok(None)
 }
 
-// Does the sync after it.
+// Syncs the body.
 pub(crate) fn sync_body(core: &mut Core) -> Answer
     requires { IsReady core.old }
     ensures { Answers (Advances due.SyncBody core.old) result core.old core.new }
@@ -59,7 +59,7 @@ pub(crate) fn sync_body(core: &mut Core) -> Answer
     Ok(None)
 }
 
-// Does the write that opens the gate.
+// Writes the gate open.
 pub(crate) fn write_gate(alloc: Global, core: &mut Core) -> Answer
     requires { IsReady core.old }
     ensures { Answers (Advances due.WriteGate core.old) result core.old core.new }
@@ -76,7 +76,7 @@ pub(crate) fn write_gate(alloc: Global, core: &mut Core) -> Answer
     Ok(None)
 }
 
-// Does the sync after it: the record now belongs to the journal.
+// Syncs the gate: the record now belongs to the journal.
 pub(crate) fn sync_gate(core: &mut Core) -> Answer
     requires { IsReady core.old }
     ensures { Answers (Advances due.SyncGate core.old) result core.old core.new }

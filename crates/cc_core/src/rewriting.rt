@@ -12,7 +12,7 @@ use crate::events::Answer;
 use crate::fault::CoreFault;
 use std::alloc::Global;
 
-// Does the first write: one Add per name, and the closed gate, to the area that is not in use. They always fit, since they never take more
+// Makes the first write: one Add per name, and the closed gate, to the area that is not in use. They always fit, since they never take more
 // room than the records that represent the map.
 pub(crate) fn rewrite_all(alloc: Global, core: &mut Core) -> Answer
     requires { IsReady core.old }
@@ -30,7 +30,7 @@ pub(crate) fn rewrite_all(alloc: Global, core: &mut Core) -> Answer
     Ok(None)
 }
 
-// Does the sync after it.
+// Syncs the new records.
 pub(crate) fn sync_all(core: &mut Core) -> Answer
     ensures { Answers (RewriteAdvances left.SyncAll core.old) result core.old core.new }
 {
@@ -42,7 +42,7 @@ pub(crate) fn sync_all(core: &mut Core) -> Answer
     Ok(None)
 }
 
-// Does the write of the area byte.
+// Writes the area byte.
 pub(crate) fn write_area(core: &mut Core) -> Answer
     requires { IsReady core.old }
     ensures { Answers (RewriteAdvances left.WriteArea core.old) result core.old core.new }
@@ -58,7 +58,7 @@ pub(crate) fn write_area(core: &mut Core) -> Answer
     Ok(None)
 }
 
-// Does the sync after it: the other area is now in use, and its records are the journal's.
+// Syncs the area byte: the other area is now in use, and its records are the journal's.
 pub(crate) fn sync_area(core: &mut Core) -> Answer
     requires { IsReady core.old }
     ensures { Answers (RewriteAdvances left.SyncArea core.old) result core.old core.new }

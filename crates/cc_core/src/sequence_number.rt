@@ -32,7 +32,7 @@ impl SequenceNumber {
         SequenceNumber {}
     }
 
-    /// The same number again.
+    /// A copy of the number.
     pub(crate) fn same(&self) -> SequenceNumber
         ensures { result ≡ self.now }
     {
