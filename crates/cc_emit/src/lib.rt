@@ -4,10 +4,10 @@
 //! that `cc_select` selects; which items stand for a step is defined in `specs/Emission.antt`, which branch stands for a comparison in
 //! `specs/Branches.antt`, what a piece owes on the machine in `specs/Contract.antt`.
 //!
-//! `emitting` is the pass. `bases` has the objects' addresses, `frame` which registers are saved and where, `loops` which steps are
-//! in loops, `scratch` whether `x3` is set and what the scratch registers hold between steps, so that each step is `addressed`, `early` what
-//! stands before the frame, `tables` the places of labels and which branches are near; `emission` puts the items of each step, with the
-//! help of `constants`, `recipe`, `operators`, `condition`, `branches` and `instructions`.
+//! `emitting` is the pass. `bases` has the objects' addresses, `frame` which registers are saved and where, `loops` which steps are in
+//! loops, `scratch` whether `x3` is set and what the scratch registers hold between steps, so that each step is `addressed`, `early` what
+//! is before the frame, `tables` the places of labels and which branches are near; `emission` puts the items of each step, with the help of
+//! `constants`, `recipe`, `operators`, `condition`, `branches` and `instructions`.
 #![tactic(auto)]
 
 mod addressed;
