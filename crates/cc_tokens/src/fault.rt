@@ -19,7 +19,7 @@ pub enum SyntaxFault {
     /// 3: a number that is not a constant of the profile.
     #[error("BadConstant")]
     BadConstant(Place),
-    /// 4: a constant that is too large for any type.
+    /// 4: a constant that is too large: above 2147483647 if it is decimal and has no suffix, or above 4294967295.
     #[error("ConstantTooLarge")]
     ConstantTooLarge(Place),
     /// 5: a token that cannot follow the ones before it in any unit. The end of the text counts as a token.

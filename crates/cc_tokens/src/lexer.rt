@@ -67,7 +67,8 @@ pub fn next_token(text: &[u8], at: usize) -> NextToken
 /// Refuses with 7 (SourceTooLarge) a text of more than 65,536 bytes, whatever else is wrong with it. Otherwise it refuses with
 /// the first lexical error of the text, at the error's first byte: 1 (BadByte) for a byte that begins no token or a line splice
 /// in a comment, 2 (UnclosedComment) for a comment that is never closed, 3 (BadConstant) for a number that is not a constant, 4
-/// (ConstantTooLarge) for a constant too large for any type. It refuses with 40 (OutOfMemory) if memory for the tokens runs out.
+/// (ConstantTooLarge) for a constant above 2147483647 that is decimal and has no suffix, or for any above 4294967295. It refuses
+/// with 40 (OutOfMemory) if memory for the tokens runs out.
 pub fn tokens(alloc: Global, text: &[u8]) -> Result<Vec<Token>, SyntaxFault>
     ensures fits { IfOk result (λ ts. length text.now ≤ most_bytes) }
     ensures ordered { IfOk result (λ ts. AreInOrder 0 ts.items (length text.now)) }

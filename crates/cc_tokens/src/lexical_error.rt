@@ -9,6 +9,6 @@ pub enum LexicalError {
     UnclosedComment,
     /// A number that is not a constant of the profile.
     BadConstant,
-    /// A constant that is too large for any type.
+    /// A constant that is too large: above 2147483647 if it is decimal and has no suffix, or above 4294967295.
     ConstantTooLarge,
 }
