@@ -28,6 +28,9 @@ fn three(alloc: Global) -> Result<UnitMap, Fail> {
 
 // How many bytes the header of a disk says that an area has.
 fn area_of(disk: &mut MemoryDisk) -> Result<u32, Fail> {
+    if disk.size() < 16 {
+        return Err(Fail::from("no header"));
+    }
     let mut header = [0u8; 16];
     disk.read_at(0, &mut header)?;
     let [_, _, _, _, _, _, _, _, a, b, c, d, _, _, _, _] = header;

@@ -1,7 +1,7 @@
 // Which command lines ask for JSON, and which for runs that are watched.
 
 use crate::words::are_refused;
-use cc_command_line::{Covered, Invocation, Traced, Work, read_invocation};
+use cc_command_line::{Covered, Work, read_invocation};
 use std::alloc::Global;
 
 // Whether a command line asks for JSON; none if it is refused.
@@ -65,20 +65,17 @@ fn json_words(rt: HostRuntime) {
 // How many things a command line asks `trace` to keep, of how many steps and words, in how many files; none if it asks for no trace.
 fn traced(alloc: Global, words: &'static [&'static str]) -> Option<(u64, usize, u32, usize)> {
     match read_invocation(alloc, words) {
-        Ok(
-            Invocation {
-                work: Work::Trace(Traced { steps, words, last }),
-                files,
-                ..
-            },
-        ) => {
-            let found = (steps, words.len(), last, files.len());
-            drop(words);
-            drop(files);
-            Some(found)
+        Ok(invocation) => {
+            let files = invocation.files.len();
+            let found = match &invocation.work {
+                Work::Trace(asked) => Some((asked.steps, asked.words.len(), asked.last, files)),
+                _ => None,
+            };
+            drop(invocation);
+            found
         }
-        other => {
-            drop(other);
+        Err(error) => {
+            drop(error);
             None
         }
     }
@@ -106,28 +103,28 @@ fn trace_words(rt: HostRuntime) {
     );
 }
 
+// Whether runs are asked for whose inputs are in this file.
+fn has_lines(asked: &Covered, name: &str) -> bool {
+    let is_named = match &asked.lines {
+        Some(lines) => lines.as_str() == name,
+        None => false,
+    };
+    is_named && asked.steps == 5 && asked.words.is_empty()
+}
+
 // Whether a command line asks `cover` for the inputs of this file.
 fn covers_lines(alloc: Global, words: &'static [&'static str], name: &str) -> bool {
     match read_invocation(alloc, words) {
-        Ok(
-            Invocation {
-                work: Work::Cover(
-                    Covered {
-                        steps,
-                        words,
-                        lines: Some(lines),
-                    },
-                ),
-                ..
-            },
-        ) => {
-            let same = steps == 5 && words.is_empty() && lines.as_str() == name;
-            drop(words);
-            drop(lines);
+        Ok(invocation) => {
+            let same = match &invocation.work {
+                Work::Cover(asked) => has_lines(asked, name),
+                _ => false,
+            };
+            drop(invocation);
             same
         }
-        other => {
-            drop(other);
+        Err(error) => {
+            drop(error);
             false
         }
     }
