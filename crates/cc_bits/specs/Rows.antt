@@ -35,7 +35,7 @@ pub record AreRows (width rows : ℕ) (words : List ℕ) : Type 0 where
   pub low : rows ≤ most_rows
   pub few : length words ≤ width * rows
 
--- a line of bits of which one has moved to another place; a table in whose rows the bit of one column has moved; one in which the bits of
+-- a line of bits in which one has moved to another place; a table in whose rows the bit of one column has moved; one in which the bits of
 -- one row have moved
 abbrev pub moved : (from to : ℕ) → (ℕ → Bool) → (place : ℕ) → Bool
 moved from to bit k = if to == k then bit to || bit from else bit k && not (from == k)

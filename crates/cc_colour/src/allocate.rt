@@ -162,7 +162,7 @@ fn coloured_pieces(
     Ok(None)
 }
 
-// Marks the whole webs that calls keep and of which some piece should have a register and has none. Answers whether there was one.
+// Marks the whole webs that calls keep and that have a piece which should have a register and has none. Answers whether there was one.
 fn cut_more(
     whole: &Graph,
     choice: &Choice,

@@ -132,7 +132,7 @@ impl<'a> Places<'a> {
         Ok(())
     }
 
-    // The whole webs of which some piece needs a slot.
+    // The whole webs with a piece that needs a slot.
     fn wanted_slots(
         &self,
         alloc: Global,

@@ -1,2 +1,2 @@
--- The same for commands and images, before it is said about a disk.
+-- The same for commands and images, before it is stated for a disk.
 pub mod Steps

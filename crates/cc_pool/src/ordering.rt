@@ -44,7 +44,7 @@ pub(crate) fn gather<R: Wait>(
     Ok(Came { pieces, refusals })
 }
 
-// The fault for a function of which no piece came: the reason that came for it, else 41.
+// The fault for a function whose piece did not come: the reason that came for it, else 41.
 fn reason(mode: Mode, text: &[u8], function: usize, refusals: &[Refusal]) -> PoolFault
     ensures { IsReason mode text.now function result }
 {
@@ -83,7 +83,7 @@ fn piece_of(pieces: &mut Vec<Piece>, mode: Mode, text: &[u8], function: usize) -
     Some(pieces.swap_remove(at))
 }
 
-// The pieces of this many functions of a text in a mode, in their order. Else the fault for the first function of which none came.
+// The pieces of this many functions of a text in a mode, in their order. Else the fault for the first function whose piece did not come.
 pub(crate) fn in_order(
     alloc: Global,
     mode: Mode,

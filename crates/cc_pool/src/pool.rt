@@ -194,9 +194,9 @@ impl<N: Queued + Send + Sync + 'static> Pool<N> {
     /// Waits for the pieces of a job: one compiled piece of its text and mode for each function, in the order of their definitions. If
     /// memory runs out, the pieces that came are dropped.
     ///
-    /// Refusals are for the first function of which no piece came: 22 or 24 if a worker refused it, else 41; and 40 if memory ran out. Each
-    /// function before one that was refused by 22 or 24 has a piece. 22 means that the function is too long; no clause says that a function
-    /// with 24 has no piece.
+    /// Refusals are for the first function whose piece did not come: 22 or 24 if a worker refused it, else 41; and 40 if memory ran out.
+    /// Each function before one that was refused by 22 or 24 has a piece. 22 means that the function is too long; no clause says that a
+    /// function with 24 has no piece.
     pub fn collect<R: Wait>(
         &self,
         rt: &R,

@@ -26,7 +26,7 @@ lean at (step ∷ steps) = step ∷ lean at steps
 
 -- ---- comparisons and tests become one
 
--- a test: of which register, whether for nonzero, and where it leads
+-- a test: its register, whether it is for nonzero, and where it leads
 pub record Test : Type 0 where
   pub register : ℕ
   pub nonzero : Bool

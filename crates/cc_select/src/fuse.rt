@@ -15,7 +15,7 @@ use cc_ltl::Register;
 use cc_words::{Binary, Unary};
 use std::alloc::{AllocError, Global};
 
-// A test: of which register, whether for nonzero, and where it leads.
+// A test: its register, whether it is for nonzero, and where it leads.
 #[derive(Clone, Copy)]
 struct Test {
     register: Register,

@@ -237,9 +237,9 @@ impl<N: Named + Send + Sync + 'static, D: Disk> Service<N, D> {
 
     /// Compiles a text in a mode and puts its unit in the library: with a name that has none, or in place of the name's unit.
     ///
-    /// Refusals, in this order: 33; 7, 1 to 6, 11 to 21 for the text; for the first function of which no piece came 22 or 24 if a worker
-    /// refused it, else 41; 25; then under the lock 36, 39, 31 (for `Add`) and 32 (for `Replace`), 34, 35. 40 if memory ran out. Of these
-    /// 31 and 32 have a receipt. The others leave number and receipts of the client as they were, but its pass may have sent some of the
+    /// Refusals, in this order: 33; 7, 1 to 6, 11 to 21 for the text; for the first function whose piece did not come, 22 or 24 if a worker
+    /// refused it, else 41; 25; then under the lock 36, 39, 31 (for `Add`) and 32 (for `Replace`), 34, 35. 40 if memory ran out. Only 31
+    /// and 32 come with a receipt. The others leave number and receipts of the client as they were, but its pass may have sent some of the
     /// functions.
     pub fn put_in<R: Wait>(
         &self,
@@ -307,9 +307,9 @@ impl<N: Named + Send + Sync + 'static, D: Disk> Service<N, D> {
 
     /// Waits for the functions of a prepared text, and puts its unit in the library, as `put_in` does in that mode.
     ///
-    /// Refusals, in this order: 33; for the first function of which no piece came 22 or 24 if a worker refused it, else 41; 25; then under
-    /// the lock those of `put`. 40 if memory ran out. Of these 31 and 32 have a receipt; the others leave number and receipts of the client
-    /// as they were. The prepared text is used up in any case.
+    /// Refusals, in this order: 33; for the first function whose piece did not come, 22 or 24 if a worker refused it, else 41; 25; then
+    /// under the lock those of `put`. 40 if memory ran out. Only 31 and 32 come with a receipt; the others leave number and receipts of the
+    /// client as they were. The prepared text is used up in any case.
     pub fn put_prepared<R: Wait>(
         &self,
         rt: &R,
@@ -380,7 +380,7 @@ impl<N: Named + Send + Sync + 'static, D: Disk> Service<N, D> {
     /// change happen under one lock: in the history no call is between the look-up and the change.
     ///
     /// Refusals, in this order: those of `put_in` up to 25; then under the lock 36, 39, 32, 60 if the name's unit has another source, 34,
-    /// 35. 40 if memory ran out. Of these 32 and 60 have a receipt, that of the look-up; after 34, 35 and a 40 of the change the client has
+    /// 35. 40 if memory ran out. 32 and 60 come with a receipt, that of the look-up; after 34, 35 and a 40 of the change the client has
     /// that receipt too. The others leave number and receipts of the client as they were. The pass may have sent some of the functions.
     pub fn update_in<R: Wait>(
         &self,
@@ -508,8 +508,8 @@ impl<N: Named + Send + Sync + 'static, D: Disk> Service<N, D> {
 
     /// Removes a name and its unit.
     ///
-    /// Refusals, in this order: 33, 36, 39, 32, 34, 35. 40 if memory ran out. Of these 32 has a receipt; the others leave the client as it
-    /// was.
+    /// Refusals, in this order: 33, 36, 39, 32, 34, 35. 40 if memory ran out. Only 32 comes with a receipt; the others leave the client as
+    /// it was.
     pub fn withdraw<R: Wait>(
         &self,
         rt: &R,
@@ -551,7 +551,7 @@ impl<N: Named + Send + Sync + 'static, D: Disk> Service<N, D> {
 
     /// The unit of a name.
     ///
-    /// Refusals, in this order: 33, 39, 32. 40 if memory ran out. Of these 32 has a receipt; the others leave the client as it was.
+    /// Refusals, in this order: 33, 39, 32. 40 if memory ran out. Only 32 comes with a receipt; the others leave the client as it was.
     pub fn get<R: Wait>(
         &self,
         rt: &R,

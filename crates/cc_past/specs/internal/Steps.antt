@@ -1,4 +1,4 @@
--- The same for commands and images, before it is said about a disk.
+-- The same for commands and images, before it is stated for a disk.
 use Rattle.std.specs.Prelude.{◌≡◌, ◌⊎◌, ℕ, false, List}
 use Rattle.cc_library.specs.declared.command.LibraryCommand.{LibraryCommand}
 use Rattle.cc_library.specs.Name.{is_name}

@@ -1,4 +1,4 @@
--- Which piece is a function's, and the fault for one of which none came.
+-- Which piece is a function's, and the fault for a function whose piece did not come.
 use Rattle.std.specs.Prelude.{◌≡◌, ℕ, List}
 use Rattle.cc_ast.specs.Source.{source}
 use Rattle.cc_c_laws.specs.declared.mode.Mode.{Mode}
