@@ -12,7 +12,7 @@ ghost use Rattle.cc_session.specs.Telling.{SaysChange, SaysNames, SaysRunOn, Say
 ghost use Rattle.cc_session.specs.internal.Calls.{AuditsName, AuditsNames, CallsAndTells, DoesAndTells, DoesOr, RunsAndTells, TellsAudit, TellsRun, UpdatesIf};
 ghost use Rattle.cc_session.specs.internal.Steps.{IsDone, IsHalted, IsObeyed, IsShortOf};
 
-use crate::auditing::audit_found;
+use crate::auditing::{audit_found, explain_audit};
 use crate::held::Held;
 use crate::hints::Hints;
 use crate::patience::{Patience, run_in_slices};
@@ -475,8 +475,11 @@ impl<'a, N: Named + Send + Sync + 'static, H: Wait, D: Disk, P: Patience> Player
         ensures { TellsAudit self.now.mode name.now (Ok found) (W.contents answers.old) (W.contents answers.new) result }
     {
         match audit_found(self.alloc, self.mode, &found) {
-            Ok(audit) => match tell_audit(name, audit, answers) {
-                Ok(()) => Ok(true),
+            Ok(audited) => match tell_audit(name, audited.audit, answers) {
+                Ok(()) => {
+                    explain_audit(name, &found, &audited, explanations);
+                    Ok(true)
+                }
                 Err(fault) => Err(fault),
             },
             Err(_) => match tell_no_memory(answers, explanations) {
