@@ -1,4 +1,4 @@
--- What is written of an answer to a script, and how that may fail.
+-- What is written for an answer to a script, and how that may fail.
 use Rattle.std.specs.Prelude.{◌≡◌, ℕ, ◌==◌, if◌then◌else◌, List, [], ◌++◌, Option, Result, IfErr, OnOk, codes}
 use Rattle.std.specs.List.{flat_map}
 use Rattle.std.specs.Fmt.{decimal}
@@ -31,7 +31,7 @@ units_text names = flat_map unit_text names
 abbrev pub names_text : (names : List (List ℕ)) (number : ℕ) → List ℕ
 names_text names number = units_text names ++ number_text number
 
--- what an audit says
+-- the result of an audit
 abbrev pub said_text : Audit → List ℕ
 said_text Confirmed = line (codes " confirmed")
 said_text NoCertificate = line (codes " none")

@@ -1,4 +1,4 @@
--- What a call of a unit answers.
+-- The answer to a call of a unit.
 pub mod Call
 -- What is answered to line after line.
 pub mod Lines

@@ -13,29 +13,29 @@ use cc_rv32::image::Image;
 use std::alloc::Global;
 use std::io::{self, BufRead, ErrorKind, Write};
 
-/// What was answered to a line.
+/// How a line was answered.
 #[derive(Clone, Copy, Debug, Drop, PartialEq, Eq)]
 pub enum LineEnd {
-    /// The run on its words.
+    /// With the run on its words.
     Answered,
-    /// 50: it is no list of words.
+    /// 50: it is not a list of words.
     BadLine,
     /// 40: memory was refused.
     OutOfMemory,
 }
 
-/// What has become of the lines.
+/// How the lines ended.
 #[derive(Clone, Copy, Debug, Drop, PartialEq, Eq)]
 pub enum LinesEnd {
-    /// Each was a list of words, and its run was answered.
+    /// Each line was a list of words, and its run was answered.
     Answered,
-    /// A line was no list of words, or could not be read (53), or memory was refused (40): it is written so.
+    /// A line was not a list of words, or could not be read (53), or memory was refused (40): the answers say so.
     Refused,
     /// 54: an answer could not be written.
     Unwritten,
 }
 
-// Writes the line of a fault, and an empty one.
+// Writes the line of a fault, and an empty line.
 #[tactic(auto, using(cc_answers::proofs::Writing::written_on))]
 fn write_refusal<W: Write>(number: u32, writer: &mut W) -> io::Result<()>
     ensures { OnOk result (Appends (W.contents writer.old) (W.contents writer.new) (refusal_text number)) }
@@ -53,8 +53,8 @@ fn write_answer<W: Write>(run: &CountedRun, writer: &mut W) -> io::Result<()>
     writer.write_all(b"\n")
 }
 
-/// Runs an image on the words of a line, which is given without its newline, and writes what `run` would, and an empty line; the line of 50
-/// and an empty one where it is no list of words, that of 40 where memory was refused.
+/// Runs an image on the words of a line, which is given without its newline. Writes what `run` would write, and an empty line. If it is not
+/// a list of words, writes the line of fault 50 and an empty one; if memory was refused, that of fault 40.
 pub fn answer_line<W: Write>(
     alloc: Global,
     image: &Image,
@@ -156,8 +156,8 @@ fn end_after(end: LinesEnd, line: LineEnd) -> Option<LinesEnd>
     }
 }
 
-/// Runs an image on the words of each line of a reader, as `answer_line` does, and flushes each answer before it reads the next line. A line
-/// that is no list of words doesn't end it; lack of memory does.
+/// Runs an image on the words of each line of a reader, as `answer_line` does, and flushes each answer before it reads the next line. A
+/// line that is not a list of words does not end it; lack of memory does.
 pub fn call_lines<R: BufRead, W: Write>(
     alloc: Global,
     image: &Image,

@@ -1,4 +1,4 @@
--- A new library of the units of a map.
+-- A new library with the units of a map.
 pub mod Copy
 -- Which units are copied.
 pub mod Choice

@@ -1,4 +1,4 @@
--- Why the records of units are not written.
+-- Why the records of units could not be written.
 pub mod Writing
 -- Names that were judged.
 pub mod Judged

@@ -1,4 +1,4 @@
-// A new library of the units of a map: an empty journal, and then one commit of one Add a name.
+// A new library with the units of a map: an empty journal, and then one commit with one Add for each name.
 
 ghost use Rattle.std.specs.Prelude.{◌≡◌, ◌≤◌, ◌^◌, ℕ, List, false, IsTrue, IfErr, IsErrOf, OnOk};
 ghost use Rattle.cc_journal.specs.Format.{AllHold, room_of};
@@ -12,13 +12,13 @@ use cc_journal::{Log, format};
 use cc_library::{LibraryFault, UnitMap};
 use std::alloc::Global;
 
-/// The least bytes of an area.
+/// The least number of bytes of an area.
 const LEAST: usize = 64;
 
-/// The most.
+/// The greatest number of bytes of an area.
 const MOST: usize = 1_073_741_824;
 
-// Writes one Add a name as the records of a log.
+// Writes one Add for each name as the records of a log.
 fn write_units<D: Disk>(
     alloc: Global,
     log: &mut Log<D>,
@@ -43,8 +43,8 @@ fn write_units<D: Disk>(
     }
 }
 
-/// Makes a new library of these units on a disk, with areas of `area` bytes; the disk is handed back. At Ok every crash from then on leaves
-/// these units and no others.
+/// Makes a new library with these units on a disk, with areas of `area` bytes. The disk is handed back. After Ok, every crash leaves these
+/// units and no others.
 ///
 /// Refusals: 34 if the units don't fit such an area, or two of them the disk, which is as before then; 35 if the device failed; 40
 /// if memory ran out.
@@ -81,7 +81,7 @@ pub fn copy_units<D: Disk + Drop>(
     }
 }
 
-/// The least area that has room for these units; none where the greatest has not.
+/// The least area that has room for these units; None if the greatest has no room for them.
 pub fn least_area(units: &UnitMap) -> Option<usize>
     ensures { IsLeastArea units.now result }
 {

@@ -13,7 +13,7 @@ use cc_unit::StoredUnit;
 use std::alloc::{AllocError, Global};
 use std::io::Write;
 
-/// A unit that is left out, and what an audit says of it.
+/// A unit that is left out, and the audit's result for it.
 #[derive(Drop)]
 pub struct LeftOut {
     pub name: Name,
@@ -34,7 +34,7 @@ struct Judged {
     left_out: Vec<LeftOut>,
 }
 
-// What an audit says of a unit.
+// The result of an audit of a unit. Err: memory ran out.
 fn audit_of(alloc: Global, unit: &StoredUnit) -> Result<Audit, AllocError>
     ensures { IfOk result (λ audit. AuditSays unit.now.source unit.now.certificate unit.now.image audit) }
 {
@@ -45,7 +45,7 @@ fn audit_of(alloc: Global, unit: &StoredUnit) -> Result<Audit, AllocError>
     audit(alloc, unit.source.bytes(), certificate, &unit.image)
 }
 
-// Puts a name to those that are confirmed, or to those that are left out.
+// Adds a name to those that are confirmed, or to those that are left out.
 fn put(judged: &mut Judged, name: &Name, audit: Audit) -> Result<(), AllocError>
     ensures confirmed { OnOk result (judged.new.confirmed.items ≡ judged.old.confirmed.items ++ if_confirmed name.now audit) }
     ensures left_out { OnOk result (judged.new.left_out.items ≡ judged.old.left_out.items ++ if_left_out name.now audit) }

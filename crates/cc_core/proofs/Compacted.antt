@@ -21,7 +21,7 @@ use Rattle.cc_library.proofs.Compacting.{adds_stand}
 use Rattle.cc_library.proofs.Room.{Entry, R, compacted_least, entries-remove}
 use Rattle.cc_library.proofs.Tables.{no_entries}
 
--- each entry is a name and a unit that can be
+-- each entry is a name and a possible unit
 abbrev AreRight : List Entry → Type 0
 AreRight es = AllByRecursion (λ (e : Entry). IsCommand (Add e.0 e.1)) es
 
@@ -93,7 +93,7 @@ spelled_adds : (es : List Entry) → AreRight es → AreSpelled (bodies_of (adds
 spelled_adds [] all = tt
 spelled_adds (e ∷ es) all = (written (Add e.0 e.1) all.0, spelled_adds es all.1)
 
--- and stands for it
+-- and it represents the map
 pub compacted_stands : (bodies : List (List ℕ)) (units : Units) → StandFor bodies units → StandFor (compacted units) units
 compacted_stands bodies units stand =
     let right : IsRight units = subst IsRight (sym stand.map_is) (right_all map.empty bodies stand.commands stand.spelled right_empty) in

@@ -44,7 +44,7 @@ module _ {D : Type 0} (seen : D → List ℕ) (may_leave : D → List ℕ → Ty
   deeper f (inl a) = inl (f a)
   deeper f (inr p) = inr (inr p)
 
-  -- a disk that was read, and of which a crash then leaves P at most
+  -- a disk that was read, and of which a crash then leaves at most P
   pub read_then : (P : List ℕ → Type 0) (old mid new : D) → ((image : List ℕ) → left_since old (moment old) image → may_leave old image)
       → OnlyReads seen may_leave moment left_since old mid → LeavesOnly moment left_since mid new P → LeavesOnly moment left_since old new (λ image. may_leave old image ⊎ P image)
   read_then P old mid new only_now first second = record {
@@ -53,7 +53,7 @@ module _ {D : Type 0} (seen : D → List ℕ) (may_leave : D → List ℕ → Ty
     before = λ t image le left. deeper (λ l. first.moments t image le l) (second.before t image (omega (arith, le, first.later)) left);
   }
 
-  -- one that was read alone
+  -- a disk that was only read
   pub read_alone : (P : List ℕ → Type 0) (old new : D) → ((image : List ℕ) → left_since old (moment old) image → may_leave old image)
       → OnlyReads seen may_leave moment left_since old new → LeavesOnly moment left_since old new (λ image. may_leave old image ⊎ P image)
   read_alone P old new only_now reads = record {
@@ -64,7 +64,7 @@ module _ {D : Type 0} (seen : D → List ℕ) (may_leave : D → List ℕ → Ty
 
 -- ---- answers
 
--- what is said of each answer that is one
+-- a claim about each answer that is Ok
 pub on_ok : {T F : Type 0} {A B : Type 0} → (A → B) → (r : Result T F) → OnOk r A → OnOk r B
 on_ok step (Ok t) a = step a
 on_ok step (Err f) a = tt
@@ -78,7 +78,7 @@ kept_as (Ok done) command old new may_leave H made is leaves kept =
     λ h image left. subst (λ (m : Units). RecoversAlone image m) units (kept h image left)
 kept_as (Err fault) command old new may_leave H made is leaves kept = tt
 
--- what may be left of a disk before it was read may be left before
+-- what could have been left of a disk after it was read could have been left before
 pub may_be_restored : (seen name : List ℕ) (number : ℕ) (before mid : List ℕ → Type 0) (units : Units) (stored : List ℕ) (unit : StoredUnit) → ((image : List ℕ) → mid image → before image)
     → stored ≡ name → IsStoredOn seen name number unit → (image : List ℕ) → before image ⊎ MayBe mid units (map.insert units stored unit) image → MayBeRestored seen name number before units image
 may_be_restored seen name number before mid units stored unit none same is image (inl left) = inl left

@@ -30,7 +30,7 @@ pub record IsRestoredBy (seen name : List ℕ) (number : ℕ) (unit : StoredUnit
   pub logged : (image : List ℕ) → images image → HasCommands image (commands ++ putting (library_of commands) name unit ∷ [])
   pub restored : (image : List ℕ) → images image → RecoversAlone image (insert (library_of commands) name unit)
 
--- an image that could have been left before, or that recovers to the map before, or to that map with the unit that the command stored
+-- an image that could have been left before, or that recovers to the earlier map, or to that map with the unit that the command stored
 abbrev pub MayBeRestored : (seen name : List ℕ) (number : ℕ) (before : List ℕ → Type 0) (old : Units) → List ℕ → Type 0
 MayBeRestored seen name number before old image =
     before image ⊎ ((unit : StoredUnit) × IsStoredOn seen name number unit × RecoversOneOf old (insert old name unit) image)
@@ -51,7 +51,7 @@ IsNotPut honest seen before after no_room Exists = ⊥
 IsNotPut honest seen before after no_room NoUnit = ⊥
 IsNotPut honest seen before after no_room Closed = ⊥
 
--- why nothing is put back: the command stored nothing under the name, or what it stored is not put into the library
+-- why nothing is put back: the command stored nothing with the name, or what it stored could not be put into the library
 abbrev pub IsNotRestored : (honest : Bool) (seen : List ℕ) (before after : ℕ) (name : List ℕ) (number : ℕ) → PartFault → Type 0
 IsNotRestored honest seen before after name number (Library f) =
     IsNotPut honest seen before after ((unit : StoredUnit) × IsStoredOn seen name number unit × HasNoRoom seen name unit) f

@@ -18,7 +18,7 @@ use cc_library::{Library, LibraryCommand, LibraryFault};
 use cc_tasks::PartFault;
 use std::alloc::Global;
 
-// Puts a unit under its name into the library on a disk, whether the name has one or not.
+// Puts a unit with its name into the library on a disk, whether or not the name has a unit.
 fn put<D: Disk + Drop>(alloc: Global, disk: D, stored: Stored) -> (Result<(), LibraryFault>, D)
     ensures put { OnOk result.0 (IsTrue D.honest → (units : Units) → Recovers (D.seen disk) units
         → (image : List ℕ) → D.may_leave result.1 image → RecoversAlone image (map.insert units stored.name stored.unit)) }
@@ -51,11 +51,11 @@ fn put<D: Disk + Drop>(alloc: Global, disk: D, stored: Stored) -> (Result<(), Li
     }
 }
 
-/// Puts what the command of this number stored under this name back into the library on a disk, to the byte: as an add where no unit has the
-/// name, else as a replace. The first command since the last compaction has the number 1. At Ok every crash from then on leaves it.
+/// Puts what the command with this number stored with this name back into the library on a disk, byte for byte: as an add if no unit has
+/// the name, else as a replace. The first command since the last compaction has the number 1. After Ok, every crash leaves it there.
 ///
-/// Refusals: first those of `Library::open`, 35, 38, 37 and 40; then 33 where the bytes are no name, 32 where the command stored nothing under
-/// it; then 34 where the record does not fit, 35 where the device failed.
+/// Refusals: first those of `Library::open`, 35, 38, 37 and 40; then 33 if the bytes are not a name, 32 if the command stored nothing with
+/// that name; then 34 if the record does not fit, 35 if the device failed.
 pub fn restore<D: Disk + Drop>(
     alloc: Global,
     disk: D,
@@ -65,7 +65,7 @@ pub fn restore<D: Disk + Drop>(
     // Of an honest disk every image then has one record more, and recovers to the map before with the unit that the command stored.
     ensures restored { OnOk result.0 (IsTrue D.honest
         → (unit : StoredUnit) × IsRestoredBy (D.seen disk) name.now number unit (D.may_leave result.1)) }
-    // Whatever it answers, and at every moment: what a crash could leave before, the map before, or the one after it.
+    // Whatever the answer, at every moment a crash leaves what one could have left before, or the earlier map, or the map after the change.
     ensures moments { IsTrue D.honest → (units : Units) → Recovers (D.seen disk) units
         → LeavesOnly D.moment D.left_since disk result.1 (MayBeRestored (D.seen disk) name.now number (D.may_leave disk) units) }
     ensures refused { IfErr result.0 (λ fault. IsNotRestored D.honest (D.seen disk) (D.failures disk) (D.failures result.1) name.now number fault) }

@@ -41,9 +41,9 @@ use Rattle.cc_service.proofs.Answering.{entered_as, entered_where_ok, not_there,
 use Rattle.cc_service.proofs.Storing.{newest, stored}
 use Rattle.cc_recorded.proofs.Committing.{no_call_between}
 
--- ---- the reply of a look
+-- ---- the reply of a look-up
 
--- the unit that a reply has
+-- the unit in a reply
 abbrev unit_in : Reply → Option StoredUnit
 unit_in (reply.Unit unit) = Some unit
 unit_in answer = None
@@ -59,7 +59,7 @@ none_in : (found : Option StoredUnit) (answer : Reply) → answer ≡ reply_of_f
 none_in None answer is not = refl
 none_in (Some unit) answer is not = absurd (not unit is)
 
--- ---- the receipt of a look stands
+-- ---- the receipt of a look-up matches
 
 last_of : (receipts : List Receipt) (receipt : Receipt) → slice_get (receipts ++ receipt ∷ []) (length receipts) ≡ Some receipt
 last_of [] receipt = refl
@@ -87,14 +87,14 @@ May book.DiskFault = Unit {0}
 May book.OutOfMemory = Unit {0}
 
 module _ {Disk : Type 0} (D : Ghosts Disk) where
-  -- a change is neither refused by 36, nor by 39, nor by 32
+  -- a change is refused by none of 36, 39 and 32
   record IsReady (b : BookView Disk) (name : List ℕ) (heard : MemberView) : Type 0 where
     idle : b.library.closed ≡ false
     unit : StoredUnit
     found : get b.library.units name ≡ Some unit
     stands : LastStands b.history heard.receipts
 
-  -- so it is after a look
+  -- it is so after a look-up
   ready_after : (before between : BookView Disk) (old heard : MemberView) (name : List ℕ) (seen : Receipt) (unit : StoredUnit) → before.library.closed ≡ false
       → LookAnswers before old (Fetch name) between heard (Ok seen) → get before.library.units name ≡ Some unit → IsReady between name heard
   ready_after before between old heard name seen unit idle looked found =
@@ -130,7 +130,7 @@ module _ {Disk : Type 0} (D : Ghosts Disk) where
   refused_ready b after_it name heard new made book.DiskFault ready it = tt
   refused_ready b after_it name heard new made book.OutOfMemory ready it = tt
 
-  -- ---- the change, which compacts before it, or does not
+  -- ---- the change, with or without a compaction before it
 
   change_refused : (b after_it : BookView Disk) (name : List ℕ) (heard new : MemberView) (made : StoredUnit) (fault : BookFault) → IsReady b name heard
       → IsBookChanged D b heard (Replace name made) after_it new (Err fault) ⊎ IsCompactedFor D b heard (Replace name made) after_it new (Err fault) → May fault
@@ -197,7 +197,7 @@ module _ {Disk : Type 0} (D : Ghosts Disk) where
 
   -- ---- of a book
 
-  -- a look that was refused
+  -- a look-up that was refused
   pub look_refused : (before after_it : BookView Disk) (old new : MemberView) (name expected : List ℕ) (command : Command) (fault : BookFault) → before.library.closed ≡ false
       → LookAnswers before old (Fetch name) after_it new (Err fault) → UpdatesBook D before old name expected command after_it new (Err (Book fault))
   look_refused before after_it old new name expected command (book.Estranged number found) idle it = (idle, it.0, it.1, it.2)
@@ -223,7 +223,7 @@ module _ {Disk : Type 0} (D : Ghosts Disk) where
     replied : seen.entry.reply ≡ reply_of_found (get before.library.units name)
     replied = ap (λ (e : Entry). e.reply) looked.0.answered.entry
 
-    -- nothing came after the look
+    -- nothing came after the look-up
     still : after_it ≡ between → new ≡ heard → LookAnswers before old (Fetch name) after_it new (Ok seen)
     still same_book same_member =
         subst (λ (b : BookView Disk). LookAnswers before old (Fetch name) b new (Ok seen)) (sym same_book)
@@ -351,7 +351,7 @@ update mode name expected source made old new of named program (Err WorkersGone)
 update mode name expected source made old new of named program (Err ImageTooLarge) none = absurd none
 update mode name expected source made old new of named program (Err OutOfMemory) none = absurd none
 
--- of a text that was not compiled
+-- for a text that was not compiled
 pub not_updated : (mode : Mode) (name expected source : List ℕ) (old new : MemberView) → IsTrue (is_name name) → new ≡ old → (fault : ServiceFault) → IsCompileRefusal mode source fault
     → UpdateAnswers mode name expected source old new (Err fault)
 not_updated mode name expected source old new named same (Text f) e = (named, e, same)

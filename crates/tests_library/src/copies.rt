@@ -1,4 +1,4 @@
-// What a copy of a library has.
+// What a copy of a library contains.
 
 use crate::helpers::{SUM, add, blank, damaged, unit, with_commands};
 use cc_answers::tell_audit;
@@ -12,7 +12,7 @@ use std::alloc::Global;
 use std::sync::Arc;
 use std::test::Fail;
 
-// A library of three units, of which none has a certificate that an audit confirms.
+// A library of three units, none of which has a certificate that an audit confirms.
 fn three(alloc: Global) -> Result<UnitMap, Fail> {
     let mut commands = Vec::new(alloc);
     commands.push(add(b"b", unit(alloc, b"b", &SUM, Some(b"no certificate"))?)?)?;
@@ -61,7 +61,7 @@ fn copied(alloc: Global, units: &UnitMap, area: u32) -> Result<Result<usize, u32
     Ok(Ok(count))
 }
 
-// The bodies take 75, 21 and 24 bytes, each with 5 more, and the last gate one: 136.
+// The bodies take 75, 21 and 24 bytes, each with 5 more, and the last gate takes one: 136.
 #[test]
 fn all_units_to_the_byte(rt: HostRuntime) -> Result<(), Fail> {
     let alloc = rt.alloc();

@@ -6,7 +6,7 @@ use cc_disk::MemoryDisk;
 use std::alloc::Global;
 use std::test::Fail;
 
-// The lines of where the libraries of two disks differ.
+// The lines about what differs between the libraries of two disks.
 fn told(alloc: Global, left: MemoryDisk, right: MemoryDisk) -> Result<Vec<u8>, Fail> {
     let (lines, disks) = diff_disks(alloc, left, right);
     drop(disks);

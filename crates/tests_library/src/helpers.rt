@@ -23,7 +23,7 @@ pub static SUM: [u32; 10] = [
     0x0000_0073,
 ];
 
-/// A unit of this source and this code, with a certificate if there is one.
+/// A unit with this source and this code, and with a certificate if one is given.
 pub fn unit(
     alloc: Global,
     source: &[u8],
@@ -51,22 +51,22 @@ pub fn unit(
     Ok(Arc::new(alloc, unit)?)
 }
 
-/// A name, and its unit.
+/// The command that adds a unit under a name.
 pub fn add(name: &[u8], unit: Arc<StoredUnit>) -> Result<LibraryCommand, Fail> {
     Ok(LibraryCommand::Add(Name::new(name)?, SharedUnit::new(unit)))
 }
 
-/// A name, and what it has from then on.
+/// The command that gives a name another unit.
 pub fn replace(name: &[u8], unit: Arc<StoredUnit>) -> Result<LibraryCommand, Fail> {
     Ok(LibraryCommand::Replace(Name::new(name)?, SharedUnit::new(unit)))
 }
 
-/// A name that goes.
+/// The command that withdraws a name.
 pub fn withdraw(name: &[u8]) -> Result<LibraryCommand, Fail> {
     Ok(LibraryCommand::Withdraw(Name::new(name)?))
 }
 
-/// A disk with two areas of so many bytes.
+/// A disk with two areas of this many bytes.
 pub fn blank(alloc: Global, area: u16) -> Result<MemoryDisk, Fail> {
     Ok(MemoryDisk::new(alloc, 16 + 2 * usize::from(area))?)
 }
