@@ -235,7 +235,7 @@ early_meets meaning layout f rate code e frame is keeps is_frame fine fine_head 
     l = found bare t ws
 
     goal : Goal y c code most most_steps code e.rest l h t
-    goal = heads y c one stand.1 enters.sound enters.back code most most_steps nothing 0 (prologue_size bare) code e l h t is (λ n. refl) (framed_pc bare s place enters.at, stand.1, framed_within y f d ws h enters)
+    goal = heads y c one stand.1 enters.sound enters.back code most most_steps nothing 0 (prologue_size bare) code e l h t is (rest_places code code e is) (λ n. refl) (framed_pc bare s place enters.at, stand.1, framed_within y f d ws h enters)
 
     finish : (g : ℕ → ℕ) (more : List ℕ) → ((i : ℕ) → g i < 2 ^ 32) → AreWords more → Follows y c code most most_steps (at_steps code (merge l (λ i. get_or (listed frame.slots 0 g) i 0)) h more) t
         → Meets layout cd ((rate + rate) * c) ((rate + rate) * c) n s (meaning.body n d f ws h)

@@ -1,17 +1,18 @@
-// What stands before a function's frame: where a function begins with operations on registers that a call destroys and a test, and the test
-// leads to a label behind which the function returns, at most one such operation further on, these stand before the frame is made, with the
-// test the other way round. The test goes on behind them.
+// What comes before a function's frame. A function may begin with operations on registers that a call destroys and a test. If the test leads to a
+// label after which the function returns, at most one such operation further on, these come before the frame, with the test the other way round,
+// and the function goes on after the test. If the function returns right after the test, after any number of such operations, and the test leads
+// to the label after the return, the function's steps up to that label come before the frame, and it goes on at the label.
 
-ghost use Rattle.std.specs.Prelude.{◌≡◌, ◌≤◌, ◌+◌, ◌∷◌, ◌++◌, [], List, IfOk, IfSome, drop, take, length, option_map};
+ghost use Rattle.std.specs.Prelude.{◌≡◌, ◌<◌, ◌≤◌, ◌+◌, ◌∷◌, ◌++◌, [], List, IfOk, IfSome, drop, take, length, option_map};
 ghost use Rattle.cc_ltl.specs.Registers.{most_slots};
 ghost use Rattle.cc_select.specs.declared.step.Step.{Step as Shown};
 ghost use Rattle.cc_linear_language.specs.declared.item.LinearItem.TheVariants.{Label, Return};
 ghost use Rattle.cc_select.specs.declared.step.Step.TheVariants.{One};
 ghost use Rattle.cc_select.specs.Selected.{place};
-ghost use Rattle.cc_emit.specs.Early.{is_lost, written_by, is_light, fork_of, is_return, last_of, ending, early_from, early};
+ghost use Rattle.cc_emit.specs.Early.{is_lost, written_by, is_light, fork_of, is_return, last_of, ending, lights, is_ending, early_from, early};
 ghost use Rattle.cc_emit.specs.Emission.{label_of_step};
 ghost use Rattle.cc_emit.specs.Scratch.{is_led};
-ghost use Rattle.cc_emit.specs.internal.Ahead.{listed, shown, with_before, early_test};
+ghost use Rattle.cc_emit.specs.internal.Ahead.{listed, shown, with_before, early_test, staying_from};
 
 use crate::frame::frame_bytes;
 use crate::tables::label_of_step;
@@ -184,6 +185,7 @@ fn ending(code: &[Step], label: u32) -> Option<Option<Step>>
 // How many light steps these begin with.
 fn light_count(code: &[Step]) -> usize
     ensures within { result ≤ length code.now }
+    ensures count { result ≡ lights code.now }
     ensures light { (all : List Shown) → early_from all code.now ≡ option_map (with_before (take result code.now)) (early_test all (drop result code.now)) }
 {
     let mut count = 0;
@@ -224,7 +226,44 @@ fn head_with(
     Ok(head)
 }
 
-// What stands before a frame, if there is such.
+// Whether a return is there, and after it that label.
+fn is_ending(code: &[Step], at: usize, label: u32) -> bool
+    ensures { result ≡ is_ending label (drop at code.now) }
+{
+    if at >= code.len() {
+        return false;
+    }
+    if !is_return(&code[at]) || at + 1 >= code.len() {
+        return false;
+    }
+    is_label(&code[at + 1], label)
+}
+
+// What comes before a frame if the test after so many steps leads to that label, and the function returns right after the test.
+fn staying(
+    alloc: Global,
+    code: &[Step],
+    count: usize,
+    label: u32,
+) -> Result<Option<Ahead>, AllocError>
+    requires { count < length code.now }
+    ensures found { IfOk result (λ found. option_map (shown code.now) found ≡ staying_from count label code.now) }
+    ensures few { IfOk result (λ found. IfSome found (λ a. (a.taken ≤ length code.now) × (length a.head.items ≤ length code.now + 4))) }
+{
+    let rest = &code[count + 1..];
+    let more = light_count(rest);
+    if !is_ending(rest, more, label) {
+        return Ok(None);
+    }
+    let taken = count + 1 + more + 1;
+    if taken >= code.len() {
+        return Ok(None);
+    }
+    let head = Vec::from_slice(alloc, &code[..taken + 1])?;
+    Ok(Some(Ahead { head, taken }))
+}
+
+// What comes before a frame, if there is such.
 fn found(alloc: Global, code: &[Step]) -> Result<Option<Ahead>, AllocError>
     ensures found { IfOk result (λ found. option_map (shown code.now) found ≡ early_from code.now code.now) }
     ensures few { IfOk result (λ found. IfSome found (λ a. (a.taken ≤ length code.now) × (length a.head.items ≤ length code.now + 4))) }
@@ -237,7 +276,7 @@ fn found(alloc: Global, code: &[Step]) -> Result<Option<Ahead>, AllocError>
         return Ok(None);
     };
     let Some(last) = ending(code, fork.to) else {
-        return Ok(None);
+        return staying(alloc, code, count, fork.to);
     };
     let before = &code[..count];
     let taken = count + 1;
