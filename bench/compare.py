@@ -2,11 +2,12 @@
 """Compares what the interpreter, the compiled program and gcc's program write, for random programs whose meaning the standard fixes.
 
 compare.py [COUNT] [SEED]: COUNT programs (100), from a seed (1). The programs have both types, casts, all operators, arrays of words and of bytes, locals,
-functions of up to eight parameters, some of which may return at once, elements near by, words of the input and all statements but goto; shifts and divisions are
+functions of up to eight parameters (some may return at once), elements near by, words of the input and all statements but goto; shifts and divisions are
 guarded, and sums wrap (-fwrapv). Every second program has more objects between its own, so that some of these lie beyond the first 4 KiB of
-the globals, or across their end. The words have to be the same, and the word that main returns; gcc tells only the last eight bits of
+the globals, or across their end. The words have to be the same, and the word that main returns; gcc gives only the last eight bits of
 that. A program in which an operation goes wrong is passed over, once it is seen that it is compiled. The program has to be built
-(./cclib --help), or CCLIB names one that is. The text of a program with other words is printed."""
+(./cclib --help), or CCLIB names one that is. The text of a program with other words is printed. gcc compiles 25 of them as one text, in which each
+name at file scope has the program's number."""
 
 import os
 import random
@@ -20,6 +21,8 @@ PROGRAM = os.environ.get("CCLIB") or os.path.join(os.path.dirname(os.path.abspat
 # gcc 12 folds -(-2147483648 / (x + 1)) into -2147483648 / ~x, in spite of -fwrapv, and so ends by a signal where x is 0: then clang is asked.
 PEERS = ["gcc", *filter(shutil.which, ["clang"])]
 MOST = "1000000000"
+# As many programs gcc compiles at once.
+BATCH = 25
 WORDS = "0 1 7 4294967295 2147483648 2147483647 12345678 3000000000".split()
 SERVICES = """#include <stdio.h>
 unsigned words[] = {%s}, at;
@@ -172,22 +175,41 @@ def lines_of(command, text=""):
     return ran.stdout.decode().splitlines(), ran.returncode
 
 
-def gcc_lines(text, room):
-    """What gcc's program writes, and the last eight bits of what its main returns."""
+# The names at file scope, which differ when several programs are one text.
+NAMES = "main f g h d p q r e a b c u v w early0 early1 early2 pad1 pad2 pad3 pad4 pad5".split()
+
+
+def joined(texts):
+    """One C text of several programs: it runs the one whose number is its first word."""
+    parts = [SERVICES]
+    for number, text in enumerate(texts):
+        parts += [f"#define {it} {it}_{number}\n" for it in NAMES] + [text] + [f"#undef {it}\n" for it in NAMES]
+    mains = ",".join(f"main_{it}" for it in range(len(texts)))
+    return "".join(parts) + f"int atoi(const char *);\nint main(int n, char **v) {{ int (*all[])(void) = {{{mains}}}; return all[atoi(v[1])](); }}\n"
+
+
+def compiled(compiler, texts, room):
     with open(f"{room}/program.c", "w", encoding="utf-8") as it:
-        it.write(SERVICES + text)
-    for compiler in PEERS:
-        subprocess.run([compiler, "-std=c99", "-w", "-fwrapv", "-O0", "-o", f"{room}/program", f"{room}/program.c"], check=True)
-        lines, status = lines_of([f"{room}/program"])
-        if status != -signal.SIGFPE:
-            break
-    return lines, status
+        it.write(joined(texts))
+    subprocess.run([compiler, "-std=c99", "-w", "-fwrapv", "-O0", "-o", f"{room}/program", f"{room}/program.c"], check=True)
 
 
-def judged(text, room):
-    """How many words all three write, or None where an operation goes wrong, or a text that says who differs."""
-    (*words, end), _ = lines_of([PROGRAM, "interpret", MOST, *WORDS], text)
-    (*made, came), _ = lines_of([PROGRAM, "run", MOST, *WORDS], text)
+def gcc_lines(texts, room):
+    """What gcc's code of each of these programs writes, and the last eight bits of what its main returns."""
+    compiled(PEERS[0], texts, room)
+    found = [lines_of([f"{room}/program", str(it)]) for it in range(len(texts))]
+    for at, (_, status) in enumerate(found):
+        if status == -signal.SIGFPE and PEERS[1:]:
+            compiled(PEERS[1], texts[at : at + 1], room)
+            found[at] = lines_of([f"{room}/program", "0"])
+    return found
+
+
+def judged(text):
+    """The words and the end on which the interpreter and the compiled program agree, or None where an operation goes wrong, or a text that says
+    how they differ."""
+    (*words, end), _ = lines_of([PROGRAM, "--quiet", "interpret", MOST, *WORDS], text)
+    (*made, came), _ = lines_of([PROGRAM, "--quiet", "run", MOST, *WORDS], text)
     if came.startswith("fault"):
         return f"it is not compiled: {came}"
     if end.startswith("wrong"):
@@ -196,10 +218,19 @@ def judged(text, room):
         return f"the interpreter says {end}"
     if made != words or came != end.replace("ended", "exited"):
         return f"the compiled program writes other words, or {came} where the interpreter says {end}"
-    theirs, status = gcc_lines(text, room)
-    if theirs != words or status != int(end.split()[1]) % 256:
-        return f"gcc's program writes other words, or ends with {status} where the interpreter says {end}"
-    return len(words)
+    return words, end
+
+
+def judged_all(texts, room):
+    """Of each program how many words all three write, or None where an operation goes wrong, or a text that says who differs."""
+    found = [judged(it) for it in texts]
+    ended = [at for at, it in enumerate(found) if isinstance(it, tuple)]
+    theirs = gcc_lines([texts[it] for it in ended], room) if ended else []
+    for at, (lines, status) in zip(ended, theirs):
+        words, end = found[at]
+        is_same = lines == words and status == int(end.split()[1]) % 256
+        found[at] = len(words) if is_same else f"gcc's program writes other words, or ends with {status} where the interpreter says {end}"
+    return found
 
 
 def main():
@@ -207,16 +238,17 @@ def main():
     first = int(sys.argv[2]) if len(sys.argv) > 2 else 1
     same, words, passed_over, other = 0, 0, 0, 0
     with tempfile.TemporaryDirectory() as room:
-        for seed in range(first, first + count):
-            text = Writer(seed).program(seed)
-            found = judged(text, room)
-            if found is None:
-                passed_over += 1
-            elif isinstance(found, str):
-                other += 1
-                print(f"seed {seed}: {found}\n{text}", file=sys.stderr)
-            else:
-                same, words = same + 1, words + found
+        for begun in range(first, first + count, BATCH):
+            seeds = range(begun, min(begun + BATCH, first + count))
+            texts = [Writer(it).program(it) for it in seeds]
+            for seed, text, found in zip(seeds, texts, judged_all(texts, room)):
+                if found is None:
+                    passed_over += 1
+                elif isinstance(found, str):
+                    other += 1
+                    print(f"seed {seed}: {found}\n{text}", file=sys.stderr)
+                else:
+                    same, words = same + 1, words + found
     print(f"{same} programs write the same words in all three, {words} in all; {passed_over} passed over, since an operation goes wrong; {other} differ")
     return 1 if other else 0
 

@@ -1,4 +1,8 @@
--- Which units are chosen (Chosen), which of them are confirmed (Audited), and the new library (Filled).
+-- Which units are chosen.
 pub mod Chosen
+-- Which of them are confirmed.
 pub mod Audited
+-- What is selected by texts.
+pub mod Named
+-- The new library.
 pub mod Filled

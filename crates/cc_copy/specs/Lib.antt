@@ -1,6 +1,8 @@
--- A new library of the units of a map.
+-- A new library with the units of a map.
 pub mod Copy
 -- Which units are copied.
 pub mod Choice
--- What only private contracts speak of.
+-- Which units of a disk are selected.
+pub mod Selected
+-- Definitions for private contracts.
 pub mod internal

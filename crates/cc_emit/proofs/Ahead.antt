@@ -17,9 +17,9 @@ use Rattle.cc_emit.proofs.Headed.{early_says, head_fits, head_gains, head_labels
 step_then : (code : List Step) (i : ℕ) (s : Step) → i < length code → s ≡ get_or code i s → drop i code ≡ s ∷ drop (i + 1) code
 step_then code i s lt is = drop_more code i s lt ∙ ap (λ x. x ∷ drop (i + 1) code) (sym is)
 
--- ---- the end that a label leads to
+-- ---- the ending to which a label leads
 
--- a label's place is none, or begins with a label
+-- a label's place is empty, or begins with a label
 abbrev Begins : List Step → Type 0
 Begins steps = (steps ≡ []) ⊎ ((n : ℕ) × (rest : List Step) × (steps ≡ One (Label n) ∷ rest))
 
@@ -63,7 +63,7 @@ Light code n = (all : List Step) → early_from all code ≡ option_map (with_be
 pub ahead_says : (slots : ℕ) (code : List Step) (z : Option found.Ahead) (a : found.Ahead) → z ≡ Some a → option_map (shown code) z ≡ early slots code → early slots code ≡ Some (shown code a)
 ahead_says slots code z a e q = sym q ∙ ap (option_map (shown code)) e
 
--- what the code before the frame is asked, and that in it
+-- what is asked of the code before the frame, and of that in it
 pub record Handed (slots count : ℕ) (code : List Step) : Type 0 where
   pub labels_below : AllByRecursion (λ label. label < count) (labels code)
   pub fit : (functions : ℕ) × (all : List ℕ) × AllByRecursion (λ label. label < count) all × AllByRecursion (IsStep slots functions all) code

@@ -1,4 +1,4 @@
--- What may return before there is a frame, and the rest in its frame behind it, meet a piece's contract.
+-- What may return before there is a frame, followed by the rest in its frame, meets a piece's contract.
 use Rattle.std.proofs.Common.{◌≡◌, ℕ, suc, ◌+◌, ◌-◌, ◌*◌, ◌%◌, ◌^◌, ◌<◌, ◌≤◌, ◌⊎◌, List, [], ◌∷◌, ◌++◌, Some, false, length, get_or, take, drop, map, refl, sym, ap, ap₂, ◌∙◌, subst, inl, inr, arith}
 use Rattle.std.specs.Prelude.{if◌then◌else◌, nat_le}
 use Rattle.std.proofs.lemmas.List.{length-append, length-map}
@@ -35,7 +35,7 @@ use Rattle.cc_emit.proofs.Cases.{StandsWhole}
 use Rattle.cc_emit.specs.declared.scratch.Scratch.{Scratch}
 use Rattle.cc_emit.proofs.Within.{Within}
 
--- ---- items behind others
+-- ---- items after others
 
 unshifted : (code : Code) (places : ℕ → ℕ) (place before a : ℕ) (items : List PieceItem) → Placed code places place a (map (shifted before) items) → Placed code places (place + 4 * before) a items
 unshifted code places place before a [] p = tt
@@ -70,7 +70,7 @@ fit_append functions long (x ∷ xs) ys p q = (p.0, fit_append functions long xs
 length_behind : (head items : List PieceItem) → length (behind head items) ≡ length head + length items
 length_behind head items = length-append head (map (shifted (length head)) items) ∙ ap (λ n. length head + n) (length-map items (shifted (length head)))
 
--- each has a word
+-- each of them has a word
 pub behind_fit : (functions : ℕ) (head items : List PieceItem) → AreFit functions (length head) head → AreFit functions (length items) items → AreFit functions (length (behind head items)) (behind head items)
 behind_fit functions head items p q =
     subst (λ n. AreFit functions n (behind head items)) (sym (length_behind head items))
@@ -78,7 +78,7 @@ behind_fit functions head items p q =
 
 -- ---- from the end of the head on
 
--- what comes back to the place behind the head's call comes back to that before it
+-- what comes back to the place after the head's call comes back to the place before it
 comes_from : {b : List Size} (y : ObjectLayout b) (code : Code) (rate : ℕ) (s v u : State) (stop : Stop Answer) (o : List ℕ) (done : ℕ) → ((r : Answer) (t : State) → ComesBack y v r t → ComesBack y s r t) → DoesBy y code rate v u stop o done → DoesBy y code rate s u stop o done
 comes_from y code rate s v u Going o done f d = d
 comes_from y code rate s v u (Ended r) o done f d = (d.0, d.1, d.2, f r d.1 d.3, d.4)

@@ -28,7 +28,7 @@ use Rattle.cc_emit.proofs.Choosing.{AreKept, all_kept}
 use Rattle.cc_emit.proofs.Bridging.{contained_below}
 use Rattle.cc_emit.proofs.Heads.{both, fork_there, lit, lit_there, none_says, turned_there}
 
--- ---- a run is the same in code of which each label has the same place
+-- ---- a run is the same in code in which each label has the same place
 
 pub does_same : (arity : ℕ → ℕ) (c d : List Step) → ((n : ℕ) → place c n ≡ place d n) → (ops : List Step) (l : Locations) (h : World) (ws : List ℕ) → does arity c ops l h ws ≡ does arity d ops l h ws
 does_same arity c d same [] l h ws = refl
@@ -105,7 +105,7 @@ turned_quiet _ f e = absurd (cc)
 abbrev AreQuiet : List Step → Type 0
 AreQuiet steps = AllByRecursion Quiet steps
 
--- registers of which the same are written
+-- lists of steps that write the same registers
 same_written : (steps more : List Step) (rs : List ℕ) → AreKept rs → ((r : ℕ) → IsKept r → is_written steps r ≡ is_written more r) → written steps rs ≡ written more rs
 same_written steps more [] k e = refl
 same_written steps more (r ∷ rs) k e = ap₂ (λ (b : Bool) (xs : List ℕ). if b then r ∷ xs else xs) (e r k.0) (same_written steps more rs k.1 e)
@@ -127,7 +127,7 @@ quiet_writes : (steps : List Step) (r : ℕ) → IsKept r → AreQuiet steps →
 quiet_writes [] r k q = refl
 quiet_writes (s ∷ steps) r k q = ap₂ (λ a b. a || b) (q.0.writes r k) (quiet_writes steps r k q.1)
 
--- ---- what stands before the frame
+-- ---- what comes before the frame
 
 -- a property of the steps of a head, by one that all the code's steps have
 module _ (P Q : Step → Type 0) (code : List Step) (all : AllByRecursion Q code) (light : (s : Step) → is_light s ≡ true → Q s → P s) (turned : (s : Step) (f : Fork) → fork_of s ≡ Some f → Q s → P f.turned) (ends : P (One Return)) (label : (n : ℕ) → P (One (Label n))) where
@@ -309,7 +309,7 @@ pub head_labels : (count slots functions : ℕ) (all : List ℕ) (code steps : L
 head_labels count slots functions all code [] e is below fits = none_says e is
 head_labels count slots functions all code (s ∷ steps) e is below fits = labels_first count slots functions all code s steps e (λ d q. head_labels count slots functions all code steps d q below fits.1) below fits.0 is
 
--- ---- a function has a head where it has a frame
+-- ---- a function has a head only if it has a frame
 
 pub early_says : (slots : ℕ) (code : List Step) (e : Early) → early slots code ≡ Some e → early_from code code ≡ Some e
 early_says slots code e = by (frame_size (frame_of false slots code) == 0)
@@ -318,7 +318,7 @@ early_says slots code e = by (frame_size (frame_of false slots code) == 0)
     by true m = none_says e m
     by false m = m
 
--- ---- a head reads and writes no object, so it gains nothing by x3
+-- ---- a head reads and writes no object, so it does not gain by x3
 
 abbrev HasNoAccess : Step → Type 0
 HasNoAccess s = (known : Remembered) → step_access_size known s ≡ 0

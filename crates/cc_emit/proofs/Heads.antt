@@ -1,5 +1,6 @@
--- What stands before a function's frame: from the function's entry it returns as the function does, or the machine comes to its end where the run
--- comes to the rest of the function's steps. It is code of its own, of a function that has no frame; the run is that of the whole function.
+-- What comes before a function's frame: from the function's entry it returns as the function does, or the machine arrives at its end when
+-- the run arrives at the rest of the function's steps. It is code of its own, of a function that has no frame; the run is that of the whole
+-- function.
 use Rattle.std.proofs.Common.{◌≡◌, ℕ, zero, suc, ◌+◌, ◌*◌, ◌%◌, ◌≤◌, ◌⊎◌, List, [], ◌∷◌, ◌++◌, Option, Some, None, true, false, Bool, refl, sym, ap, ◌∙◌, subst, inl, inr, arith}
 use Rattle.std.specs.Prelude.{if◌then◌else◌, ◌==◌, ◌&&◌, not, option_map}
 use Rattle.cc_words.specs.Operators.{apply_unary, apply_binary}
@@ -33,7 +34,7 @@ use Rattle.cc_emit.proofs.Emitted.{Does, DoesBy, one_move}
 pub none_says : {A B : Type 0} (b : B) → None ≡ Some b → A
 none_says {A} b e = absurd (cc)
 
--- ---- what light steps and tests do, in whichever code
+-- ---- what light steps and tests do, in any code
 
 -- the word that a light step makes
 abbrev gives : Step → Locations → Option ℕ
@@ -44,7 +45,7 @@ gives (One (Binary operator to left right)) l = apply_binary operator (l (Regist
 gives (Immediate operator to from word) l = apply_immediate operator (l (Register from)) word
 gives step l = None
 
--- the word that a test asks, and whether it leads on where that is not 0
+-- the word that a test examines, and whether it leads on if that word is not 0
 abbrev asks : Step → Locations → Option ℕ
 asks (One (IfNonzero from to)) l = Some (l (Register from))
 asks (One (IfZero from to)) l = Some (l (Register from))
@@ -117,7 +118,7 @@ put_merged to v l slots = λ i k. at k i
 
 -- ---- the machine
 
--- by the moves that a step makes the machine comes there
+-- by the moves that a step makes, the machine arrives there
 stepped_to : (x : Site) (ops next : List Step) (l k : Locations) (h : World) (u : State) → ((ws : List ℕ) → selected_move x.meaning.arity x.steps (at_steps ops l h ws) ≡ Goes (at_steps next k h ws)) → Stepped x ops l h u → Reaches x next k h u
 stepped_to x ops next l k h u f z =
     let e : Goes (at_steps next k h (z.prefix ++ [])) ≡ Goes (at_steps z.next z.locations z.world []) = sym (f (z.prefix ++ [])) ∙ z.moves [] in
@@ -161,7 +162,7 @@ both true true e = (refl, refl)
 both true false e = absurd (let n : false ≡ true = e in cc)
 both false b e = absurd (let n : false ≡ true = e in cc)
 
--- a test goes one of its two ways, and the turned one the other way round
+-- a test goes one of its two ways, and the reversed test the other way round
 ways : (H G : List Step → Type 0) (nonzero : Bool) (v : ℕ) (on there on' there' : List Step) → (H on' → G there) → (H there' → G on) → H (led (not nonzero) v on' there') → G (led nonzero v on there)
 ways H G true v on there on' there' f g = by (v == 0)
   where
@@ -239,7 +240,7 @@ module _ (x : Site) (c : ℕ) (code : List Step) (k j : ℕ) where
   abbrev pub Ended : (ss : List Step) (l : Locations) (h : World) (u : State) → Type 0
   Ended ss l h u = (slots : ℕ → ℕ) (words : List ℕ) → Follows (at_steps ss (merge l slots) h words) u
 
-  -- the machine comes to the end of the head, and the run to the rest
+  -- the machine arrives at the end of the head, and the run at the rest
   pub record Passed (steps rest : List Step) (l : Locations) (h : World) (u : State) : Type 0 where
     pub more : ℕ
     pub to : State
@@ -285,7 +286,7 @@ module _ (x : Site) (c : ℕ) (one : 1 ≤ c) (all : StandsWhole x) (sound : IsS
 
   -- ---- a light step
 
-  -- it goes wrong, or the machine does it and the run too, whatever the slots hold
+  -- it goes wrong, or the machine does it and the run does too, whatever the slots hold
   pub record Lit (s : Step) (ops ss : List Step) (l : Locations) (h : World) (u : State) : Type 0 where
     pub locations : Locations
     pub reaches : Reaches x ops locations h u
@@ -313,7 +314,7 @@ module _ (x : Site) (c : ℕ) (one : 1 ≤ c) (all : StandsWhole x) (sound : IsS
       by None is = inl (made None is)
       by (Some v) is = inr (lit_by v is (light_case x w a s to ops l h u e given))
 
-  -- ---- behind the label of the test: the return, at most one step further on
+  -- ---- after the label of the test: the return, at most one step further on
 
   at_return : {held : Scratch} (w a : ℕ) (tail ss : List Step) (l : Locations) (h : World) (u : State) → Given x held w a (One Return ∷ tail) l h u → Ended x c code k j (One Return ∷ ss) l h u
   at_return w a tail ss l h u (e, st, inside) slots words = returns ss (merge l slots) h words u inside.shares.output (return_path x w a tail l h u sound back e st inside)

@@ -43,7 +43,7 @@ fork_of (Branch operator nonzero left right to) = Some (record { to = to; turned
 fork_of (BranchImmediate operator nonzero from word to) = Some (record { to = to; turned = BranchImmediate operator (not nonzero) from word to })
 fork_of step = None
 
--- ---- the end that a label leads to
+-- ---- the ending to which a label leads
 
 abbrev pub is_return : Step → Bool
 is_return (One Return) = true
@@ -57,14 +57,14 @@ abbrev pub last_of : List Step → Option (List Step)
 last_of [] = None
 last_of (step ∷ steps) = if is_return step then Some [] else last_one step steps
 
--- what is done from a label's place on up to a return
+-- what is done from a label's place up to a return
 abbrev pub ending : List Step → Option (List Step)
 ending (One (Label label) ∷ steps) = last_of steps
 ending steps = None
 
 -- ---- what stands before the frame
 
--- the steps before the frame, with the label behind them to which the test goes on, and those in the frame
+-- the steps before the frame, followed by the label to which the test goes on, and the steps in the frame
 pub record Early : Type 0 where
   pub head : List Step
   pub rest : List Step
@@ -80,11 +80,11 @@ early_by all (Some fork) rest = early_at (ending (place all fork.to)) fork rest
 abbrev pub with_first : Step → Early → Early
 with_first step e = record { head = step ∷ e.head; rest = e.rest }
 
--- of these steps of the function
+-- for these steps of the function
 abbrev pub early_from : (all : List Step) → List Step → Option Early
 early_from all [] = None
 early_from all (step ∷ steps) = if is_light step then option_map (with_first step) (early_from all steps) else early_by all (fork_of step) steps
 
--- of a function with this many slots, where it has a frame
+-- for a function with this many slots, if it has a frame
 abbrev pub early : (slots : ℕ) → List Step → Option Early
 early slots steps = if frame_size (frame_of false slots steps) == 0 then None else early_from steps steps

@@ -20,14 +20,14 @@ use cc_ltl::Move;
 use cc_select::Step;
 use std::alloc::{AllocError, Global};
 
-/// The steps that stand before the frame, and how many of the function's steps they stand for.
+/// The steps before the frame, and how many of the function's steps they replace.
 #[derive(Drop)]
 pub(crate) struct Ahead {
     pub(crate) head: Vec<Step>,
     pub(crate) taken: usize,
 }
 
-/// A test the other way round, and where it leads.
+/// A test the other way round, and where the test leads.
 #[derive(Clone, Copy)]
 pub(crate) struct Fork {
     to: u32,
@@ -59,7 +59,7 @@ fn written_by(step: &Step) -> Option<u8>
     }
 }
 
-// Whether it is an operation on registers that needs no frame.
+// Whether a step is an operation on registers that needs no frame.
 fn is_light(step: &Step) -> bool
     ensures { result ≡ is_light step.now }
 {
@@ -69,7 +69,7 @@ fn is_light(step: &Step) -> bool
     }
 }
 
-// The test that a step is, the other way round.
+// The step as a test the other way round, if it is a test.
 fn fork_of(step: &Step) -> Option<Fork>
     ensures { result ≡ fork_of step.now }
 {
@@ -124,7 +124,7 @@ fn is_return(step: &Step) -> bool
     matches!(step, Step::One(LinearItem::Return))
 }
 
-// Whether a step is that label.
+// Whether a step is this label.
 fn is_label(step: &Step, label: u32) -> bool
     ensures { result ≡ is_led (label_of_step step.now) label }
 {
@@ -134,7 +134,7 @@ fn is_label(step: &Step, label: u32) -> bool
     }
 }
 
-// Where a label stands: behind the last step, where it stands nowhere.
+// The place of a label; the place after the last step, if the label does not occur.
 fn place_of(code: &[Step], label: u32) -> usize
     ensures place { drop result code.now ≡ place code.now label }
     ensures within { result ≤ length code.now }
@@ -149,7 +149,7 @@ fn place_of(code: &[Step], label: u32) -> usize
     at
 }
 
-// What stands between a place and the return behind it: at most one light step.
+// What comes between a place and the return after it: at most one light step.
 fn last_of(code: &[Step], at: usize) -> Option<Option<Step>>
     ensures { option_map listed result ≡ last_of (drop at code.now) }
 {
@@ -181,7 +181,7 @@ fn ending(code: &[Step], label: u32) -> Option<Option<Step>>
     }
 }
 
-// How many light steps these begin with.
+// The number of light steps at the beginning.
 fn light_count(code: &[Step]) -> usize
     ensures within { result ≤ length code.now }
     ensures light { (all : List Shown) → early_from all code.now ≡ option_map (with_before (take result code.now)) (early_test all (drop result code.now)) }
@@ -196,7 +196,7 @@ fn light_count(code: &[Step]) -> usize
     count
 }
 
-// The steps that stand before the frame: these, the test the other way round, the return and the label.
+// The steps before the frame: these, the test the other way round, the return and the label.
 fn head_of(alloc: Global, before: &[Step], fork: Fork) -> Result<Vec<Step>, AllocError>
     ensures { IfOk result (λ head. head.items ≡ before.now ++ (fork.turned ∷ One Return ∷ One (Label fork.to) ∷ [])) }
 {
@@ -207,7 +207,7 @@ fn head_of(alloc: Global, before: &[Step], fork: Fork) -> Result<Vec<Step>, Allo
     Ok(head)
 }
 
-// The same with a step before the return.
+// The same with one more step before the return.
 fn head_with(
     alloc: Global,
     before: &[Step],
@@ -253,7 +253,7 @@ fn found(alloc: Global, code: &[Step]) -> Result<Option<Ahead>, AllocError>
     }
 }
 
-/// What stands before the frame of a function with this many slots, if it has a frame and there is such.
+/// What comes before the frame of a function with this many slots, if it has a frame and anything comes before it.
 pub(crate) fn before_frame(
     alloc: Global,
     slots: u16,

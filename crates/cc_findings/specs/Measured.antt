@@ -6,7 +6,9 @@ use Rattle.cc_ast.specs.Tree.{Source}
 use Rattle.cc_types.specs.Typed.{defined_names}
 use Rattle.cc_c_laws.specs.declared.mode.Mode.{Mode}
 use Rattle.cc_size.specs.Sized.{IsSizedIn}
+use Rattle.cc_size.specs.declared.recursion.Recursion.{Recursion}
 use Rattle.cc_size.specs.declared.size.FunctionSize.{FunctionSize}
+use Rattle.cc_findings.specs.declared.sizing.CyclicCall.{CyclicCall}
 use Rattle.cc_findings.specs.declared.sizing.Measure.{Measure}
 use Rattle.cc_findings.specs.declared.sizing.SizedFunction.{SizedFunction}
 
@@ -25,7 +27,20 @@ pub record AreFunctions (program : Source) (sizes : List FunctionSize) (function
   pub count : length functions ≡ length sizes
   pub each : (f : ℕ) (one : SizedFunction) → slice_get functions f ≡ Some one → IsFunction program sizes f one
 
--- what an image takes that follows what the text's program shows in the mode, and of each function where it is
+-- a call that is part of a cycle of calls, number k of those that were found: the names of the function that calls, and of the one that is called
+pub record IsCycle (program : Source) (calls : List Recursion) (k : ℕ) (it : CyclicCall) : Type 0 where
+  pub of : Recursion
+  pub call : slice_get calls k ≡ Some of
+  pub caller : slice_get (defined_names program) of.caller ≡ Some it.caller.items
+  pub called : slice_get (defined_names program) of.called ≡ Some it.called.items
+
+-- all calls that were found
+pub record AreCycles (program : Source) (calls : List Recursion) (cycles : List CyclicCall) : Type 0 where
+  pub count : length cycles ≡ length calls
+  pub each : (k : ℕ) (one : CyclicCall) → slice_get cycles k ≡ Some one → IsCycle program calls k one
+
+-- what an image takes that follows what the text's program shows in the mode, where each function is, and which calls are parts of cycles of calls
 pub record Measures (m : Mode) (text : List ℕ) (it : Measure) : Type 0 where
   pub sized : IsSizedIn m text it.sized
   pub functions : AreFunctions (source (arc_value it.sized.made.typed)) it.sized.size.functions.items it.functions.items
+  pub cycles : AreCycles (source (arc_value it.sized.made.typed)) it.sized.size.recursions.items it.cycles.items

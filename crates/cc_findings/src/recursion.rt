@@ -1,8 +1,7 @@
-// Which calls are part of a cycle of calls, as `size` names them.
+// Which calls of a program are part of a cycle of calls, as `safe` names functions; nobody has to believe it.
 //
 // Sets of functions are words, a bit for each: a unit has at most 64.
 
-use cc_emit::{Piece, PieceItem};
 use std::alloc::{AllocError, Global};
 
 /// A call by which a function calls itself, at once or through others: the number of the function that calls, and of the one that is called.
@@ -14,27 +13,6 @@ pub(crate) struct Recursion {
 
 pub(crate) fn bit(function: usize) -> u64 {
     if function < 64 { 1 << function } else { 0 }
-}
-
-// The functions that these items call.
-fn called_by(items: &[PieceItem]) -> u64 {
-    let mut called = 0;
-    for item in items {
-        match item {
-            PieceItem::Call(function) => called |= bit(*function as usize),
-            PieceItem::Plain(_) | PieceItem::Go(_) => {}
-        }
-    }
-    called
-}
-
-// The functions that each function calls.
-fn all_called(alloc: Global, pieces: &[Piece]) -> Result<Vec<u64>, AllocError> {
-    let mut calls = Vec::with_capacity(alloc, pieces.len())?;
-    for piece in pieces {
-        calls.push(called_by(piece.items()))?;
-    }
-    Ok(calls)
 }
 
 fn row(rows: &[u64], function: usize) -> u64 {
@@ -55,12 +33,6 @@ fn all_reached(alloc: Global, calls: &[u64]) -> Result<Vec<u64>, AllocError> {
         }
     }
     Ok(reached)
-}
-
-/// The calls of functions of pieces that are part of a cycle.
-pub(crate) fn recursions(alloc: Global, pieces: &[Piece]) -> Result<Vec<Recursion>, AllocError> {
-    let calls = all_called(alloc, pieces)?;
-    cyclic(alloc, calls.as_slice())
 }
 
 /// The calls that are part of a cycle, by who calls and then by who is called, where each function calls so many.

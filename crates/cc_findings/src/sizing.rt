@@ -1,19 +1,18 @@
 // What an image takes, with the names and places of its functions.
 
-ghost use Rattle.std.specs.Prelude.{◌≡◌, ◌+◌, ◌*◌, ◌<◌, IfOk, IfSome, OnOk};
+ghost use Rattle.std.specs.Prelude.{◌≡◌, ◌+◌, ◌*◌, ◌<◌, Some, slice_get, IfOk, IfSome, OnOk};
 ghost use Rattle.std.specs.List.{flat_map};
 ghost use Rattle.std.specs.Arc.{arc_value};
 ghost use Rattle.std.specs.Io.KnownBytes.{Appends};
 ghost use Rattle.cc_ast.specs.Source.{source};
 ghost use Rattle.cc_rv32.specs.Listing.{hexadecimal, hexadecimal_digit};
 ghost use Rattle.cc_answers.specs.Text.{line};
-ghost use Rattle.cc_findings.specs.Measured.{AreFunctions};
+ghost use Rattle.cc_types.specs.Typed.{defined_names};
+ghost use Rattle.cc_findings.specs.Measured.{AreCycles, AreFunctions};
 ghost use Rattle.cc_findings.specs.Written.{cycle_text, frame_text, function_size_text, measure_text, name_text, place_of_text, whole_size_text, words_of_text};
 
-use crate::recursion::recursions;
-use cc_emit::Piece;
 use cc_rv32::map::CODE_FROM;
-use cc_size::{FunctionSize, Sized, UnitSize};
+use cc_size::{FunctionSize, Recursion, Sized, UnitSize};
 use cc_types::TypedUnit;
 use std::alloc::{AllocError, Global};
 use std::io::{self, Write};
@@ -81,26 +80,28 @@ fn functions(
     Ok(functions)
 }
 
-// The name of a function; of a number that no function has nothing.
-fn name_of(alloc: Global, unit: &TypedUnit, function: usize) -> Result<Vec<u8>, AllocError> {
-    if function < unit.functions() {
-        Ok(Vec::from_slice(alloc, unit.function_name(function))?)
-    } else {
-        Ok(Vec::new(alloc))
+// The name of a function. Each function of a compiled unit has one.
+fn name_of(alloc: Global, unit: &TypedUnit, function: usize) -> Result<Vec<u8>, AllocError>
+    ensures { IfOk result (λ name. slice_get (defined_names (source unit.now)) function ≡ Some name.items) }
+{
+    if function >= unit.functions() {
+        return Err(AllocError);
     }
+    Vec::from_slice(alloc, unit.function_name(function))
 }
 
 // The calls that are part of a cycle, by names.
 fn cycles(
     alloc: Global,
     unit: &TypedUnit,
-    pieces: &[Piece],
-) -> Result<Vec<CyclicCall>, AllocError> {
-    let recursions = recursions(alloc, pieces)?;
-    let mut cycles = Vec::with_capacity(alloc, recursions.len())?;
-    for recursion in recursions.as_slice() {
-        let caller = name_of(alloc, unit, recursion.caller)?;
-        let called = name_of(alloc, unit, recursion.called)?;
+    calls: &[Recursion],
+) -> Result<Vec<CyclicCall>, AllocError>
+    ensures { IfOk result (λ cycles. AreCycles (source unit.now) calls.now cycles.items) }
+{
+    let mut cycles = Vec::with_capacity(alloc, calls.len())?;
+    for call in calls {
+        let caller = name_of(alloc, unit, call.caller)?;
+        let called = name_of(alloc, unit, call.called)?;
         cycles.push(CyclicCall { caller, called })?;
     }
     Ok(cycles)
@@ -110,10 +111,11 @@ fn cycles(
 pub fn measured(alloc: Global, sized: Sized) -> Result<Measure, AllocError>
     ensures sized { IfOk result (λ it. it.sized ≡ sized) }
     ensures functions { IfOk result (λ it. AreFunctions (source (arc_value sized.made.typed)) sized.size.functions.items it.functions.items) }
+    ensures cycles { IfOk result (λ it. AreCycles (source (arc_value sized.made.typed)) sized.size.recursions.items it.cycles.items) }
 {
     let unit: &TypedUnit = &sized.made.typed;
     let functions = functions(alloc, unit, sized.size.functions.as_slice())?;
-    let cycles = cycles(alloc, unit, sized.made.pieces.as_slice())?;
+    let cycles = cycles(alloc, unit, sized.size.recursions.as_slice())?;
     Ok(Measure {
         functions,
         sized,

@@ -1,3 +1,6 @@
--- What is said of commands, said of the disk that has their records (Past); what is put back (Moments).
+-- What holds for commands holds for the disk that has their records.
 pub mod Past
+-- What is put back.
 pub mod Moments
+-- One more command in the log.
+pub mod Logged

@@ -1,3 +1,5 @@
+-- cycles of calls
+pub mod Cycles
 -- what the functions of a unit take, and its image
 pub mod Size
 -- that so much is enough

@@ -7,6 +7,7 @@ use Rattle.cc_emit.specs.Contract.{most_open}
 use Rattle.cc_emit.specs.Piece.{Piece}
 use Rattle.cc_link.specs.Linked.{ordered, all_items}
 use Rattle.cc_link.specs.Stack.{need, stack_of}
+use Rattle.cc_size.specs.Cycles.{AreCyclic}
 use Rattle.cc_size.specs.declared.size.FunctionSize.{FunctionSize}
 use Rattle.cc_size.specs.declared.size.UnitSize.{UnitSize}
 
@@ -35,10 +36,11 @@ abbrev pub sizes_of : List Piece → List FunctionSize
 sizes_of ps = sizes_from ps 0 ps
 
 -- What a unit takes that these pieces make: each of its functions, in the order of definitions; the words of its code and the bytes of its
--- globals; how many calls are open at most, main's counted, and how many bytes of stack that takes.
+-- globals; which calls are part of cycles; how many calls are open at most, main's counted, and how many bytes of stack that takes.
 pub record IsSize (unit : List External) (pieces : List Piece) (image : Image) (s : UnitSize) : Type 0 where
   pub functions : s.functions.items ≡ sizes_of (ordered unit pieces)
   pub code : s.code ≡ length image.code
   pub globals : s.globals ≡ 4 * length image.globals
+  pub recursions : AreCyclic (all_items (ordered unit pieces)) s.recursions.items
   pub calls : s.calls ≡ calls_at (ordered unit pieces) (main_of unit)
   pub stack : s.stack ≡ stack_of unit pieces

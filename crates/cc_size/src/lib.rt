@@ -3,8 +3,10 @@
 
 mod measuring;
 mod needs;
+mod recursion;
 mod size;
 mod tables;
 
 pub use measuring::{size_along_in, size_in};
+pub use recursion::Recursion;
 pub use size::{FunctionSize, Sized, UnitSize};

@@ -10,6 +10,7 @@ ghost use Rattle.cc_size.specs.Size.{IsSize};
 ghost use Rattle.cc_size.specs.Sized.{IsSizedIn};
 
 use crate::needs::needs;
+use crate::recursion::recursions;
 use crate::size::{Sized, UnitSize};
 use crate::tables::{entry, frames, ones, sizes};
 use cc_emit::Piece;
@@ -58,10 +59,12 @@ fn measured(
         stacks.as_slice(),
         calls.as_slice(),
     )?;
+    let recursions = recursions(alloc, ordered.as_slice())?;
     Ok(UnitSize {
         functions,
         code: image.code.words().len(),
         globals: 4 * image.globals.words().len(),
+        recursions,
         calls: entry(calls.as_slice(), main),
         stack: entry(stacks.as_slice(), main),
     })
@@ -109,7 +112,7 @@ pub fn size_in(alloc: Global, mode: Mode, text: &[u8]) -> Result<Sized, BuildFau
     }
 }
 
-/// The same of the unit of these three parts, made again along its certificate; none where `audit_in` does not confirm it. It fails only where
+/// The same of the unit of these three parts, made again along its certificate; none if `audit_in` does not confirm it. It fails only if
 /// memory ran out.
 pub fn size_along_in(
     alloc: Global,

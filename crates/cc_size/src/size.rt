@@ -1,5 +1,6 @@
 // What functions and units take.
 
+use crate::recursion::Recursion;
 use cc_link::Compilation;
 
 /// What one function takes.
@@ -24,6 +25,8 @@ pub struct UnitSize {
     pub code: usize,
     /// The bytes of its globals.
     pub globals: usize,
+    /// The calls that are part of a cycle of calls.
+    pub recursions: Vec<Recursion>,
     /// How many calls are open at most, that of main counted.
     pub calls: u32,
     /// The bytes of stack that are enough for it.

@@ -16,7 +16,7 @@ shown code a = record { head = a.head.items; rest = drop a.taken code }
 abbrev pub with_before : List Step → Early → Early
 with_before steps e = record { head = steps ++ e.head; rest = e.rest }
 
--- of steps that begin with a test, or with what is no light step
+-- for steps that begin with a test, or with a step that is not light
 abbrev pub early_test : (all : List Step) → List Step → Option Early
 early_test all [] = None
 early_test all (step ∷ steps) = early_by all (fork_of step) steps

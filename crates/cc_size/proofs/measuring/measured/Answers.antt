@@ -1,5 +1,5 @@
 -- The pieces in the order of definitions, and what the tables over them have of main.
-use Rattle.std.proofs.Common.{◌≡◌, ℕ, List, length, get_or, ◌*◌, ap, ◌∙◌}
+use Rattle.std.proofs.Common.{◌≡◌, ℕ, List, length, get_or, ◌*◌, ap, ◌∙◌, subst}
 use Rattle.std.specs.Borrow.{Bor}
 use Rattle.cc_ast.specs.Source.{source}
 use Rattle.cc_ast.specs.Tree.{External}
@@ -8,6 +8,7 @@ use Rattle.cc_emit.specs.Piece.{Piece}
 use Rattle.cc_link.specs.Linked.{all_items, lent_pieces, in_order, ordered}
 use Rattle.cc_link.specs.Stack.{need}
 use Rattle.cc_link.proofs.Deciding.{defined_long}
+use Rattle.cc_size.specs.Cycles.{AreCyclic}
 use Rattle.cc_size.specs.Size.{frames_of, ones_of, sizes_of, calls_at}
 use Rattle.cc_size.proofs.measuring.measured.Goals as goal
 
@@ -26,13 +27,14 @@ returns c =
       functions = c.in_ok-functions.ensures ∙ ap (λ (l : List Piece). sizes_of l) (at c.as_slice-7.result.now c.as_slice-7.ensures.value);
       code = ap (λ (l : List ℕ). length l) c.words.ensures.words;
       globals = ap (λ (l : List ℕ). 4 * length l) c.words-2.ensures.words;
+      recursions = subst (λ (l : List Piece). AreCyclic (all_items l) c.in_ok-recursions.recursions.items) (at c.as_slice-10.result.now c.as_slice-10.ensures.value) c.in_ok-recursions.ensures;
       calls =
-          c.entry.ensures ∙ ap (λ (l : List ℕ). get_or l main 0) c.as_slice-10.ensures.value ∙ c.in_ok-calls.ensures main
+          c.entry.ensures ∙ ap (λ (l : List ℕ). get_or l main 0) c.as_slice-11.ensures.value ∙ c.in_ok-calls.ensures main
           ∙ ap (λ (w : List ℕ). need w (all_items (lent_pieces c.as_slice-6.result.now)) 1024 main) ones
           ∙ ap (λ (l : List Piece). need (ones_of (ordered tree ps)) (all_items l) 1024 main) (at c.as_slice-6.result.now c.as_slice-6.ensures.value)
           ∙ ap (λ (m : ℕ). calls_at (ordered tree ps) m) is;
       stack =
-          c.entry-2.ensures ∙ ap (λ (l : List ℕ). get_or l main 0) c.as_slice-11.ensures.value ∙ c.in_ok-stacks.ensures main
+          c.entry-2.ensures ∙ ap (λ (l : List ℕ). get_or l main 0) c.as_slice-12.ensures.value ∙ c.in_ok-stacks.ensures main
           ∙ ap (λ (w : List ℕ). need w (all_items (lent_pieces c.as_slice-4.result.now)) 1024 main) frames
           ∙ ap (λ (l : List Piece). need (frames_of (ordered tree ps)) (all_items l) 1024 main) (at c.as_slice-4.result.now c.as_slice-4.ensures.value)
           ∙ ap (λ (m : ℕ). need (frames_of (ordered tree ps)) (all_items (ordered tree ps)) 1024 m) is;
